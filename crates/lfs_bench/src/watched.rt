@@ -125,7 +125,7 @@ impl<D: BlockDevice> BlockDevice for Watched<D> {
 
     ghost newest = { λ d. D.newest d.inner };
 
-    ghost obeyed = { λ d. D.obeyed d.inner };
+    ghost conforms = { λ d. D.conforms d.inner };
 
     fn geometry(&self) -> Geometry {
         self.inner.geometry()

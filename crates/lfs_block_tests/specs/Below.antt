@@ -2,7 +2,7 @@
 use Rattle.std.specs.Prelude.{ℕ, ◌≡◌, ◌<◌, All, false}
 use Rattle.lfs_device.specs.declared.geometry.Geometry.{Geometry}
 use Rattle.lfs_model.specs.Blocks.{Blocks}
-use Rattle.lfs_ctz.specs.Growing.{Growing, IsGrowing, blocks_of, is_held, kept_of}
+use Rattle.lfs_ctz.specs.Growing.{Growing, IsGrowing, blocks_of_list, is_held, kept_of}
 
 -- a list is on a disk, in blocks below one
 pub record IsBelow (disk : Blocks) (divided : Geometry) (list : Growing) (next : ℕ) : Type 0 where
@@ -12,5 +12,5 @@ pub record IsBelow (disk : Blocks) (divided : Geometry) (list : Growing) (next :
 
 -- all its blocks are its own, so that it can be ended
 pub record IsOwn (disk : Blocks) (list : Growing) : Type 0 where
-  pub own : blocks_of disk list ≡ kept_of disk list
+  pub own : blocks_of_list disk list ≡ kept_of disk list
   pub listed : is_held list ≡ false

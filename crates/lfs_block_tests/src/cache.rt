@@ -35,7 +35,7 @@ fn carry_out<D: BlockDevice>(
 }
 
 // What the last step answers where one read fails, how many reads there were, and the first byte of
-// each block that is at hand.
+// each cached block.
 fn played(
     alloc: Global,
     nth: u64,
@@ -70,7 +70,7 @@ const EIGHT: [Step; 9] = [
     Fill(0),
 ];
 
-// Block 0, at hand, becomes the most recent, so that block 1 is the one to go.
+// Block 0, cached, becomes the most recent, so that block 1 is the one to go.
 const NINE: [Step; 10] = [
     Fill(0),
     Fill(1),
@@ -101,7 +101,7 @@ const FAILED_AND_FILLED: [Step; 4] = [Fill(6), Fill(7), Fill(6), Fill(7)];
 
 #[test]
 fn blocks_are_kept(rt: HostRuntime) -> Result<(), Fail> {
-    for (nth, steps, answer, reads, at_hand) in [
+    for (nth, steps, answer, reads, cached_log) in [
         (0, TWICE.as_slice(), Ok(0), 1, [1].as_slice()),
         (0, &EIGHT, Ok(0), 8, &[1, 2, 3, 4, 5, 6, 7, 8]),
         (0, &NINE, Ok(0), 9, &[1, 3, 4, 5, 6, 7, 8, 9]),
@@ -116,7 +116,7 @@ fn blocks_are_kept(rt: HostRuntime) -> Result<(), Fail> {
         let found = played(rt.alloc(), nth, steps)?;
         assert_eq!(rt;
             (found.0, found.1, found.2.as_slice()),
-            (answer, reads, at_hand)
+            (answer, reads, cached_log)
         );
     }
     Ok(())

@@ -21,7 +21,7 @@ fn failing(alloc: Global, nth: u64) -> Result<(u64, Option<Error>), Error> {
 }
 
 #[test]
-fn each_failing_call_is_told(rt: HostRuntime) -> Result<(), Fail> {
+fn each_failing_call_is_reported(rt: HostRuntime) -> Result<(), Fail> {
     let (calls, error) = failing(rt.alloc(), 0)?;
     assert!(rt; error.is_none());
     for nth in 1..calls {

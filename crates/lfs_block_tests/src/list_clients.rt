@@ -1,7 +1,7 @@
 // Clients of contents in memory and of the fronts of lists.
 
 ghost use Rattle.std.specs.Prelude.{◌≡◌, ◌⊎◌, ◌≤◌, ◌<◌, ◌+◌, ◌^◌, true, false, take, length, IfErr, IfOk};
-ghost use Rattle.lfs_device.specs.Calls.{ReadsOnly, TellsFaults};
+ghost use Rattle.lfs_device.specs.Calls.{ReadsOnly, ReportsFaults};
 ghost use Rattle.lfs_model.specs.History.{reads};
 ghost use Rattle.lfs_model.specs.SkipLists.{IsList, blocks_for, bytes_of};
 ghost use Rattle.lfs_model.specs.Writers.{written_into as with_bytes};
@@ -70,7 +70,7 @@ pub fn read_front<D: BlockDevice>(
     requires within { keep ≤ size }
     ensures bytes { IfOk result (λ bytes. bytes.items ≡ take keep (bytes_of (D.blocks dev.old) (D.geometry dev.old).block_size head size)) }
     ensures device { ReadsOnly D.BlockDevice dev.old dev.new }
-    ensures faults { TellsFaults D.BlockDevice dev.old dev.new result }
+    ensures faults { ReportsFaults D.BlockDevice dev.old dev.new result }
     ensures errors { IfErr result (λ e. (e ≡ Error.Io) ⊎ (e ≡ Error.NoMemory)) }
 {
     let mut bytes = Vec::from_elem(alloc, 0u8, keep as usize)?;

@@ -11,10 +11,10 @@ use Rattle.lfs_model.specs.History.Call.{Read}
 abbrev pub read_whole : ℕ → Blocks → ℕ → Bool → Event
 read_whole block_size blocks block failed = event (Read block 0 block_size) blocks blocks failed
 
--- A fill of a block at hand makes no call of the device, and takes no memory. A fill of another block takes one read, unless
+-- A fill of a cached block makes no call of the device, and takes no memory. A fill of another block takes one read, unless
 -- there is no memory for its bytes.
 pub record ReadsWhereMissing {D : Type 0} (g : Ghosts D) (was : Option (List ℕ)) (b : ℕ) (old new : D) (result : Result (Unit {0}) Error) : Type 0 where
-  pub at_hand : IsSome was → IsOk result
+  pub cached_log : IsSome was → IsOk result
   pub no_call : IsSome was → new ≡ old
   pub read : was ≡ None → OnOk result (g.history new ≡ read_whole (g.geometry old).block_size (g.blocks old) b false ∷ g.history old)
   pub failed : IsErrOf result Io → g.history new ≡ read_whole (g.geometry old).block_size (g.blocks old) b true ∷ g.history old

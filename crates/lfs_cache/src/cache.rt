@@ -2,7 +2,7 @@ ghost use Rattle.std.specs.Prelude.{◌≡◌, ◌⊎◌, ◌<◌, ◌≤◌, �
 ghost use Rattle.std.specs.Bool.{OnFalse, OnTrue};
 ghost use Rattle.lfs_model.specs.Blocks.{block_in};
 ghost use Rattle.lfs_model.specs.Cache.{cache_limit, cached, put_first, without};
-ghost use Rattle.lfs_device.specs.Calls.{ReadsOnly, TellsFaults};
+ghost use Rattle.lfs_device.specs.Calls.{ReadsOnly, ReportsFaults};
 ghost use Rattle.lfs_cache.specs.Read.{ReadsWhereMissing};
 
 use lfs_device::{BlockDevice, Error, read_block};
@@ -46,9 +46,9 @@ impl Cache {
         Ok(Cache { alloc, recent })
     }
 
-    /// Makes `block` the most recent block of the cache. A block that isn't at hand is read whole,
+    /// Makes `block` the most recent block of the cache. A block that isn't cached is read whole,
     /// by one read of the device. The least recent block is dropped then, where there were eight. A
-    /// block at hand takes no call of the device and no memory. `block` is below the number of
+    /// cached block takes no call of the device and no memory. `block` is below the number of
     /// blocks.
     ///
     /// Errors: `Io` where the read fails, and `NoMemory` where memory for the block isn't granted.
@@ -61,7 +61,7 @@ impl Cache {
         ensures few { length self.new ≤ cache_limit }
         ensures calls { ReadsWhereMissing D.BlockDevice (cached self.old block) block device.old device.new result }
         ensures device { ReadsOnly D.BlockDevice device.old device.new }
-        ensures faults { TellsFaults D.BlockDevice device.old device.new result }
+        ensures faults { ReportsFaults D.BlockDevice device.old device.new result }
         ensures errors { IfErr result (λ e. (e ≡ Error.Io) ⊎ (e ≡ Error.NoMemory)) }
     {
         if self.promote(block) {
@@ -72,7 +72,7 @@ impl Cache {
         Ok(())
     }
 
-    /// Returns the bytes of a block, without a copy. Returns None where the block isn't at hand.
+    /// Returns the bytes of a block, without a copy. Returns None where the block isn't cached.
     /// The order of the blocks stays as it is.
     pub fn lend(&self, block: u32) -> Option<&[u8]>
         ensures { option_copied result ≡ cached self.now block }
@@ -102,9 +102,9 @@ impl Cache {
         self.take(block);
     }
 
-    // Makes a block that is at hand the most recent one. Returns whether the block is at hand.
+    // Makes a cached block the most recent one. Returns whether the block is cached.
     fn promote(&mut self, block: u32) -> bool
-        ensures at_hand { result ≡ is_some (cached self.old block) }
+        ensures cached_log { result ≡ is_some (cached self.old block) }
         ensures first { OnTrue result ((other : List ℕ) → self.new ≡ put_first self.old block (unwrap_or (cached self.old block) other)) }
         ensures same { OnFalse result (self.new ≡ self.old) }
         ensures few { length self.new ≤ cache_limit }
@@ -112,7 +112,7 @@ impl Cache {
         self.recent.promote(&block)
     }
 
-    // Adds a block that isn't at hand as the most recent one. The least recent block is dropped
+    // Adds a block that isn't cached as the most recent one. The least recent block is dropped
     // where there were eight.
     fn put(&mut self, block: u32, bytes: Vec<u8>) -> Result<(), Error>
         requires { cached self.old block ≡ None }

@@ -2,7 +2,7 @@
 use Rattle.std.proofs.Common.{ℕ, ◌≡◌, ◌≢◌, Bool, List, [], ◌∷◌, Result, Ok, Err, inl, inr, refl, sym, subst, ◌∙◌, arith}
 use Rattle.std.specs.Prelude.{All}
 use Rattle.lfs_ctz.specs.Calls.{ReadsList}
-use Rattle.lfs_device.specs.Calls.{ReadsOnly, ChangesBlock, ChangesOnly, TellsFaults}
+use Rattle.lfs_device.specs.Calls.{ReadsOnly, ChangesBlock, ChangesOnly, ReportsFaults}
 use Rattle.lfs_device.specs.declared.device.BlockDevice.{Ghosts}
 use Rattle.lfs_device.specs.declared.error.Error.{Error}
 use Rattle.lfs_model.specs.Blocks.{SameBut}
@@ -80,25 +80,25 @@ module _ {D : Type 0} (g : Ghosts D) where
   }
 
   -- a call that succeeds has no fault
-  pub quiet : {X : Type 0} {old new : D} {x : X} → TellsFaults g old new (Ok x) → faults (g.history new) ≡ faults (g.history old)
-  quiet told = told.no_fault (λ is. absurd (cc))
+  pub quiet : {X : Type 0} {old new : D} {x : X} → ReportsFaults g old new (Ok x) → faults (g.history new) ≡ faults (g.history old)
+  quiet reported = reported.no_fault (λ is. absurd (cc))
 
   -- after calls without a fault
-  pub told_on : {X : Type 0} {old mid new : D} {result : Result X Error} → faults (g.history mid) ≡ faults (g.history old) → TellsFaults g mid new result → TellsFaults g old new result
-  told_on none told = record {
-    fault = λ is. (let more = told.fault is in omega arith);
-    no_fault = λ other. told.no_fault other ∙ none;
+  pub reported_on : {X : Type 0} {old mid new : D} {result : Result X Error} → faults (g.history mid) ≡ faults (g.history old) → ReportsFaults g mid new result → ReportsFaults g old new result
+  reported_on none reported = record {
+    fault = λ is. (let more = reported.fault is in omega arith);
+    no_fault = λ other. reported.no_fault other ∙ none;
   }
 
   -- and neither has a list that isn't right
-  pub told_corrupt : {X : Type 0} {old new : D} → faults (g.history new) ≡ faults (g.history old) → TellsFaults {X = X} g old new (Err Error.Corrupt)
-  told_corrupt none = record { fault = λ is. absurd (cc); no_fault = λ other. none }
+  pub reported_corrupt : {X : Type 0} {old new : D} → faults (g.history new) ≡ faults (g.history old) → ReportsFaults {X = X} g old new (Err Error.Corrupt)
+  reported_corrupt none = record { fault = λ is. absurd (cc); no_fault = λ other. none }
 
   -- the same error of a call with another result
-  pub told_as : {X Y : Type 0} {old new : D} {e : Error} → TellsFaults {X = X} g old new (Err e) → TellsFaults {X = Y} g old new (Err e)
-  told_as {X} {Y} {e = e} told = record {
-    fault = λ is. told.fault (again is);
-    no_fault = λ other. told.no_fault (λ is. other (back is));
+  pub reported_as : {X Y : Type 0} {old new : D} {e : Error} → ReportsFaults {X = X} g old new (Err e) → ReportsFaults {X = Y} g old new (Err e)
+  reported_as {X} {Y} {e = e} reported = record {
+    fault = λ is. reported.fault (again is);
+    no_fault = λ other. reported.no_fault (λ is. other (back is));
   }
     where
       again : {f : Error} → ◌≡◌ {A = Result Y Error} (Err e) (Err f) → ◌≡◌ {A = Result X Error} (Err e) (Err f)
@@ -109,19 +109,19 @@ module _ {D : Type 0} (g : Ghosts D) where
 
   -- after reads without a fault a list is read
   pub list_on : {X : Type 0} {old mid new : D} {result : Result X Error} → ReadsOnly g old mid → faults (g.history mid) ≡ faults (g.history old) → ReadsList g mid new result → ReadsList g old new result
-  list_on read none told = record { device = read_on read told.device; faults = told_on none told.faults; errors = told.errors }
+  list_on read none reported = record { device = read_on read reported.device; faults = reported_on none reported.faults; errors = reported.errors }
 
   -- the same error of a reading with another result
   pub list_as : {X Y : Type 0} {old new : D} {e : Error} → ReadsList {X = X} g old new (Err e) → ReadsList {X = Y} g old new (Err e)
-  list_as told = record { device = told.device; faults = told_as told.faults; errors = told.errors }
+  list_as reported = record { device = reported.device; faults = reported_as reported.faults; errors = reported.errors }
 
   -- a part of a list wasn't read
-  pub list_io : {X Y : Type 0} {old new : D} {e : Error} → ReadsOnly g old new → TellsFaults {X = X} g old new (Err e) → e ≡ Error.Io → ReadsList {X = Y} g old new (Err e)
-  list_io read told is = record { device = read; faults = told_as told; errors = inl is }
+  pub list_io : {X Y : Type 0} {old new : D} {e : Error} → ReadsOnly g old new → ReportsFaults {X = X} g old new (Err e) → e ≡ Error.Io → ReadsList {X = Y} g old new (Err e)
+  list_io read reported is = record { device = read; faults = reported_as reported; errors = inl is }
 
   -- a list was read and isn't right
   pub list_corrupt : {X : Type 0} {old new : D} → ReadsOnly g old new → faults (g.history new) ≡ faults (g.history old) → ReadsList {X = X} g old new (Err Error.Corrupt)
-  list_corrupt read none = record { device = read; faults = told_corrupt none; errors = inr refl }
+  list_corrupt read none = record { device = read; faults = reported_corrupt none; errors = inr refl }
 
   -- a list was read
   pub list_ok : {X : Type 0} {old new : D} {x : X} → ReadsOnly g old new → faults (g.history new) ≡ faults (g.history old) → ReadsList g old new (Ok x)

@@ -100,7 +100,7 @@ module _ (d : Blocks) (block_size count head size : ℕ) (large : 1024 ≤ block
         omega (arith, e, lt, shape.count)
 
 -- a turn: a part comes to the front of what the buffer holds
-pub record IsTurn (d : Blocks) (block_size count size pos len left n i off block : ℕ) (buf new : List ℕ) : Type 0 where
+pub record IsReadPass (d : Blocks) (block_size count size pos len left n i off block : ℕ) (buf new : List ℕ) : Type 0 where
   pub large : 1024 ≤ block_size
   pub shape : IsDivided block_size count d
   pub part : IsPart block_size pos left n i off
@@ -111,7 +111,7 @@ pub record IsTurn (d : Blocks) (block_size count size pos len left n i off block
   pub in_range : block < count
   pub is : new ≡ filled buf (left - n) n (off + 1 - n) (block_in d block)
 
-module _ {d : Blocks} {block_size count size pos len left n i off block : ℕ} {buf new : List ℕ} (turn : IsTurn d block_size count size pos len left n i off block buf new) where
+module _ {d : Blocks} {block_size count size pos len left n i off block : ℕ} {buf new : List ℕ} (turn : IsReadPass d block_size count size pos len left n i off block buf new) where
   pub turn_fits : (1 ≤ n) × (n ≤ off + 1) × (off + 1 ≤ block_size)
   turn_fits = part_fits d block_size count 0 size turn.large turn.shape pos len left n i off block turn.part turn.some turn.le turn.within
 

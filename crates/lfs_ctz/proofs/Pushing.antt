@@ -12,7 +12,7 @@ use Rattle.lfs_model.proofs.Histories.{StayUnprogrammed-trans, StayUnprogrammed-
 use Rattle.lfs_model.specs.SkipLists.{capacity_of, blocks_back, blocks_for}
 use Rattle.lfs_ctz.specs.declared.rest.Rest.{Rest}
 use Rattle.lfs_ctz.specs.declared.rest.Rest.TheVariants.{Closed, Shared, Handed, Held}
-use Rattle.lfs_ctz.specs.Growing.{Growing, pending_in, last_in, is_held, is_held_in, pending_of, kept_of, blocks_of, size_of, next_of, IsRest, IsGrowing}
+use Rattle.lfs_ctz.specs.Growing.{Growing, pending_in, last_in, is_held, is_held_in, pending_of, kept_of, blocks_of_list, size_of, next_of, IsRest, IsGrowing}
 use Rattle.lfs_ctz.proofs.Sizes.{blocks_for-above, blocks_for-within}
 use Rattle.lfs_ctz.proofs.Chains.{length_back}
 
@@ -112,7 +112,7 @@ still_some d e block_size was now blocks used done total large le is count sum l
     omega (arith, counted, more, count, ap length none)
 
 -- at the end all are used
-size_fits : (d : Blocks) (block_size : ℕ) (g : Growing) → 1024 ≤ block_size → IsGrowing d g → length g.rest < capacity_of block_size g.full → blocks_of d g ≡ kept_of d g → is_held g ≡ false
+size_fits : (d : Blocks) (block_size : ℕ) (g : Growing) → 1024 ≤ block_size → IsGrowing d g → length g.rest < capacity_of block_size g.full → blocks_of_list d g ≡ kept_of d g → is_held g ≡ false
     → blocks_for block_size (size_of block_size g) ≤ g.full + length (pending_of g)
 size_fits d block_size g large held short own listed = go g.stand held.stand listed own
   where
@@ -125,7 +125,7 @@ size_fits d block_size g large held short own listed = go g.stand held.stand lis
     go Held none out e = absurd (cc)
 
 pub all_used : (d e : Blocks) (block_size : ℕ) (was now : Growing) (blocks : List ℕ) (used total : ℕ) → 1024 ≤ block_size → used ≤ length blocks → kept_of e now ≡ kept_of d was ++ take used blocks
-    → length blocks ≡ blocks_for block_size (size_of block_size was + total) - (was.full + length (pending_of was)) → size_of block_size now ≡ size_of block_size was + total → IsGrowing e now → length now.rest < capacity_of block_size now.full → blocks_of e now ≡ kept_of e now
+    → length blocks ≡ blocks_for block_size (size_of block_size was + total) - (was.full + length (pending_of was)) → size_of block_size now ≡ size_of block_size was + total → IsGrowing e now → length now.rest < capacity_of block_size now.full → blocks_of_list e now ≡ kept_of e now
     → is_held now ≡ false → length blocks ≤ used
 all_used d e block_size was now blocks used total large le is count sum held short own listed =
     let counted = kept_count d e was now blocks used le is in

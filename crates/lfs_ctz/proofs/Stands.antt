@@ -11,7 +11,7 @@ use Rattle.lfs_ctz.specs.declared.rest.Rest.{Rest}
 use Rattle.lfs_ctz.specs.declared.rest.Rest.TheVariants.{Closed, Shared, Handed, Held}
 use Rattle.lfs_ctz.specs.Extended.{IsGrown}
 use Rattle.lfs_ctz.specs.Extending.{IsHolding}
-use Rattle.lfs_ctz.specs.Growing.{Growing, IsGrowing, IsHeld, IsRest, IsShort, IsStill, blocks_of, content_of, is_held_in, joined, kept_of, last_in, pending_in, size_of}
+use Rattle.lfs_ctz.specs.Growing.{Growing, IsGrowing, IsHeld, IsRest, IsShort, IsStill, blocks_of_list, content_of, is_held_in, joined, kept_of, last_in, pending_in, size_of}
 use Rattle.lfs_ctz.proofs.Filling.{length-full, none_chain}
 
 module _ (d later : Blocks) (count : length later ≡ length d) where
@@ -38,9 +38,9 @@ module _ (d later : Blocks) (count : length later ≡ length d) where
       }
   rest_same full head rest Held same is = is
 
-  pub still : (g : Growing) → All IsSame (blocks_of d g) → IsGrowing d g → IsStill d later g
+  pub still : (g : Growing) → All IsSame (blocks_of_list d g) → IsGrowing d g → IsStill d later g
   still g same is =
-      let each : Same d later (blocks_back d g.full g.head ++ last_in g.stand) = recursion_from_All IsSame (blocks_of d g) same in
+      let each : Same d later (blocks_back d g.full g.head ++ last_in g.stand) = recursion_from_All IsSame (blocks_of_list d g) same in
       let front = each_left IsSame (blocks_back d g.full g.head) (last_in g.stand) each in
       let back = back_same d later g.full g.head front in
       record {
@@ -52,7 +52,7 @@ module _ (d later : Blocks) (count : length later ≡ length d) where
 
 -- what a list shows, from what doesn't follow
 pub is_grown : (divided : Geometry) (d : Blocks) (e : Growing) (bytes : List ℕ) (size count : ℕ) (own all : List ℕ) → IsDivided divided.block_size count d → e.geometry ≡ divided
-    → IsShort e.geometry.block_size e → IsGrowing d e → content_of d e ≡ bytes → size_of divided.block_size e ≡ size → kept_of d e ≡ own → blocks_of d e ≡ all
+    → IsShort e.geometry.block_size e → IsGrowing d e → content_of d e ≡ bytes → size_of divided.block_size e ≡ size → kept_of d e ≡ own → blocks_of_list d e ≡ all
     → IsGrown divided d e bytes size own all
 is_grown divided d e bytes size count own all shape geometry short growing content sum kept blocks =
     let full = length-full d divided.block_size count e.full e.head divided.valid.no_smaller shape growing.chain in
@@ -79,7 +79,7 @@ module _ (divided : Geometry) (e : Growing) (bytes : List ℕ) (size : ℕ) (geo
   nothing : (d : Blocks) → blocks_back d e.full e.head ≡ []
   nothing d = ap (λ k. blocks_back d k e.head) none
 
-  alone : (d : Blocks) → IsGrowing d e → kept_of d e ≡ [] → blocks_of d e ≡ [] → IsGrown divided d e bytes size [] []
+  alone : (d : Blocks) → IsGrowing d e → kept_of d e ≡ [] → blocks_of_list d e ≡ [] → IsGrown divided d e bytes size [] []
   alone d growing kept blocks = record {
     geometry = geometry;
     growing = growing;

@@ -1,6 +1,6 @@
 -- What a call says of the device that it is given.
 use Rattle.std.specs.Prelude.{◌≡◌, ◌⊎◌, Result, IfErr}
-use Rattle.lfs_device.specs.Calls.{ReadsOnly, TellsFaults}
+use Rattle.lfs_device.specs.Calls.{ReadsOnly, ReportsFaults}
 use Rattle.lfs_device.specs.declared.device.BlockDevice.{Ghosts}
 use Rattle.lfs_device.specs.declared.error.Error.{Error}
 use Rattle.lfs_device.specs.declared.error.Error.TheVariants.{Corrupt, Io, NoMemory}
@@ -8,15 +8,15 @@ use Rattle.lfs_device.specs.declared.error.Error.TheVariants.{Corrupt, Io, NoMem
 -- The device was only read; `Io` comes with a fault of it, any other answer without one, and no error but `Corrupt` beside it.
 pub record ReadsList {D X : Type 0} (g : Ghosts D) (old new : D) (result : Result X Error) : Type 0 where
   pub device : ReadsOnly g old new
-  pub faults : TellsFaults g old new result
+  pub faults : ReportsFaults g old new result
   pub errors : IfErr result (λ e. (e ≡ Io) ⊎ (e ≡ Corrupt))
 
 -- `Io` comes with a fault of the device, success without one, and no other error comes.
-pub record TellsIo {D X : Type 0} (g : Ghosts D) (old new : D) (result : Result X Error) : Type 0 where
-  pub faults : TellsFaults g old new result
+pub record ReportsIo {D X : Type 0} (g : Ghosts D) (old new : D) (result : Result X Error) : Type 0 where
+  pub faults : ReportsFaults g old new result
   pub errors : IfErr result (λ e. e ≡ Io)
 
 -- the same of a call that takes memory: `NoMemory` comes without a fault
-pub record TellsMemory {D X : Type 0} (g : Ghosts D) (old new : D) (result : Result X Error) : Type 0 where
-  pub faults : TellsFaults g old new result
+pub record ReportsMemory {D X : Type 0} (g : Ghosts D) (old new : D) (result : Result X Error) : Type 0 where
+  pub faults : ReportsFaults g old new result
   pub errors : IfErr result (λ e. (e ≡ Io) ⊎ (e ≡ NoMemory))

@@ -49,8 +49,8 @@ abbrev pub kept_of : Blocks → Growing → List ℕ
 kept_of disk g = blocks_back disk g.full g.head ++ pending_of g
 
 -- the blocks of the list as it is
-abbrev pub blocks_of : Blocks → Growing → List ℕ
-blocks_of disk g = blocks_back disk g.full g.head ++ last_in g.stand
+abbrev pub blocks_of_list : Blocks → Growing → List ℕ
+blocks_of_list disk g = blocks_back disk g.full g.head ++ last_in g.stand
 
 abbrev pub joined : Blocks → List ℕ → List ℕ
 joined disk bs = flat_map (data_of disk) (enumerate_from 0 bs)
@@ -110,7 +110,7 @@ pub record IsStill (disk later : Blocks) (g : Growing) : Type 0 where
   pub growing : IsGrowing later g
   pub content : content_of later g ≡ content_of disk g
   pub kept : kept_of later g ≡ kept_of disk g
-  pub blocks : blocks_of later g ≡ blocks_of disk g
+  pub blocks : blocks_of_list later g ≡ blocks_of_list disk g
 
 -- all bytes are in memory, and none in a block
 pub record IsHeld (g : Growing) : Type 0 where

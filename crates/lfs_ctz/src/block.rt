@@ -1,10 +1,10 @@
 ghost use Rattle.std.specs.Prelude.{[], ◌∷◌, ◌≡◌, ◌≢◌, ◌≤◌, ◌<◌, ◌+◌, ◌-◌, ◌*◌, ◌%◌, ◌^◌, ◌++◌, ◌⊎◌, ℕ, All, length, take, drop, OnOk, IfErr, IsErrOf, slice_index};
 ghost use Rattle.byteorder.specs.Endian.{little_bytes};
 ghost use Rattle.lfs_ctz.specs.Appended.{IsAppended};
-ghost use Rattle.lfs_ctz.specs.Calls.{TellsIo};
+ghost use Rattle.lfs_ctz.specs.Calls.{ReportsIo};
 ghost use Rattle.lfs_ctz.specs.Counts.{Writes};
 ghost use Rattle.lfs_ctz.specs.Extending.{CanFollow};
-ghost use Rattle.lfs_device.specs.Calls.{ChangesBlock, ReadsOnly, TellsFaults};
+ghost use Rattle.lfs_device.specs.Calls.{ChangesBlock, ReadsOnly, ReportsFaults};
 ghost use Rattle.lfs_model.specs.Blocks.{block_in};
 ghost use Rattle.lfs_model.specs.SkipLists.{AreListBlocks, blocks_back, pointers_of, word_at};
 
@@ -33,7 +33,7 @@ fn put_pointers<D: BlockDevice>(
     ensures pointers { OnOk result ((k : ℕ) → k < pointers_of index → word_at buf.new (4 * k) ≡ slice_index (blocks_back (D.blocks dev.old) index head) (index - 2 ^ k)) }
     ensures rest { drop (4 * pointers_of index) buf.new ≡ drop (4 * pointers_of index) buf.old }
     ensures device { ReadsOnly D.BlockDevice dev.old dev.new }
-    ensures faults { TellsFaults D.BlockDevice dev.old dev.new result }
+    ensures faults { ReportsFaults D.BlockDevice dev.old dev.new result }
     ensures errors { IfErr result (λ e. e ≡ Error.Io) }
 {
     if index == 0 {
@@ -69,7 +69,7 @@ pub(crate) fn write_block<D: BlockDevice>(
         ≡ take (end - 4 * pointers_of index) (drop (4 * pointers_of index) buf.old)) }
     ensures writes { OnOk result (Writes 0 1 (D.history dev.old) (D.history dev.new)) }
     ensures device { ChangesBlock D.BlockDevice block dev.old dev.new }
-    ensures io { TellsIo D.BlockDevice dev.old dev.new result }
+    ensures io { ReportsIo D.BlockDevice dev.old dev.new result }
 {
     put_pointers(dev, head, index, buf)?;
     dev.erase(block)?;

@@ -1,11 +1,11 @@
 ghost use Rattle.std.specs.Prelude.{◌≡◌, ◌≤◌, ◌<◌, ◌+◌, ◌-◌, ◌*◌, ◌^◌, ◌++◌, ◌∷◌, [], length, take, drop, replicate, OnOk, IfOk, IfErr};
 ghost use Rattle.lfs_ctz.specs.Appended.{IsAppended};
-ghost use Rattle.lfs_ctz.specs.Calls.{TellsIo, TellsMemory};
+ghost use Rattle.lfs_ctz.specs.Calls.{ReportsIo, ReportsMemory};
 ghost use Rattle.lfs_ctz.specs.Counts.{Writes};
 ghost use Rattle.lfs_ctz.specs.Extended.{IsGrown};
 ghost use Rattle.lfs_ctz.specs.Extending.{CanEnd, CanFollow, CanPush, CanResume, IsHolding, IsPushed, IsResumed, IsStarted};
 ghost use Rattle.lfs_ctz.specs.Finished.{IsEnd};
-ghost use Rattle.lfs_ctz.specs.Growing.{IsHeld, WaitsIn, blocks_of, content_of, end_of, needed_of, next_of, pending_of};
+ghost use Rattle.lfs_ctz.specs.Growing.{IsHeld, WaitsIn, blocks_of_list, content_of, end_of, needed_of, next_of, pending_of};
 ghost use Rattle.lfs_device.specs.Calls.{ChangesBlock, ChangesOnly, ReadsOnly};
 ghost use Rattle.lfs_model.specs.Blocks.{block_in, overwritten};
 ghost use Rattle.lfs_model.specs.Writers.{written_into as with_bytes};
@@ -98,7 +98,7 @@ impl Extender {
         requires { CanResume (D.blocks dev.old) (D.geometry dev.old).block_size head size keep }
         ensures resumed { IfOk result (IsResumed (D.blocks dev.old) (D.geometry dev.old) head size keep) }
         ensures device { ReadsOnly D.BlockDevice dev.old dev.new }
-        ensures tells { TellsMemory D.BlockDevice dev.old dev.new result }
+        ensures reports { ReportsMemory D.BlockDevice dev.old dev.new result }
     {
         let geometry = dev.geometry();
         let block_size = geometry.block_size;
@@ -242,7 +242,7 @@ impl Extender {
         ensures waits { OnOk result (WaitsIn (block ∷ []) self.new) }
         ensures writes { OnOk result (Writes self.old.full self.new.full (D.history dev.old) (D.history dev.new)) }
         ensures device { ChangesBlock D.BlockDevice block dev.old dev.new }
-        ensures io { TellsIo D.BlockDevice dev.old dev.new result }
+        ensures io { ReportsIo D.BlockDevice dev.old dev.new result }
     {
         let block_size = self.geometry.block_size;
         let start = self.filled as usize;
@@ -282,7 +282,7 @@ impl Extender {
         // A block that fills is erased once and programmed once.
         ensures writes { OnOk result (Writes self.old.full self.new.full (D.history dev.old) (D.history dev.new)) }
         ensures device { ChangesOnly D.BlockDevice (pending_of self.old ++ blocks.now) dev.old dev.new }
-        ensures io { TellsIo D.BlockDevice dev.old dev.new result }
+        ensures io { ReportsIo D.BlockDevice dev.old dev.new result }
     {
         let mut done = 0;
         let mut used = 0;
@@ -302,7 +302,7 @@ impl Extender {
         ensures bytes { OnOk result (take (length self.old.rest) (drop (4 * pointers_of self.old.full) (block_in (D.blocks dev.new) block)) ≡ self.old.rest) }
         ensures writes { OnOk result (Writes 0 1 (D.history dev.old) (D.history dev.new)) }
         ensures device { ChangesBlock D.BlockDevice block dev.old dev.new }
-        ensures io { TellsIo D.BlockDevice dev.old dev.new result }
+        ensures io { ReportsIo D.BlockDevice dev.old dev.new result }
     {
         let end = self.filled.next_multiple_of(self.geometry.page);
         pad(&mut self.buffer, self.filled as usize, end as usize, 0xff);
@@ -319,12 +319,12 @@ impl Extender {
     /// failed.
     pub fn finish<D: BlockDevice>(mut self, dev: &mut D) -> Result<(u32, u32), Error>
         requires { CanEnd D.BlockDevice dev.old self }
-        ensures finished { IfOk result (λ r. IsEnd (D.blocks dev.new) self.geometry.block_size r.0 r.1 (content_of (D.blocks dev.old) self) (blocks_of (D.blocks dev.old) self)) }
+        ensures finished { IfOk result (λ r. IsEnd (D.blocks dev.new) self.geometry.block_size r.0 r.1 (content_of (D.blocks dev.old) self) (blocks_of_list (D.blocks dev.old) self)) }
         ensures size { IfOk result (λ r. r.1 ≡ end_of self) }
         ensures no_call { pending_of self ≡ [] → (D.history dev.new ≡ D.history dev.old) × (D.blocks dev.new ≡ D.blocks dev.old) }
         ensures writes { OnOk result (Writes 0 (length (pending_of self)) (D.history dev.old) (D.history dev.new)) }
         ensures device { ChangesOnly D.BlockDevice (pending_of self) dev.old dev.new }
-        ensures io { TellsIo D.BlockDevice dev.old dev.new result }
+        ensures io { ReportsIo D.BlockDevice dev.old dev.new result }
     {
         let size = self.size;
         match self.stand {

@@ -1,6 +1,6 @@
 ghost use Rattle.std.specs.Prelude.{◌≡◌, ◌≤◌, ◌<◌, ◌+◌, ◌*◌, ◌^◌, ℕ, ◌-◌, ◌++◌, min, length, take, drop, OnOk, IfOk, IfErr, IsErrOf, slice_index, slice_range};
 ghost use Rattle.lfs_model.specs.Blocks.{block_in};
-ghost use Rattle.lfs_device.specs.Calls.{ReadsOnly, TellsFaults};
+ghost use Rattle.lfs_device.specs.Calls.{ReadsOnly, ReportsFaults};
 ghost use Rattle.lfs_model.specs.History.{reads};
 ghost use Rattle.lfs_ctz.specs.Calls.{ReadsList};
 ghost use Rattle.lfs_model.specs.SkipLists.{AreListBlocks, IsList, IsBytePlace, blocks_back, blocks_for, bytes_of, pointers_of, word_at};
@@ -114,7 +114,7 @@ pub(crate) fn read_part<D: BlockDevice>(
     requires in_buffer { start + len ≤ length buf.old }
     ensures bytes { OnOk result (buf.new ≡ take start buf.old ++ (take len (drop off (block_in (D.blocks dev.old) block)) ++ drop (start + len) buf.old)) }
     ensures device { ReadsOnly D.BlockDevice dev.old dev.new }
-    ensures faults { TellsFaults D.BlockDevice dev.old dev.new result }
+    ensures faults { ReportsFaults D.BlockDevice dev.old dev.new result }
     ensures errors { IfErr result (λ e. e ≡ Error.Io) }
     ensures few { reads (D.history dev.new) ≡ reads (D.history dev.old) + 1 }
 {

@@ -2,7 +2,7 @@
 
 ghost use Rattle.std.specs.Prelude.{◌≡◌, ◌≤◌, ◌<◌, ◌+◌, ◌*◌, ◌↔◌, length, OnOk, IfOk, IfErr, IsErrOf, IsTrue, slice_index};
 ghost use Rattle.lfs_model.specs.Blocks.{block_in};
-ghost use Rattle.lfs_device.specs.Calls.{ReadsOnly, TellsFaults};
+ghost use Rattle.lfs_device.specs.Calls.{ReadsOnly, ReportsFaults};
 ghost use Rattle.lfs_model.specs.History.{reads};
 ghost use Rattle.lfs_model.specs.SkipLists.{AreListBlocks, blocks_back, word_at};
 ghost use Rattle.lfs_ctz.specs.Calls.{ReadsList};
@@ -99,7 +99,7 @@ pub(crate) fn note<D: BlockDevice>(
     requires way { HasPointers (D.blocks dev.old) last 0 way.now }
     ensures noted { OnOk result (IsNoted (D.blocks dev.old) block index words.old words.new) }
     ensures device { ReadsOnly D.BlockDevice dev.old dev.new }
-    ensures faults { TellsFaults D.BlockDevice dev.old dev.new result }
+    ensures faults { ReportsFaults D.BlockDevice dev.old dev.new result }
     ensures errors { IfErr result (λ e. e ≡ Error.Io) }
     ensures reads { ReadsBeside way.now last index block (D.history dev.old) (D.history dev.new) }
 {

@@ -9,7 +9,7 @@ use Rattle.lfs_device.specs.declared.fault.Fault.{Fault}
 use Rattle.lfs_model.specs.Blocks.{Blocks}
 use Rattle.lfs_model.specs.History.{Call, Read, Program, Erase, Event, event, faults, unprogrammed, unprogrammed_after}
 use Rattle.lfs_device.specs.Fault.{counts, is_turn, has_stopped, is_due, due, due_failed, undue_faults}
-use Rattle.lfs_device.specs.Carried.{CarriedOut}
+use Rattle.lfs_device.specs.CallsBelow.{IsCallBelow}
 
 -- the two ways to say that a call is to fail
 is_due-is_some : (fault : Fault) (call : Call) (older : List Event) → is_due fault.which fault.nth fault.stops call older ≡ is_some (due fault call older)
@@ -20,14 +20,14 @@ is_due-is_some fault call older = either (is_turn (counts fault.which call) faul
     either false true = refl
     either false false = refl
 
-fails_if_due : {D : Type 0} (g : Ghosts D) (o : Option Extent) (call : Call) (failed : Bool) (old new : D) → CarriedOut g o call failed old new → is_some o ≡ true → failed ≡ true
+fails_if_due : {D : Type 0} (g : Ghosts D) (o : Option Extent) (call : Call) (failed : Bool) (old new : D) → IsCallBelow g o call failed old new → is_some o ≡ true → failed ≡ true
 fails_if_due g None call failed old new carried is = absurd (cc)
 fails_if_due g (Some Nothing) call failed old new carried is = carried.0
 fails_if_due g (Some (FirstBytes k)) call failed old new carried is = carried.0
 fails_if_due g (Some Whole) call failed old new carried is = carried.0
 
 pub due_failed-call : {D : Type 0} {call : Call} {failed : Bool} {before after : Blocks} {older later : List Event} (g : Ghosts D) (fault : Fault) (old new : D)
-    → CarriedOut g (due fault call older) call failed old new → later ≡ event call before after failed ∷ older
+    → IsCallBelow g (due fault call older) call failed old new → later ≡ event call before after failed ∷ older
     → due_failed fault.which fault.nth fault.stops older ≡ true → due_failed fault.which fault.nth fault.stops later ≡ true
 due_failed-call {call = call} {failed = failed} {older = older} g fault old new carried is so_far =
     ap (due_failed fault.which fault.nth fault.stops) is
@@ -40,7 +40,7 @@ due_failed-call {call = call} {failed = failed} {older = older} g fault old new 
     here false failed of = refl
 
 -- how many faults a call adds that wasn't to fail
-adds_undue : {D : Type 0} (g : Ghosts D) (o : Option Extent) (call : Call) (failed : Bool) (old new : D) → CarriedOut g o call failed old new
+adds_undue : {D : Type 0} (g : Ghosts D) (o : Option Extent) (call : Call) (failed : Bool) (old new : D) → IsCallBelow g o call failed old new
     → faults (g.history old) ≤ faults (g.history new) → faults (g.history old) + cond (failed && not (is_some o)) 1 0 ≤ faults (g.history new)
 adds_undue g None call true old new carried grow = let more : faults (g.history new) ≡ faults (g.history old) + 1 = ap faults carried in omega (arith, more)
 adds_undue g None call false old new carried grow = omega (arith, grow)
@@ -48,7 +48,7 @@ adds_undue g (Some extent) call true old new carried grow = omega (arith, grow)
 adds_undue g (Some extent) call false old new carried grow = omega (arith, grow)
 
 pub undue_faults-call : {D : Type 0} {call : Call} {failed : Bool} {before after : Blocks} {older later : List Event} (g : Ghosts D) (fault : Fault) (old new : D)
-    → CarriedOut g (due fault call older) call failed old new → later ≡ event call before after failed ∷ older → faults (g.history old) ≤ faults (g.history new)
+    → IsCallBelow g (due fault call older) call failed old new → later ≡ event call before after failed ∷ older → faults (g.history old) ≤ faults (g.history new)
     → undue_faults fault.which fault.nth fault.stops older ≤ faults (g.history old) → undue_faults fault.which fault.nth fault.stops later ≤ faults (g.history new)
 undue_faults-call {call = call} {failed = failed} {older = older} {later = later} g fault old new carried is grow so_far =
     let u = undue_faults fault.which fault.nth fault.stops in

@@ -3,7 +3,7 @@ use Rattle.std.proofs.Common.{◌≡◌, ℕ, Bool, true, false, cond, length, O
 use Rattle.std.proofs.Math.Logic.{∥∥₁_map}
 use Rattle.lfs_model.specs.Blocks.{Blocks, block_in}
 use Rattle.lfs_model.specs.History.{Call, Read, Program, Erase, Event, event}
-use Rattle.lfs_model.specs.Obeyed.{AreObeyed}
+use Rattle.lfs_model.specs.Conformance.{AllConform}
 use Rattle.lfs_model.specs.Premises.{MeetsPremises}
 use Rattle.lfs_model.specs.Stops.{LeftByErase}
 use Rattle.lfs_model.proofs.Premises.{Meets, meets_nothing, meets_whole, premises_begin, premises_newest, premises_next}
@@ -14,7 +14,7 @@ use Rattle.lfs_device.specs.declared.fault.Extent.TheVariants.{Nothing, FirstByt
 use Rattle.lfs_device.specs.declared.fault.Fault.{Fault}
 use Rattle.lfs_device.specs.declared.ram.Erased.{Erased}
 use Rattle.lfs_device.specs.declared.ram.Erased.TheVariants.{Fill, Keep}
-use Rattle.lfs_device.specs.Carried.{CarriedOut}
+use Rattle.lfs_device.specs.CallsBelow.{IsCallBelow}
 use Rattle.lfs_device.specs.Erased.{FillsByByte, erased_block}
 use Rattle.lfs_device.specs.Fault.{counts, due, is_torn, is_turn, has_stopped}
 use Rattle.lfs_device.specs.Premises.{AreReliable}
@@ -60,16 +60,16 @@ tears_none fault call older untorn = either (is_turn (counts fault.which call) f
     either false true = refl
     either false false = refl
 
-meets_carried : {D : Type 0} (g : Ghosts D) (o : Option Extent) (call : Call) (failed : Bool) (old new : D) → tears o ≡ false → CarriedOut g o call failed old new
-    → AreObeyed (g.history new) → AreReliable g → Meets call failed (g.blocks old) (g.blocks new)
-meets_carried g None call failed old new untorn carried obeyed reliable = premises_newest carried (reliable new).premises
-meets_carried g (Some Nothing) call failed old new untorn carried obeyed reliable = rw (carried.0, carried.1) (meets_nothing call (g.blocks old))
-meets_carried g (Some (FirstBytes k)) call failed old new untorn carried obeyed reliable = absurd (cc)
-meets_carried g (Some Whole) call failed old new untorn carried obeyed reliable =
-    rw carried.0 (meets_whole (carried.1 ((reliable new).no_fault ∙ sym (reliable old).no_fault)) obeyed (reliable new).premises)
+meets_carried : {D : Type 0} (g : Ghosts D) (o : Option Extent) (call : Call) (failed : Bool) (old new : D) → tears o ≡ false → IsCallBelow g o call failed old new
+    → AllConform (g.history new) → AreReliable g → Meets call failed (g.blocks old) (g.blocks new)
+meets_carried g None call failed old new untorn carried conforms reliable = premises_newest carried (reliable new).premises
+meets_carried g (Some Nothing) call failed old new untorn carried conforms reliable = rw (carried.0, carried.1) (meets_nothing call (g.blocks old))
+meets_carried g (Some (FirstBytes k)) call failed old new untorn carried conforms reliable = absurd (cc)
+meets_carried g (Some Whole) call failed old new untorn carried conforms reliable =
+    rw carried.0 (meets_whole (carried.1 ((reliable new).no_fault ∙ sym (reliable old).no_fault)) conforms (reliable new).premises)
 
 pub premises_call : {D : Type 0} {call : Call} {failed : Bool} {older later : List Event} (g : Ghosts D) (fault : Fault) (old new : D)
-    → is_torn fault.extent ≡ false → CarriedOut g (due fault call older) call failed old new → later ≡ event call (g.blocks old) (g.blocks new) failed ∷ older
-    → AreObeyed (g.history new) → AreReliable g → ∥ MeetsPremises older ∥₁ → ∥ MeetsPremises later ∥₁
-premises_call {call = call} {failed = failed} {older = older} g fault old new untorn carried is obeyed reliable so_far =
-    premises_after is (meets_carried g (due fault call older) call failed old new (tears_none fault call older untorn) carried obeyed reliable) so_far
+    → is_torn fault.extent ≡ false → IsCallBelow g (due fault call older) call failed old new → later ≡ event call (g.blocks old) (g.blocks new) failed ∷ older
+    → AllConform (g.history new) → AreReliable g → ∥ MeetsPremises older ∥₁ → ∥ MeetsPremises later ∥₁
+premises_call {call = call} {failed = failed} {older = older} g fault old new untorn carried is conforms reliable so_far =
+    premises_after is (meets_carried g (due fault call older) call failed old new (tears_none fault call older untorn) carried conforms reliable) so_far

@@ -30,6 +30,6 @@ pub record ChangesOnly {D : Type 0} (g : Ghosts D) (bs : List ℕ) (old new : D)
   pub at_worst : LeavesOnly AtWorst (g.history old) (g.history new) (SameButThese bs (g.blocks old))
 
 -- `Io` comes with a fault of the device, and any other answer without one.
-pub record TellsFaults {D X : Type 0} (g : Ghosts D) (old new : D) (result : Result X Error) : Type 0 where
+pub record ReportsFaults {D X : Type 0} (g : Ghosts D) (old new : D) (result : Result X Error) : Type 0 where
   pub fault : IsErrOf result Io → faults (g.history old) < faults (g.history new)
   pub no_fault : (IsErrOf result Io → ⊥) → faults (g.history new) ≡ faults (g.history old)

@@ -1,7 +1,7 @@
 pub mod ByteLists
 pub mod Bytes
 pub mod Calls
-pub mod Carried
+pub mod CallsBelow
 pub mod Erased
 pub mod Error
 pub mod Fault

@@ -2,7 +2,7 @@ ghost use Rattle.std.specs.Prelude.{◌≡◌, ◌≤◌, ◌<◌, ℕ, ◌+◌,
 ghost use Rattle.lfs_model.specs.Blocks.{Blocks, IsDivided, SameBut, SameOutside, block_in, programmed};
 ghost use Rattle.lfs_model.specs.History.{Event, event, AllUnprogrammed, IsNewest};
 ghost use Rattle.lfs_model.specs.History.Call.{Read, Program, Erase};
-ghost use Rattle.lfs_model.specs.Obeyed.{AreObeyed};
+ghost use Rattle.lfs_model.specs.Conformance.{AllConform};
 ghost use Rattle.lfs_device.specs.declared.geometry.Geometry.{Geometry};
 ghost use Rattle.lfs_device.specs.Bytes.{HasBytes};
 
@@ -77,5 +77,5 @@ pub trait BlockDevice {
     ghost newest: { (d : Self) → IsNewest (history d) (blocks d) };
 
     /// Each call that didn't fail was obeyed.
-    ghost obeyed: { (d : Self) → AreObeyed (history d) };
+    ghost conforms: { (d : Self) → AllConform (history d) };
 }

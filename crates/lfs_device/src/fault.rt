@@ -2,11 +2,11 @@ ghost use Rattle.std.specs.Prelude.{◌≡◌, ◌≤◌, ◌<◌, ◌+◌, ◌-
 ghost use Rattle.lfs_model.specs.Blocks.{SameBut, SameOutside, block_in, programmed};
 ghost use Rattle.lfs_model.specs.History.{reads, programs, erases, faults, unprogrammed, AllUnprogrammed, IsNewest};
 ghost use Rattle.lfs_model.specs.History.Call.{Read, Program, Erase};
-ghost use Rattle.lfs_model.specs.Obeyed.{AreObeyed};
+ghost use Rattle.lfs_model.specs.Conformance.{AllConform};
 ghost use Rattle.lfs_model.specs.Premises.{MeetsPremises};
 ghost use Rattle.lfs_device.specs.Fault.{calls_of, due, due_if, due_failed, is_torn, undue_faults};
 ghost use Rattle.lfs_device.specs.Premises.{AreReliable};
-ghost use Rattle.lfs_device.specs.Carried.{NoFault, CarriedOut, stored};
+ghost use Rattle.lfs_device.specs.CallsBelow.{NoFault, IsCallBelow, stored};
 
 use crate::partial::{carry_out_erase, carry_out_program, carry_out_read};
 use crate::{BlockDevice, Error, Geometry, Trace};
@@ -63,7 +63,7 @@ pub struct FaultDevice<D: BlockDevice> {
     ghost programs_counted: { program_calls ≡ min (programs trace.events) (2 ^ 64 - 1) },
     ghost erases_counted: { erase_calls ≡ min (erases trace.events) (2 ^ 64 - 1) },
     ghost newest: { IsNewest trace.events (D.blocks inner) },
-    ghost obeyed: { AreObeyed trace.events },
+    ghost conforms: { AllConform trace.events },
     ghost below: { (block byte : ℕ) → unprogrammed trace.events block byte ≡ true → unprogrammed (D.history inner) block byte ≡ true },
     ghost untorn: { tears ≡ false → is_torn fault.extent ≡ false },
     pub ghost premises: { tears ≡ false → AreReliable ⟦<D as BlockDevice>⟧ → ∥ MeetsPremises trace.events ∥₁ },
@@ -80,7 +80,7 @@ impl<D: BlockDevice> FaultDevice<D> {
         ensures tears { tears_of result ≡ false }
         ensures no_call { history_of result ≡ [] }
     {
-        let trace = Trace::told_by(&inner, &());
+        let trace = Trace::from_proof(&inner, &());
         let fault = Fault {
             which,
             nth: n,
@@ -199,7 +199,7 @@ impl<D: BlockDevice> FaultDevice<D> {
 }
 
 impl<D: BlockDevice> BlockDevice for FaultDevice<D> {
-    ghost use Rattle.lfs_device.specs.FaultDevice.{IsNoted, inner_of, fault_of, blocks_of, history_of};
+    ghost use Rattle.lfs_device.specs.FaultDevice.{IsNoted, inner_of, fault_of, inner_blocks, history_of};
 
     ghost geometry = { λ d. D.geometry d.inner };
 
@@ -213,7 +213,7 @@ impl<D: BlockDevice> BlockDevice for FaultDevice<D> {
 
     ghost newest = { λ d. d.newest };
 
-    ghost obeyed = { λ d. d.obeyed };
+    ghost conforms = { λ d. d.conforms };
 
     fn geometry(&self) -> Geometry {
         self.inner.geometry()
@@ -222,21 +222,21 @@ impl<D: BlockDevice> BlockDevice for FaultDevice<D> {
     fn read(&mut self, block: u32, off: u32, buf: &mut [u8]) -> Result<(), Error>
         requires in_device { block < (D.geometry (inner_of self.old)).block_count }
         requires in_block { off + length buf.old ≤ (D.geometry (inner_of self.old)).block_size }
-        ensures carried { CarriedOut ⟦<D as BlockDevice>⟧ (due (fault_of self.old) (Read block off (length buf.old)) (history_of self.old))
+        ensures carried { IsCallBelow ⟦<D as BlockDevice>⟧ (due (fault_of self.old) (Read block off (length buf.old)) (history_of self.old))
             (Read block off (length buf.old)) (is_err result) (inner_of self.old) (inner_of self.new) }
         ensures whole { due (fault_of self.old) (Read block off (length buf.old)) (history_of self.old) ≡ Some Extent.Whole
             → NoFault ⟦<D as BlockDevice>⟧ (inner_of self.old) (inner_of self.new)
-            → buf.new ≡ slice_range (block_in (blocks_of self.old) block) off (off + length buf.old) }
-        ensures bytes { OnOk result (buf.new ≡ slice_range (block_in (blocks_of self.old) block) off (off + length buf.old)) }
-        ensures same { blocks_of self.new ≡ blocks_of self.old }
+            → buf.new ≡ slice_range (block_in (inner_blocks self.old) block) off (off + length buf.old) }
+        ensures bytes { OnOk result (buf.new ≡ slice_range (block_in (inner_blocks self.old) block) off (off + length buf.old)) }
+        ensures same { inner_blocks self.new ≡ inner_blocks self.old }
         ensures noted { IsNoted (Read block off (length buf.old)) self.old self.new result }
     {
         let counts = matches!(self.fault.which, Which::Any | Which::Read);
         let due = self.due(counts);
-        let begun = Trace::told_by(self, &(block, off, buf.len()));
+        let begun = Trace::from_proof(self, &(block, off, buf.len()));
         self.read_calls = self.read_calls.saturating_add(1);
         let outcome = carry_out_read(&mut self.inner, due, block, off, buf);
-        self.trace = Trace::told_by(&self.inner, &(begun, outcome.is_err()));
+        self.trace = Trace::from_proof(&self.inner, &(begun, outcome.is_err()));
         outcome
     }
 
@@ -246,38 +246,38 @@ impl<D: BlockDevice> BlockDevice for FaultDevice<D> {
         requires begins { off % (D.geometry (inner_of self.old)).page ≡ 0 }
         requires ends { (off + length bytes.now) % (D.geometry (inner_of self.old)).page ≡ 0 }
         requires unprogrammed { AllUnprogrammed (history_of self.old) block off (off + length bytes.now) }
-        ensures carried { CarriedOut ⟦<D as BlockDevice>⟧ (due (fault_of self.old) (Program block off bytes.now) (history_of self.old))
+        ensures carried { IsCallBelow ⟦<D as BlockDevice>⟧ (due (fault_of self.old) (Program block off bytes.now) (history_of self.old))
             (Program block off bytes.now) (is_err result) (inner_of self.old) (inner_of self.new) }
         ensures stored { IfSome (due (fault_of self.old) (Program block off bytes.now) (history_of self.old))
             (λ extent. NoFault ⟦<D as BlockDevice>⟧ (inner_of self.old) (inner_of self.new)
-            → blocks_of self.new ≡ programmed (blocks_of self.old) block off (stored extent bytes.now)) }
-        ensures ok { OnOk result (blocks_of self.new ≡ programmed (blocks_of self.old) block off bytes.now) }
-        ensures err { OnErr result (SameOutside off (off + length bytes.now) (block_in (blocks_of self.old) block) (block_in (blocks_of self.new) block)) }
-        ensures others { SameBut block (blocks_of self.old) (blocks_of self.new) }
+            → inner_blocks self.new ≡ programmed (inner_blocks self.old) block off (stored extent bytes.now)) }
+        ensures ok { OnOk result (inner_blocks self.new ≡ programmed (inner_blocks self.old) block off bytes.now) }
+        ensures err { OnErr result (SameOutside off (off + length bytes.now) (block_in (inner_blocks self.old) block) (block_in (inner_blocks self.new) block)) }
+        ensures others { SameBut block (inner_blocks self.old) (inner_blocks self.new) }
         ensures noted { IsNoted (Program block off bytes.now) self.old self.new result }
     {
         let counts = matches!(self.fault.which, Which::Any | Which::Program);
         let due = self.due(counts);
-        let begun = Trace::told_by(self, &(block, off, bytes));
+        let begun = Trace::from_proof(self, &(block, off, bytes));
         self.program_calls = self.program_calls.saturating_add(1);
         let outcome = carry_out_program(&mut self.inner, due, block, off, bytes);
-        self.trace = Trace::told_by(&self.inner, &(begun, outcome.is_err()));
+        self.trace = Trace::from_proof(&self.inner, &(begun, outcome.is_err()));
         outcome
     }
 
     fn erase(&mut self, block: u32) -> Result<(), Error>
         requires { block < (D.geometry (inner_of self.old)).block_count }
-        ensures carried { CarriedOut ⟦<D as BlockDevice>⟧ (due (fault_of self.old) (Erase block) (history_of self.old))
+        ensures carried { IsCallBelow ⟦<D as BlockDevice>⟧ (due (fault_of self.old) (Erase block) (history_of self.old))
             (Erase block) (is_err result) (inner_of self.old) (inner_of self.new) }
-        ensures others { SameBut block (blocks_of self.old) (blocks_of self.new) }
+        ensures others { SameBut block (inner_blocks self.old) (inner_blocks self.new) }
         ensures noted { IsNoted (Erase block) self.old self.new result }
     {
         let counts = matches!(self.fault.which, Which::Any | Which::Erase);
         let due = self.due(counts);
-        let begun = Trace::told_by(self, &block);
+        let begun = Trace::from_proof(self, &block);
         self.erase_calls = self.erase_calls.saturating_add(1);
         let outcome = carry_out_erase(&mut self.inner, due, block);
-        self.trace = Trace::told_by(&self.inner, &(begun, outcome.is_err()));
+        self.trace = Trace::from_proof(&self.inner, &(begun, outcome.is_err()));
         outcome
     }
 }

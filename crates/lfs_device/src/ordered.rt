@@ -56,7 +56,7 @@ impl<D: BlockDevice> BlockDevice for Ordered<D> {
 
     ghost newest = { λ d. D.newest d.inner };
 
-    ghost obeyed = { λ d. D.obeyed d.inner };
+    ghost conforms = { λ d. D.conforms d.inner };
 
     fn geometry(&self) -> Geometry {
         self.inner.geometry().ordered(self.order)

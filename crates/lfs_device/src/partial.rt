@@ -3,7 +3,7 @@ ghost use Rattle.lfs_model.specs.Blocks.{SameBut, SameOutside, block_in, program
 ghost use Rattle.lfs_model.specs.History.{faults, unprogrammed, unprogrammed_after, AllUnprogrammed};
 ghost use Rattle.lfs_model.specs.History.Call.{Read, Program, Erase};
 ghost use Rattle.lfs_device.specs.Calls.{ReadsOnly};
-ghost use Rattle.lfs_device.specs.Carried.{NoFault, CarriedOut, stored};
+ghost use Rattle.lfs_device.specs.CallsBelow.{NoFault, IsCallBelow, stored};
 ghost use Rattle.lfs_device.specs.Partial.{ChangesPart};
 
 use crate::fault::Extent;
@@ -19,7 +19,7 @@ pub(crate) fn carry_out_read<D: BlockDevice>(
 ) -> Result<(), Error>
     requires in_device { block < (D.geometry device.old).block_count }
     requires in_block { off + length buf.old ≤ (D.geometry device.old).block_size }
-    ensures carried { CarriedOut ⟦<D as BlockDevice>⟧ due (Read block off (length buf.old)) (is_err result) device.old device.new }
+    ensures carried { IsCallBelow ⟦<D as BlockDevice>⟧ due (Read block off (length buf.old)) (is_err result) device.old device.new }
     ensures whole { due ≡ Some Extent.Whole → NoFault ⟦<D as BlockDevice>⟧ device.old device.new
         → buf.new ≡ slice_range (block_in (D.blocks device.old) block) off (off + length buf.old) }
     ensures bytes { OnOk result (buf.new ≡ slice_range (block_in (D.blocks device.old) block) off (off + length buf.old)) }
@@ -50,7 +50,7 @@ pub(crate) fn carry_out_program<D: BlockDevice>(
     requires begins { off % (D.geometry device.old).page ≡ 0 }
     requires ends { (off + length bytes.now) % (D.geometry device.old).page ≡ 0 }
     requires unprogrammed { AllUnprogrammed (D.history device.old) block off (off + length bytes.now) }
-    ensures carried { CarriedOut ⟦<D as BlockDevice>⟧ due (Program block off bytes.now) (is_err result) device.old device.new }
+    ensures carried { IsCallBelow ⟦<D as BlockDevice>⟧ due (Program block off bytes.now) (is_err result) device.old device.new }
     ensures stored { IfSome due (λ extent. NoFault ⟦<D as BlockDevice>⟧ device.old device.new
         → D.blocks device.new ≡ programmed (D.blocks device.old) block off (stored extent bytes.now)) }
     ensures ok { OnOk result (D.blocks device.new ≡ programmed (D.blocks device.old) block off bytes.now) }
@@ -78,7 +78,7 @@ pub(crate) fn carry_out_erase<D: BlockDevice>(
     block: u32,
 ) -> Result<(), Error>
     requires { block < (D.geometry device.old).block_count }
-    ensures carried { CarriedOut ⟦<D as BlockDevice>⟧ due (Erase block) (is_err result) device.old device.new }
+    ensures carried { IsCallBelow ⟦<D as BlockDevice>⟧ due (Erase block) (is_err result) device.old device.new }
     ensures others { SameBut block (D.blocks device.old) (D.blocks device.new) }
     ensures geometry { D.geometry device.new ≡ D.geometry device.old }
     ensures error { IfErr result (λ e. e ≡ Error.Io) }

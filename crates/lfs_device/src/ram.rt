@@ -2,7 +2,7 @@ ghost use Rattle.std.specs.Prelude.{◌≡◌, ◌≤◌, ◌<◌, ◌+◌, ◌*
 ghost use Rattle.lfs_model.specs.Blocks.{SameBut, block_in, cut, overwritten, programmed};
 ghost use Rattle.lfs_model.specs.History.{event, faults, AllUnprogrammed, IsNewest};
 ghost use Rattle.lfs_model.specs.History.Call.{Read, Program, Erase};
-ghost use Rattle.lfs_model.specs.Obeyed.{AreObeyed};
+ghost use Rattle.lfs_model.specs.Conformance.{AllConform};
 ghost use Rattle.lfs_model.specs.Premises.{MeetsPremises};
 ghost use Rattle.lfs_device.specs.Bytes.{AreBytes};
 ghost use Rattle.lfs_device.specs.Premises.{AreReliable};
@@ -31,12 +31,12 @@ pub struct RamDevice {
     ghost size: { length bytes.items ≡ geometry.block_size * geometry.block_count },
     pub ghost no_fault: { faults trace.events ≡ 0 },
     ghost newest: { IsNewest trace.events (cut geometry.block_size geometry.block_count bytes.items) },
-    ghost obeyed: { AreObeyed trace.events },
+    ghost conforms: { AllConform trace.events },
     pub ghost premises: { ∥ MeetsPremises trace.events ∥₁ },
 }
 
 impl RamDevice {
-    ghost use Rattle.lfs_device.specs.RamDevice.{geometry_of, bytes_of, blocks_of, erased_of, history_of};
+    ghost use Rattle.lfs_device.specs.RamDevice.{geometry_of, bytes_of, ram_blocks, erased_of, history_of};
 
     /// A device that holds 0xff in every byte and erases to 0xff. Every byte counts as programmed.
     ///
@@ -54,7 +54,7 @@ impl RamDevice {
             geometry,
             bytes,
             erased: Erased::Fill(0xff),
-            trace: Trace::told_by(&geometry, &()),
+            trace: Trace::from_proof(&geometry, &()),
         })
     }
 
@@ -74,7 +74,7 @@ impl RamDevice {
             geometry,
             bytes,
             erased: Erased::Fill(0xff),
-            trace: Trace::told_by(&geometry, &()),
+            trace: Trace::from_proof(&geometry, &()),
         })
     }
 
@@ -102,7 +102,7 @@ impl RamDevice {
     /// All its bytes, block after block.
     pub fn bytes(&self) -> &[u8]
         ensures bytes { result.now ≡ bytes_of self.now }
-        ensures blocks { blocks_of self.now ≡ cut (geometry_of self.now).block_size (geometry_of self.now).block_count result.now }
+        ensures blocks { ram_blocks self.now ≡ cut (geometry_of self.now).block_size (geometry_of self.now).block_count result.now }
     {
         &self.bytes
     }
@@ -110,7 +110,7 @@ impl RamDevice {
     /// Gives up the device for its bytes.
     pub fn to_bytes(self) -> Vec<u8>
         ensures bytes { result.items ≡ bytes_of self }
-        ensures blocks { blocks_of self ≡ cut (geometry_of self).block_size (geometry_of self).block_count result.items }
+        ensures blocks { ram_blocks self ≡ cut (geometry_of self).block_size (geometry_of self).block_count result.items }
     {
         self.bytes
     }
@@ -155,11 +155,11 @@ fn erase_at(all: &mut Vec<u8>, at: usize, len: usize, erased: Erased)
 impl BlockDevice for RamDevice {
     ghost use Rattle.lfs_model.proofs.Cuts.{IsDivided-cut};
     ghost use Rattle.lfs_device.specs.ByteLists.{HasBytes-cut};
-    ghost use Rattle.lfs_device.specs.RamDevice.{geometry_of, bytes_of, blocks_of, erased_of, history_of};
+    ghost use Rattle.lfs_device.specs.RamDevice.{geometry_of, bytes_of, ram_blocks, erased_of, history_of};
 
     ghost geometry = { geometry_of };
 
-    ghost blocks = { blocks_of };
+    ghost blocks = { ram_blocks };
 
     ghost history = { history_of };
 
@@ -169,7 +169,7 @@ impl BlockDevice for RamDevice {
 
     ghost newest = { λ d. d.newest };
 
-    ghost obeyed = { λ d. d.obeyed };
+    ghost conforms = { λ d. d.conforms };
 
     fn geometry(&self) -> Geometry {
         self.geometry
@@ -179,15 +179,15 @@ impl BlockDevice for RamDevice {
         requires in_device { block < (geometry_of self.old).block_count }
         requires in_block { off + length buf.old ≤ (geometry_of self.old).block_size }
         ensures ok { IsOk result }
-        ensures bytes { buf.new ≡ slice_range (block_in (blocks_of self.old) block) off (off + length buf.old) }
-        ensures same { blocks_of self.new ≡ blocks_of self.old }
+        ensures bytes { buf.new ≡ slice_range (block_in (ram_blocks self.old) block) off (off + length buf.old) }
+        ensures same { ram_blocks self.new ≡ ram_blocks self.old }
         ensures geometry { geometry_of self.new ≡ geometry_of self.old }
         ensures erased { erased_of self.new ≡ erased_of self.old }
-        ensures history { history_of self.new ≡ event (Read block off (length buf.old)) (blocks_of self.old) (blocks_of self.new) false ∷ history_of self.old }
+        ensures history { history_of self.new ≡ event (Read block off (length buf.old)) (ram_blocks self.old) (ram_blocks self.new) false ∷ history_of self.old }
     {
         let start = self.position(block, off);
         buf.copy_from_slice(&self.bytes[start..start + buf.len()]);
-        self.trace = Trace::told_by(self, &(block, off, buf.len()));
+        self.trace = Trace::from_proof(self, &(block, off, buf.len()));
         Ok(())
     }
 
@@ -198,13 +198,13 @@ impl BlockDevice for RamDevice {
         requires ends { (off + length bytes.now) % (geometry_of self.old).page ≡ 0 }
         requires unprogrammed { AllUnprogrammed (history_of self.old) block off (off + length bytes.now) }
         ensures ok { IsOk result }
-        ensures bytes { blocks_of self.new ≡ programmed (blocks_of self.old) block off bytes.now }
-        ensures others { SameBut block (blocks_of self.old) (blocks_of self.new) }
+        ensures bytes { ram_blocks self.new ≡ programmed (ram_blocks self.old) block off bytes.now }
+        ensures others { SameBut block (ram_blocks self.old) (ram_blocks self.new) }
         ensures geometry { geometry_of self.new ≡ geometry_of self.old }
         ensures erased { erased_of self.new ≡ erased_of self.old }
-        ensures history { history_of self.new ≡ event (Program block off bytes.now) (blocks_of self.old) (blocks_of self.new) false ∷ history_of self.old }
+        ensures history { history_of self.new ≡ event (Program block off bytes.now) (ram_blocks self.old) (ram_blocks self.new) false ∷ history_of self.old }
     {
-        let trace = Trace::told_by(self, &(block, off, bytes));
+        let trace = Trace::from_proof(self, &(block, off, bytes));
         let start = self.position(block, off);
         overwrite(&mut self.bytes, start, bytes);
         self.trace = trace;
@@ -214,13 +214,13 @@ impl BlockDevice for RamDevice {
     fn erase(&mut self, block: u32) -> Result<(), Error>
         requires { block < (geometry_of self.old).block_count }
         ensures ok { IsOk result }
-        ensures bytes { block_in (blocks_of self.new) block ≡ erased_block (erased_of self.old) (block_in (blocks_of self.old) block) }
-        ensures others { SameBut block (blocks_of self.old) (blocks_of self.new) }
+        ensures bytes { block_in (ram_blocks self.new) block ≡ erased_block (erased_of self.old) (block_in (ram_blocks self.old) block) }
+        ensures others { SameBut block (ram_blocks self.old) (ram_blocks self.new) }
         ensures geometry { geometry_of self.new ≡ geometry_of self.old }
         ensures erased { erased_of self.new ≡ erased_of self.old }
-        ensures history { history_of self.new ≡ event (Erase block) (blocks_of self.old) (blocks_of self.new) false ∷ history_of self.old }
+        ensures history { history_of self.new ≡ event (Erase block) (ram_blocks self.old) (ram_blocks self.new) false ∷ history_of self.old }
     {
-        let trace = Trace::told_by(self, &block);
+        let trace = Trace::from_proof(self, &block);
         let start = self.position(block, 0);
         let size = self.geometry.block_size as usize;
         erase_at(&mut self.bytes, start, size, self.erased);

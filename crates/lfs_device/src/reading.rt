@@ -1,6 +1,6 @@
 ghost use Rattle.std.specs.Prelude.{◌≡◌, ◌⊎◌, ◌≤◌, ◌<◌, ◌+◌, ◌∷◌, true, false, slice_range, IfOk, IfErr, OnOk, IsErrOf};
 ghost use Rattle.lfs_model.specs.Blocks.{block_in};
-ghost use Rattle.lfs_device.specs.Calls.{ReadsOnly, TellsFaults};
+ghost use Rattle.lfs_device.specs.Calls.{ReadsOnly, ReportsFaults};
 ghost use Rattle.lfs_model.specs.History.{event};
 ghost use Rattle.lfs_model.specs.History.Call.{Read};
 
@@ -21,7 +21,7 @@ pub fn read_part<D: BlockDevice>(
     requires in_block { off + len ≤ (D.geometry device.old).block_size }
     ensures bytes { IfOk result (λ bytes. bytes.items ≡ slice_range (block_in (D.blocks device.old) block) off (off + len)) }
     ensures device { ReadsOnly D.BlockDevice device.old device.new }
-    ensures faults { TellsFaults D.BlockDevice device.old device.new result }
+    ensures faults { ReportsFaults D.BlockDevice device.old device.new result }
     ensures errors { IfErr result (λ e. (e ≡ Error.Io) ⊎ (e ≡ Error.NoMemory)) }
 
     // One read, unless there was no memory.
@@ -45,7 +45,7 @@ pub fn read_block<D: BlockDevice>(
     requires { block < (D.geometry device.old).block_count }
     ensures bytes { IfOk result (λ bytes. bytes.items ≡ block_in (D.blocks device.old) block) }
     ensures device { ReadsOnly D.BlockDevice device.old device.new }
-    ensures faults { TellsFaults D.BlockDevice device.old device.new result }
+    ensures faults { ReportsFaults D.BlockDevice device.old device.new result }
     ensures errors { IfErr result (λ e. (e ≡ Error.Io) ⊎ (e ≡ Error.NoMemory)) }
 
     // One read, unless there was no memory.

@@ -19,7 +19,7 @@ impl Model for Trace {
 
 impl Trace {
     /// Any history. The caller's proof picks it, from what the two references point to: mostly the device before the call and the call's arguments.
-    pub fn told_by<S, T>(_device: &S, _call: &T) -> Trace
+    pub fn from_proof<S, T>(_device: &S, _call: &T) -> Trace
         ghost events: { List Event }
         ensures { result.events ≡ events }
     {

@@ -1,5 +1,5 @@
 ghost use Rattle.std.specs.Prelude.{◌≡◌, ◌⊎◌, ◌+◌, ◌/◌, ◌<◌, IfErr, OnOk, IsErrOf, slice_set};
-ghost use Rattle.lfs_device.specs.Calls.{ChangesBlock, TellsFaults};
+ghost use Rattle.lfs_device.specs.Calls.{ChangesBlock, ReportsFaults};
 ghost use Rattle.lfs_model.specs.Blocks.{block_in};
 ghost use Rattle.lfs_model.specs.History.{erases, programs};
 
@@ -23,7 +23,7 @@ pub fn copy_block<D: BlockDevice>(
     ensures erases { OnOk result (erases (D.history device.new) ≡ erases (D.history device.old) + 1) }
     ensures programs { OnOk result (programs (D.history device.new)
         ≡ programs (D.history device.old) + (D.geometry device.old).block_size / (D.geometry device.old).page) }
-    ensures faults { TellsFaults D.BlockDevice device.old device.new result }
+    ensures faults { ReportsFaults D.BlockDevice device.old device.new result }
     ensures errors { IfErr result (λ e. (e ≡ Error.Io) ⊎ (e ≡ Error.NoMemory)) }
     ensures no_memory { IsErrOf result Error.NoMemory → D.history device.new ≡ D.history device.old }
 {

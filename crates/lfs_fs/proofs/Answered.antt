@@ -12,21 +12,21 @@ use Rattle.lfs_model.specs.Refusals.{as_path, refusal_of}
 use Rattle.lfs_model.specs.Effects.{effect_of}
 use Rattle.lfs_model.specs.State.{Healthy, is_remount}
 use Rattle.lfs_model.specs.Recovery.{recovers}
-use Rattle.lfs_model.specs.Run.{IsTurn, only_asks, creates_nothing, fills, needs_no_call, renames_to_itself, lays_out}
-use Rattle.lfs_model.proofs.TurnsMade.{IsOver, idle_turn, refused_turn, completed_turn, asked_turn, failed_turn}
+use Rattle.lfs_model.specs.Run.{IsSessionStep, only_asks, creates_nothing, fills, needs_no_call, renames_to_itself, lays_out}
+use Rattle.lfs_model.proofs.StepsMade.{IsOver, idle_step, refused_step, completed_step, asked_step, failed_step}
 use Rattle.std.specs.Prelude.{◌⊎◌, ◌||◌, OnOk, OnErr, IfOk, IfErr, is_err, is_none, is_some, not, if◌then◌else◌}
 use Rattle.lfs_model.specs.Tree.{FileNode}
 use Rattle.lfs_model.specs.TreeEdits.{added as add_file, bytes_at, is_file}
 use Rattle.lfs_device.specs.declared.error.Error.{Error}
 use Rattle.lfs_device.specs.declared.error.Error.TheVariants.{Io, NoMemory}
 use Rattle.lfs_model.specs.Headline.{is_question}
-use Rattle.lfs_model.proofs.Turns.{not_remount}
+use Rattle.lfs_model.proofs.SessionSteps.{not_remount}
 use Rattle.lfs_lookup.specs.Refusals.{is_refusal, refusal_in}
 use Rattle.lfs_fs.specs.Replies.{reply_in}
-use Rattle.lfs_tree.specs.Seen.{Seen, tree_seen, around_of, IsSound, IsAsked, IsBroken, IsError, IsCarried}
+use Rattle.lfs_tree.specs.TreeState.{TreeState, tree_view, around_of, IsSound, IsAsked, IsBroken, IsError, IsAppliedOn}
 use Rattle.lfs_model.specs.BlockSets.{IsInFlight}
 use Rattle.lfs_model.proofs.BlockCounts.{few_flying, in_flight-freed}
-use Rattle.lfs_fs.specs.FileSeen.{OpenFiles, bytes_of, files_seen, has_unsaved, reader_seen, readers_in, writer_seen, writers_in, written_paths}
+use Rattle.lfs_fs.specs.FileView.{OpenFiles, bytes_of, files_view, has_unsaved, reader_view, readers_in, writer_view, writers_in, written_paths}
 use Rattle.lfs_fs.specs.declared.files.OpenFile.TheVariants as file
 use Rattle.lfs_model.specs.Keeping.{takes_or_moves}
 use Rattle.lfs_fs.specs.Staying.{AreLeft, FilesStay, KeepsWriters, SparesFiles}
@@ -36,20 +36,20 @@ use Rattle.lfs_model.specs.Tree.{Path}
 use Rattle.lfs_fs.specs.declared.files.Writer.{Writer}
 use Rattle.lfs_fs.specs.declared.files.Unsaved.{Unsaved}
 use Rattle.std.specs.List.{AllByRecursion, list_any}
-use Rattle.lfs_fs.specs.Held.{Held, IsReady, IsUnsavedIn, IsWritten, held_of, held_with, session_of, moment_of, refused_by, EndsChecks, Checks, FailsBy, Answers}
-use Rattle.lfs_fs.proofs.Failing.{reads_write_nothing, nothing_written, failed_moment, healthy_moment, asking_fails, broken_fails, memory_fails}
+use Rattle.lfs_fs.specs.Held.{Held, IsReady, IsUnsavedIn, IsWritten, held_of, held_with, session_of, system_state_of, refused_by, EndsChecks, Checks, FailsBy, Answers}
+use Rattle.lfs_fs.proofs.Failing.{reads_write_nothing, nothing_written, failed_system, healthy_system, asking_fails, broken_fails, memory_fails}
 use Rattle.lfs_fs.proofs.Calls.{still_called}
 use Rattle.lfs_fs.proofs.OpenReaders.{none_read, read_carried}
 
 -- the tree, further on by some calls
-later : Seen → List Event → CachedBlocks → Seen
+later : TreeState → List Event → CachedBlocks → TreeState
 later t events cache = record t { history = events ++ t.history; cache = cache }
 
-asked_later : (old new : Seen) (asked : IsAsked old new) → new ≡ later old asked.reads.events new.cache
+asked_later : (old new : TreeState) (asked : IsAsked old new) → new ≡ later old asked.reads.events new.cache
 unfolding later
 asked_later old new asked = asked.same ∙ ap (λ history. record old { history = history; cache = new.cache }) asked.reads.extends
 
-pub is_over : (t : Seen) (files : Files) → IsSound t → IsOver t.disk t.pairs (record { tree = tree_seen t; files = files }) (around_of t)
+pub is_over : (t : TreeState) (files : Files) → IsSound t → IsOver t.disk t.pairs (record { tree = tree_view t; files = files }) (around_of t)
 is_over t files sound = record {
   accepted = sound.accepted;
   surrounds = record { block_size = refl; page = refl; block_count = refl; used = refl; gstate = refl; writable = (sound.fits, sound.is_kept) };
@@ -58,24 +58,24 @@ is_over t files sound = record {
 
 -- ---- a refusal
 
-pub refused_answer : (old : Held) (op : Operation) (refusal : Refusal) (tree : Seen) → (old.tree.failed ≡ false → IsSound old.tree) → is_remount op ≡ false →
-    IsAsked old.tree tree → refused_by old op ≡ Some refusal → IsTurn (moment_of old) op (ops.Refused refusal) (moment_of (held_with tree old.files))
+pub refused_answer : (old : Held) (op : Operation) (refusal : Refusal) (tree : TreeState) → (old.tree.failed ≡ false → IsSound old.tree) → is_remount op ≡ false →
+    IsAsked old.tree tree → refused_by old op ≡ Some refusal → IsSessionStep (system_state_of old) op (ops.Refused refusal) (system_state_of (held_with tree old.files))
 unfolding later
 refused_answer old op refusal tree sound other asked e = go old.tree.failed refl
   where
-    go : (b : Bool) → old.tree.failed ≡ b → IsTurn (moment_of old) op (ops.Refused refusal) (moment_of (held_with tree old.files))
+    go : (b : Bool) → old.tree.failed ≡ b → IsSessionStep (system_state_of old) op (ops.Refused refusal) (system_state_of (held_with tree old.files))
     go true f =
         let is : Failed ≡ refusal = same_Some Failed refusal (sym (ap (λ b. cond b (Some Failed) (refusal_of (around_of old.tree) (session_of old) op)) f) ∙ e) in
-        subst (λ z. IsTurn (moment_of old) op (ops.Refused z) (moment_of (held_with tree old.files))) is
-        (subst (λ t. IsTurn (moment_of old) op (ops.Refused Failed) (moment_of (held_with t old.files))) (sym (asked.failed f))
-        (subst (λ m. IsTurn m op (ops.Refused Failed) m) (sym (failed_moment old f)) (failed_turn old.tree.disk (around_of old.tree) op old.tree.history other)))
+        subst (λ z. IsSessionStep (system_state_of old) op (ops.Refused z) (system_state_of (held_with tree old.files))) is
+        (subst (λ t. IsSessionStep (system_state_of old) op (ops.Refused Failed) (system_state_of (held_with t old.files))) (sym (asked.failed f))
+        (subst (λ m. IsSessionStep m op (ops.Refused Failed) m) (sym (failed_system old f)) (failed_step old.tree.disk (around_of old.tree) op old.tree.history other)))
     go false f =
         let is : refusal_of (around_of old.tree) (session_of old) op ≡ Some refusal = sym (ap (λ b. cond b (Some Failed) (refusal_of (around_of old.tree) (session_of old) op)) f) ∙ e in
         let new = held_with (later old.tree asked.reads.events tree.cache) old.files in
-        subst (λ t. IsTurn (moment_of old) op (ops.Refused refusal) (moment_of (held_with t old.files))) (sym (asked_later old.tree tree asked))
-        (subst (λ m. IsTurn m op (ops.Refused refusal) (moment_of new)) (sym (healthy_moment old f))
-        (subst (λ m. IsTurn (record { disk = old.tree.disk; calls = old.tree.history; state = Healthy (session_of old) }) op (ops.Refused refusal) m) (sym (healthy_moment new f))
-        (refused_turn old.tree.disk old.tree.pairs (session_of old) (around_of old.tree) op refusal asked.reads.events old.tree.history (is_over old.tree old.files (sound f)) other is (reads_write_nothing old.tree.disk.blocks asked.reads.events asked.reads.each))))
+        subst (λ t. IsSessionStep (system_state_of old) op (ops.Refused refusal) (system_state_of (held_with t old.files))) (sym (asked_later old.tree tree asked))
+        (subst (λ m. IsSessionStep m op (ops.Refused refusal) (system_state_of new)) (sym (healthy_system old f))
+        (subst (λ m. IsSessionStep (record { disk = old.tree.disk; calls = old.tree.history; state = Healthy (session_of old) }) op (ops.Refused refusal) m) (sym (healthy_system new f))
+        (refused_step old.tree.disk old.tree.pairs (session_of old) (around_of old.tree) op refusal asked.reads.events old.tree.history (is_over old.tree old.files (sound f)) other is (reads_write_nothing old.tree.disk.blocks asked.reads.events asked.reads.each))))
 
 -- ---- an accepted operation
 
@@ -90,56 +90,56 @@ pub not_refused : (h : Held) (op : Operation) → refused_by h op ≡ None → r
 not_refused h op e = sym (ap (λ b. cond b (Some Failed) (refusal_of (around_of h.tree) (session_of h) op)) (not_failed h op e)) ∙ e
 
 -- by reads alone, where there is nothing to do
-pub idle_answer : (old : Held) (op : Operation) (tree : Seen) (files : Files) → (old.tree.failed ≡ false → IsSound old.tree) → (asked : IsAsked old.tree tree) → refused_by old op ≡ None →
-    is_remount op ≡ false → (effect_of (around_of old.tree) (session_of old) op).1 ≡ record { tree = tree_seen old.tree; files = files } →
+pub idle_answer : (old : Held) (op : Operation) (tree : TreeState) (files : Files) → (old.tree.failed ≡ false → IsSound old.tree) → (asked : IsAsked old.tree tree) → refused_by old op ≡ None →
+    is_remount op ≡ false → (effect_of (around_of old.tree) (session_of old) op).1 ≡ record { tree = tree_view old.tree; files = files } →
     recovers op ≡ false → lays_out (session_of old) op ≡ false → (needs_no_call (session_of old) op ≡ true → asked.reads.events ≡ []) →
-    IsTurn (moment_of old) op (effect_of (around_of old.tree) (session_of old) op).0 (moment_of (held_with tree files))
+    IsSessionStep (system_state_of old) op (effect_of (around_of old.tree) (session_of old) op).0 (system_state_of (held_with tree files))
 unfolding later
 idle_answer old op tree files sound asked e other same none still silent =
     let works = not_failed old op e in
     let events = asked.reads.events in
-    let to = healthy_moment (held_with (later old.tree events tree.cache) files) works
+    let to = healthy_system (held_with (later old.tree events tree.cache) files) works
     ∙ ap (λ (s : Session). record { disk = old.tree.disk; calls = events ++ old.tree.history; state = Healthy s }) (sym same) in
-    subst (λ t. IsTurn (moment_of old) op (effect_of (around_of old.tree) (session_of old) op).0 (moment_of (held_with t files))) (sym (asked_later old.tree tree asked))
-    (subst (λ m. IsTurn m op (effect_of (around_of old.tree) (session_of old) op).0 (moment_of (held_with (later old.tree events tree.cache) files))) (sym (healthy_moment old works))
-    (subst (λ m. IsTurn (record { disk = old.tree.disk; calls = old.tree.history; state = Healthy (session_of old) }) op (effect_of (around_of old.tree) (session_of old) op).0 m) (sym to)
-    (idle_turn old.tree.disk old.tree.pairs (session_of old) (around_of old.tree) op events old.tree.history (is_over old.tree old.files (sound works)) (not_refused old op e) other
+    subst (λ t. IsSessionStep (system_state_of old) op (effect_of (around_of old.tree) (session_of old) op).0 (system_state_of (held_with t files))) (sym (asked_later old.tree tree asked))
+    (subst (λ m. IsSessionStep m op (effect_of (around_of old.tree) (session_of old) op).0 (system_state_of (held_with (later old.tree events tree.cache) files))) (sym (healthy_system old works))
+    (subst (λ m. IsSessionStep (record { disk = old.tree.disk; calls = old.tree.history; state = Healthy (session_of old) }) op (effect_of (around_of old.tree) (session_of old) op).0 m) (sym to)
+    (idle_step old.tree.disk old.tree.pairs (session_of old) (around_of old.tree) op events old.tree.history (is_over old.tree old.files (sound works)) (not_refused old op e) other
     (ap (λ (s : Session). s.tree) same) none still (reads_write_nothing old.tree.disk.blocks events asked.reads.each) silent)))
 
 -- by reads alone
-pub asked_answer : (old : Held) (op : Operation) (tree : Seen) (files : Files) → (old.tree.failed ≡ false → IsSound old.tree) → (asked : IsAsked old.tree tree) → refused_by old op ≡ None →
-    is_remount op ≡ false → only_asks (session_of old) op ≡ true → (effect_of (around_of old.tree) (session_of old) op).1 ≡ record { tree = tree_seen old.tree; files = files } →
+pub asked_answer : (old : Held) (op : Operation) (tree : TreeState) (files : Files) → (old.tree.failed ≡ false → IsSound old.tree) → (asked : IsAsked old.tree tree) → refused_by old op ≡ None →
+    is_remount op ≡ false → only_asks (session_of old) op ≡ true → (effect_of (around_of old.tree) (session_of old) op).1 ≡ record { tree = tree_view old.tree; files = files } →
     recovers op ≡ false → lays_out (session_of old) op ≡ false → (needs_no_call (session_of old) op ≡ true → asked.reads.events ≡ []) →
-    IsTurn (moment_of old) op (effect_of (around_of old.tree) (session_of old) op).0 (moment_of (held_with tree files))
+    IsSessionStep (system_state_of old) op (effect_of (around_of old.tree) (session_of old) op).0 (system_state_of (held_with tree files))
 unfolding later
 asked_answer old op tree files sound asked e other asks same none still silent =
     let works = not_failed old op e in
     let events = asked.reads.events in
-    let to = healthy_moment (held_with (later old.tree events tree.cache) files) works
+    let to = healthy_system (held_with (later old.tree events tree.cache) files) works
     ∙ ap (λ (s : Session). record { disk = old.tree.disk; calls = events ++ old.tree.history; state = Healthy s }) (sym same) in
-    subst (λ t. IsTurn (moment_of old) op (effect_of (around_of old.tree) (session_of old) op).0 (moment_of (held_with t files))) (sym (asked_later old.tree tree asked))
-    (subst (λ m. IsTurn m op (effect_of (around_of old.tree) (session_of old) op).0 (moment_of (held_with (later old.tree events tree.cache) files))) (sym (healthy_moment old works))
-    (subst (λ m. IsTurn (record { disk = old.tree.disk; calls = old.tree.history; state = Healthy (session_of old) }) op (effect_of (around_of old.tree) (session_of old) op).0 m) (sym to)
-    (asked_turn old.tree.disk old.tree.pairs (session_of old) (around_of old.tree) op events old.tree.history (is_over old.tree old.files (sound works)) (not_refused old op e) other asks
+    subst (λ t. IsSessionStep (system_state_of old) op (effect_of (around_of old.tree) (session_of old) op).0 (system_state_of (held_with t files))) (sym (asked_later old.tree tree asked))
+    (subst (λ m. IsSessionStep m op (effect_of (around_of old.tree) (session_of old) op).0 (system_state_of (held_with (later old.tree events tree.cache) files))) (sym (healthy_system old works))
+    (subst (λ m. IsSessionStep (record { disk = old.tree.disk; calls = old.tree.history; state = Healthy (session_of old) }) op (effect_of (around_of old.tree) (session_of old) op).0 m) (sym to)
+    (asked_step old.tree.disk old.tree.pairs (session_of old) (around_of old.tree) op events old.tree.history (is_over old.tree old.files (sound works)) (not_refused old op e) other asks
     (ap (λ (s : Session). s.tree) same) none still (reads_write_nothing old.tree.disk.blocks events asked.reads.each) silent)))
 
 -- the tree carries it out
-pub carried_answer : (old : Held) (op : Operation) (mid new : Seen) (files : Files) → (old.tree.failed ≡ false → IsSound old.tree) → IsAsked old.tree mid → refused_by old op ≡ None →
-    IsCarried mid op new → is_remount op ≡ false → only_asks (session_of old) op ≡ false → fills op ≡ false → creates_nothing (session_of old) op ≡ false → needs_no_call (session_of old) op ≡ false →
+pub carried_answer : (old : Held) (op : Operation) (mid new : TreeState) (files : Files) → (old.tree.failed ≡ false → IsSound old.tree) → IsAsked old.tree mid → refused_by old op ≡ None →
+    IsAppliedOn mid op new → is_remount op ≡ false → only_asks (session_of old) op ≡ false → fills op ≡ false → creates_nothing (session_of old) op ≡ false → needs_no_call (session_of old) op ≡ false →
     (effect_of (around_of old.tree) (session_of old) op).1.files ≡ files →
-    IsTurn (moment_of old) op (effect_of (around_of old.tree) (session_of old) op).0 (moment_of (held_with new files))
+    IsSessionStep (system_state_of old) op (effect_of (around_of old.tree) (session_of old) op).0 (system_state_of (held_with new files))
 unfolding later
 carried_answer old op mid new files sound asked e carried other asks fill creates silent opened =
     let works = not_failed old op e in
     let events = asked.reads.events in
-    let c = subst (λ t. IsCarried t op new) (asked_later old.tree mid asked) carried in
-    let is : record { tree = tree_seen new; files = files } ≡ (effect_of (around_of old.tree) (session_of old) op).1 = ap₂ (λ t f. record { tree = t; files = f }) (c.shows (around_of old.tree) old.files) (sym opened) in
-    let to = healthy_moment (held_with new files) c.works
+    let c = subst (λ t. IsAppliedOn t op new) (asked_later old.tree mid asked) carried in
+    let is : record { tree = tree_view new; files = files } ≡ (effect_of (around_of old.tree) (session_of old) op).1 = ap₂ (λ t f. record { tree = t; files = f }) (c.shows (around_of old.tree) old.files) (sym opened) in
+    let to = healthy_system (held_with new files) c.works
     ∙ ap₂ (λ (calls : List Event) (s : Session). record { disk = new.disk; calls = calls; state = Healthy s }) (c.called ∙ sym (append_assoc c.calls events old.tree.history)) is in
     let writes = reads_write_nothing old.tree.disk.blocks events asked.reads.each in
-    subst (λ m. IsTurn m op (effect_of (around_of old.tree) (session_of old) op).0 (moment_of (held_with new files))) (sym (healthy_moment old works))
-    (subst (λ m. IsTurn (record { disk = old.tree.disk; calls = old.tree.history; state = Healthy (session_of old) }) op (effect_of (around_of old.tree) (session_of old) op).0 m) (sym to)
-    (completed_turn old.tree.disk old.tree.pairs (session_of old) (around_of old.tree) op new.disk new.pairs (c.calls ++ events) old.tree.history (is_over old.tree old.files (sound works)) (not_refused old op e)
+    subst (λ m. IsSessionStep m op (effect_of (around_of old.tree) (session_of old) op).0 (system_state_of (held_with new files))) (sym (healthy_system old works))
+    (subst (λ m. IsSessionStep (record { disk = old.tree.disk; calls = old.tree.history; state = Healthy (session_of old) }) op (effect_of (around_of old.tree) (session_of old) op).0 m) (sym to)
+    (completed_step old.tree.disk old.tree.pairs (session_of old) (around_of old.tree) op new.disk new.pairs (c.calls ++ events) old.tree.history (is_over old.tree old.files (sound works)) (not_refused old op e)
     (record {
       geometry = c.geometry;
       other = other;
@@ -155,7 +155,7 @@ carried_answer old op mid new files sound asked e carried other asks fill create
 -- ---- calls
 
 -- checks that ended in an error
-pub ended : (old : Held) (op : Operation) (e : Error) (tree : Seen) → (old.tree.failed ≡ false → IsSound old.tree) → is_remount op ≡ false → EndsChecks (is_refusal e) old op e tree →
+pub ended : (old : Held) (op : Operation) (e : Error) (tree : TreeState) → (old.tree.failed ≡ false → IsSound old.tree) → is_remount op ≡ false → EndsChecks (is_refusal e) old op e tree →
     Answers old op (cond (is_refusal e) (Ok (ops.Refused (refusal_in e))) (Err e)) (held_with tree old.files)
 ended old op e tree sound other h = go (is_refusal e) h
   where
@@ -164,7 +164,7 @@ ended old op e tree sound other h = go (is_refusal e) h
     go false k = asking_fails e old op tree old.files k.1 k.0 k.2
 
 -- the same of a call that gives the error on
-pub ended_call : {B : Type 0} (old now : Held) (op : Operation) (reply : B → Reply) (e : Error) (tree : Seen) (r : Result B Error) → old ≡ now → (old.tree.failed ≡ false → IsSound old.tree) →
+pub ended_call : {B : Type 0} (old now : Held) (op : Operation) (reply : B → Reply) (e : Error) (tree : TreeState) (r : Result B Error) → old ≡ now → (old.tree.failed ≡ false → IsSound old.tree) →
     is_remount op ≡ false → EndsChecks (is_refusal e) old op e tree → r ≡ Err e → Answers now op (reply_in reply r) (held_with tree old.files)
 ended_call old now op reply e tree r same sound other h is =
     subst (λ z. Answers z op (reply_in reply r) (held_with tree old.files)) same
@@ -209,22 +209,22 @@ question_lays_nothing s ops.UsedCount e = refl
 question_lays_nothing s _ e = absurd (cc)
 
 -- a question that reads alone answer
-pub question_answers : {A : Type 0} (old : Held) (op : Operation) (reply : A → Reply) (P : A → Type 0) (checked : Result A Error) (tree : Seen) → (old.tree.failed ≡ false → IsSound old.tree) →
+pub question_answers : {A : Type 0} (old : Held) (op : Operation) (reply : A → Reply) (P : A → Type 0) (checked : Result A Error) (tree : TreeState) → (old.tree.failed ≡ false → IsSound old.tree) →
     is_question op ≡ true → needs_no_call (session_of old) op ≡ false → ((x : A) → P x → reply x ≡ (effect_of (around_of old.tree) (session_of old) op).0) →
     Checks old op P checked tree → Answers old op (reply_in reply checked) (held_with tree old.files)
 question_answers old op reply P (Err e) tree sound asks silent answer h = ended old op e tree sound (not_remount op asks) h
 question_answers old op reply P (Ok x) tree sound asks silent answer h =
-    subst (λ r. IsTurn (moment_of old) op r (moment_of (held_with tree old.files))) (sym (answer x h.2))
+    subst (λ r. IsSessionStep (system_state_of old) op r (system_state_of (held_with tree old.files))) (sym (answer x h.2))
     (asked_answer old op tree old.files sound h.0 h.1 (not_remount op asks) (question_only_asks (session_of old) op asks) (question_keeps (around_of old.tree) (session_of old) op asks) (question_recovers_nothing op asks) (question_lays_nothing (session_of old) op asks) (λ k. absurd (let l = sym silent ∙ k in cc)))
 
-pub sound_later : (old new : Seen) → IsSound old → IsAsked old new → IsSound new
+pub sound_later : (old new : TreeState) → IsSound old → IsAsked old new → IsSound new
 sound_later old new h asked =
     subst IsSound (sym asked.same) (again h)
   where
     again : IsSound old → IsSound (record old { history = new.history; cache = new.cache })
     again h = record { accepted = h.accepted; fits = h.fits; is_kept = h.is_kept; used = h.used; size = h.size }
 
-unsaved_later : (t : Seen) (history : List Event) (cache : CachedBlocks) (w : Writer) (u : Option Unsaved) → IsUnsavedIn t w u → IsUnsavedIn (record t { history = history; cache = cache }) w u
+unsaved_later : (t : TreeState) (history : List Event) (cache : CachedBlocks) (w : Writer) (u : Option Unsaved) → IsUnsavedIn t w u → IsUnsavedIn (record t { history = history; cache = cache }) w u
 unsaved_later t history cache w None h = tt
 unsaved_later t history cache w (Some u) h = record {
   over = record {
@@ -237,7 +237,7 @@ unsaved_later t history cache w (Some u) h = record {
   room = h.room;
 }
 
-written_later : (t : Seen) (history : List Event) (cache : CachedBlocks) (ws : List Writer) → AllByRecursion (IsWritten t) ws → AllByRecursion (IsWritten (record t { history = history; cache = cache })) ws
+written_later : (t : TreeState) (history : List Event) (cache : CachedBlocks) (ws : List Writer) → AllByRecursion (IsWritten t) ws → AllByRecursion (IsWritten (record t { history = history; cache = cache })) ws
 written_later t history cache [] h = h
 written_later t history cache (w ∷ ws) h = (record { writable = h.0.writable; settled = h.0.settled; there = h.0.there; size = same w.unsaved (h.0.size); changed = unsaved_later t history cache w w.unsaved h.0.changed }, written_later t history cache ws h.1)
   where
@@ -245,7 +245,7 @@ written_later t history cache (w ∷ ws) h = (record { writable = h.0.writable; 
     same None e = e
     same (Some u) e = e
 
-pub ready_later : (old new : Seen) (files : OpenFiles) → IsReady old files → IsAsked old new → IsReady new files
+pub ready_later : (old new : TreeState) (files : OpenFiles) → IsReady old files → IsAsked old new → IsReady new files
 ready_later old new files h asked =
     subst (λ t. IsReady t files) (sym asked.same) (again h)
   where
@@ -259,14 +259,14 @@ ready_later old new files h asked =
       read = h.read;
     }
 
-pub asked_ready : (old new : Seen) (files : OpenFiles) → (old.failed ≡ false → IsReady old files) → IsAsked old new → new.failed ≡ false → IsReady new files
-asked_ready old new files ready asked f = ready_later old new files (ready (sym (ap (λ (t : Seen). t.failed) asked.same) ∙ f)) asked
+pub asked_ready : (old new : TreeState) (files : OpenFiles) → (old.failed ≡ false → IsReady old files) → IsAsked old new → new.failed ≡ false → IsReady new files
+asked_ready old new files ready asked f = ready_later old new files (ready (sym (ap (λ (t : TreeState). t.failed) asked.same) ∙ f)) asked
 
-pub sound_by : (t : Seen) (files : OpenFiles) → (t.failed ≡ false → IsReady t files) → t.failed ≡ false → IsSound t
+pub sound_by : (t : TreeState) (files : OpenFiles) → (t.failed ≡ false → IsReady t files) → t.failed ≡ false → IsSound t
 sound_by t files ready f = (ready f).sound
 
 -- the checks leave a tree that is ready, or a broken one
-pub checked_ready : {A : Type 0} (t : Seen) (files : OpenFiles) (op : Operation) (P : A → Type 0) (r : Result A Error) (tree : Seen) → (t.failed ≡ false → IsReady t files) → Checks (held_of t files) op P r tree →
+pub checked_ready : {A : Type 0} (t : TreeState) (files : OpenFiles) (op : Operation) (P : A → Type 0) (r : Result A Error) (tree : TreeState) → (t.failed ≡ false → IsReady t files) → Checks (held_of t files) op P r tree →
     tree.failed ≡ false → IsReady tree files
 checked_ready t files op P (Ok x) tree ready h f = asked_ready t tree files ready h.0 f
 checked_ready t files op P (Err e) tree ready h f = go (is_refusal e) h
@@ -278,21 +278,21 @@ checked_ready t files op P (Err e) tree ready h f = go (is_refusal e) h
 -- ---- the open files over a tree that was only asked
 
 -- a session that failed has no files
-pub with_files : (old : Held) (op : Operation) (r : Result Reply Error) (tree : Seen) (f g : Files) → (tree.failed ≡ false → f ≡ g) → Answers old op r (held_with tree f) → Answers old op r (held_with tree g)
+pub with_files : (old : Held) (op : Operation) (r : Result Reply Error) (tree : TreeState) (f g : Files) → (tree.failed ≡ false → f ≡ g) → Answers old op r (held_with tree f) → Answers old op r (held_with tree g)
 with_files old op r tree f g same h = go tree.failed refl
   where
-    moved : (r : Result Reply Error) → moment_of (held_with tree f) ≡ moment_of (held_with tree g) → Answers old op r (held_with tree f) → Answers old op r (held_with tree g)
-    moved (Ok reply) e k = subst (λ m. IsTurn (moment_of old) op reply m) e k
-    moved (Err x) e k = subst (λ m. FailsBy x (moment_of old) op m) e k
+    moved : (r : Result Reply Error) → system_state_of (held_with tree f) ≡ system_state_of (held_with tree g) → Answers old op r (held_with tree f) → Answers old op r (held_with tree g)
+    moved (Ok reply) e k = subst (λ m. IsSessionStep (system_state_of old) op reply m) e k
+    moved (Err x) e k = subst (λ m. FailsBy x (system_state_of old) op m) e k
 
     go : (b : Bool) → tree.failed ≡ b → Answers old op r (held_with tree g)
     go false e = subst (λ z. Answers old op r (held_with tree z)) (same e) h
-    go true e = moved r (failed_moment (held_with tree f) e ∙ sym (failed_moment (held_with tree g) e)) h
+    go true e = moved r (failed_system (held_with tree f) e ∙ sym (failed_system (held_with tree g) e)) h
 
-pub files_asked : (old : Held) (op : Operation) (r : Result Reply Error) (t tree : Seen) (files : OpenFiles) → (tree.failed ≡ false → IsAsked t tree) → Answers old op r (held_with tree (files_seen t files)) → Answers old op r (held_of tree files)
-files_asked old op r t tree files asked h = with_files old op r tree (files_seen t files) (files_seen tree files) (λ e. sym (ap (λ z. files_seen z files) (asked e).same)) h
+pub files_asked : (old : Held) (op : Operation) (r : Result Reply Error) (t tree : TreeState) (files : OpenFiles) → (tree.failed ≡ false → IsAsked t tree) → Answers old op r (held_with tree (files_view t files)) → Answers old op r (held_of tree files)
+files_asked old op r t tree files asked h = with_files old op r tree (files_view t files) (files_view tree files) (λ e. sym (ap (λ z. files_view z files) (asked e).same)) h
 
-pub asked_by_checks : {A : Type 0} (t : Seen) (files : OpenFiles) (op : Operation) (P : A → Type 0) (r : Result A Error) (tree : Seen) → Checks (held_of t files) op P r tree → tree.failed ≡ false → IsAsked t tree
+pub asked_by_checks : {A : Type 0} (t : TreeState) (files : OpenFiles) (op : Operation) (P : A → Type 0) (r : Result A Error) (tree : TreeState) → Checks (held_of t files) op P r tree → tree.failed ≡ false → IsAsked t tree
 asked_by_checks t files op P (Ok x) tree h f = h.0
 asked_by_checks t files op P (Err e) tree h f = go (is_refusal e) h
   where
@@ -305,41 +305,41 @@ no_refusal_io e (inl h) = ap is_refusal h
 no_refusal_io e (inr h) = ap is_refusal h
 
 -- an error that is no refusal
-pub error_answers : (old : Held) (op : Operation) (e : Error) (new : Held) (reply : Reply) → (e ≡ Io) ⊎ (e ≡ NoMemory) → FailsBy e (moment_of old) op (moment_of new) →
+pub error_answers : (old : Held) (op : Operation) (e : Error) (new : Held) (reply : Reply) → (e ≡ Io) ⊎ (e ≡ NoMemory) → FailsBy e (system_state_of old) op (system_state_of new) →
     Answers old op (cond (is_refusal e) (Ok reply) (Err e)) new
 error_answers old op e new reply is fails = subst (λ b. Answers old op (cond b (Ok reply) (Err e)) new) (sym (no_refusal_io e is)) fails
 
 -- an operation that the tree carries out once no check refuses it
-pub done_answers : (K : Type 0) (old now : Held) (op : Operation) (mid new : Seen) (r : Result (Unit {0}) Error) → old ≡ now → (old.tree.failed ≡ false → IsSound old.tree) → IsAsked old.tree mid → refused_by old op ≡ None →
+pub done_answers : (K : Type 0) (old now : Held) (op : Operation) (mid new : TreeState) (r : Result (Unit {0}) Error) → old ≡ now → (old.tree.failed ≡ false → IsSound old.tree) → IsAsked old.tree mid → refused_by old op ≡ None →
     is_remount op ≡ false → only_asks (session_of old) op ≡ false → fills op ≡ false → creates_nothing (session_of old) op ≡ false → needs_no_call (session_of old) op ≡ false →
     (effect_of (around_of old.tree) (session_of old) op).0 ≡ ops.Done → (effect_of (around_of old.tree) (session_of old) op).1.files ≡ old.files → renames_to_itself op ≡ false → old.tree.writable ≡ true →
-    OnOk r K → (K → IsCarried mid op new) → OnErr r (IsBroken mid new) → IfErr r (IsError mid new) → Answers now op (reply_in (λ u. ops.Done) r) (held_with new old.files)
+    OnOk r K → (K → IsAppliedOn mid op new) → OnErr r (IsBroken mid new) → IfErr r (IsError mid new) → Answers now op (reply_in (λ u. ops.Done) r) (held_with new old.files)
 done_answers K old now op mid new r is sound asked e other asks fill creates silent done files itself writable carried from broken errors =
     subst (λ h. Answers h op (reply_in (λ u. ops.Done) r) (held_with new old.files)) is (go r carried broken errors)
   where
     go : (r : Result (Unit {0}) Error) → OnOk r K → OnErr r (IsBroken mid new) → IfErr r (IsError mid new) → Answers old op (reply_in (λ u. ops.Done) r) (held_with new old.files)
     go (Ok u) k broken errors =
-        subst (λ r. IsTurn (moment_of old) op r (moment_of (held_with new old.files))) done (carried_answer old op mid new old.files sound asked e (from k) other asks fill creates silent files)
+        subst (λ r. IsSessionStep (system_state_of old) op r (system_state_of (held_with new old.files))) done (carried_answer old op mid new old.files sound asked e (from k) other asks fill creates silent files)
     go (Err error) k broken errors =
         error_answers old op error _ (ops.Refused (refusal_in error)) errors.errors (broken_fails error old op mid new old.files (not_failed old op e) other asks itself (sound (not_failed old op e)) writable asked broken errors)
 
 -- a question's call
-pub question_call : {A : Type 0} (old now : Held) (op : Operation) (reply : A → Reply) (P : A → Type 0) (checked : Result A Error) (tree : Seen) → old ≡ now →
+pub question_call : {A : Type 0} (old now : Held) (op : Operation) (reply : A → Reply) (P : A → Type 0) (checked : Result A Error) (tree : TreeState) → old ≡ now →
     (old.tree.failed ≡ false → IsSound old.tree) → is_question op ≡ true → needs_no_call (session_of old) op ≡ false → ((x : A) → P x → reply x ≡ (effect_of (around_of old.tree) (session_of old) op).0) →
     Checks old op P checked tree → Answers now op (reply_in reply checked) (held_with tree old.files)
 question_call old now op reply P checked tree same sound asks silent answer h =
     subst (λ z. Answers z op (reply_in reply checked) (held_with tree old.files)) same (question_answers old op reply P checked tree sound asks silent answer h)
 
 -- an operation by reads alone that changes the open files
-pub files_answers : (old now : Held) (op : Operation) (tree : Seen) (files : Files) (reply : Reply) → old ≡ now → (old.tree.failed ≡ false → IsSound old.tree) → IsAsked old.tree tree → refused_by old op ≡ None →
+pub files_answers : (old now : Held) (op : Operation) (tree : TreeState) (files : Files) (reply : Reply) → old ≡ now → (old.tree.failed ≡ false → IsSound old.tree) → IsAsked old.tree tree → refused_by old op ≡ None →
     is_remount op ≡ false → only_asks (session_of old) op ≡ true → recovers op ≡ false → lays_out (session_of old) op ≡ false → needs_no_call (session_of old) op ≡ false →
-    effect_of (around_of old.tree) (session_of old) op ≡ (reply, record { tree = tree_seen old.tree; files = files }) → Answers now op (Ok reply) (held_with tree files)
+    effect_of (around_of old.tree) (session_of old) op ≡ (reply, record { tree = tree_view old.tree; files = files }) → Answers now op (Ok reply) (held_with tree files)
 files_answers old now op tree files reply same sound asked e other asks none still silent is =
     subst (λ z. Answers z op (Ok reply) (held_with tree files)) same
-    (subst (λ r. IsTurn (moment_of old) op r (moment_of (held_with tree files))) (ap (λ (z : Reply × Session). z.0) is)
+    (subst (λ r. IsSessionStep (system_state_of old) op r (system_state_of (held_with tree files))) (ap (λ (z : Reply × Session). z.0) is)
     (asked_answer old op tree files sound asked e other asks (ap (λ (z : Reply × Session). z.1) is) none still (λ k. absurd (let l = sym silent ∙ k in cc))))
 
-abbrev pub nothing_asked : (t : Seen) → IsAsked t t
+abbrev pub nothing_asked : (t : TreeState) → IsAsked t t
 nothing_asked t = record { same = refl; failed = λ e. refl; reads = record { events = []; extends = refl; each = tt }; no_fault = refl }
 
 -- a refusal without a call
@@ -353,12 +353,12 @@ ended_kept old now op reply e r same sound other h is =
 -- an operation without a call that changes the open files
 pub files_kept : (old now : Held) (op : Operation) (files : Files) (reply : Reply) → old ≡ now → (old.tree.failed ≡ false → IsSound old.tree) → refused_by old op ≡ None →
     is_remount op ≡ false → only_asks (session_of old) op ≡ true → recovers op ≡ false → lays_out (session_of old) op ≡ false → needs_no_call (session_of old) op ≡ false →
-    effect_of (around_of old.tree) (session_of old) op ≡ (reply, record { tree = tree_seen old.tree; files = files }) → Answers now op (Ok reply) (held_with old.tree files)
+    effect_of (around_of old.tree) (session_of old) op ≡ (reply, record { tree = tree_view old.tree; files = files }) → Answers now op (Ok reply) (held_with old.tree files)
 files_kept old now op files reply same sound e = files_answers old now op old.tree files reply same sound (nothing_asked old.tree) e
 
 -- a file opened for reading
-pub reader_answers : (old now : Held) (bytes : List ℕ) (flags : Flags) (tree : Seen) (files : Files) (r : Result ℕ Error) → old ≡ now → (old.tree.failed ≡ false → IsSound old.tree) → flags.write ≡ false →
-    IsAsked old.tree tree → refused_by old (ops.Open bytes flags) ≡ None → is_none (tree_seen old.tree (as_path bytes)) ≡ false →
+pub reader_answers : (old now : Held) (bytes : List ℕ) (flags : Flags) (tree : TreeState) (files : Files) (r : Result ℕ Error) → old ≡ now → (old.tree.failed ≡ false → IsSound old.tree) → flags.write ≡ false →
+    IsAsked old.tree tree → refused_by old (ops.Open bytes flags) ≡ None → is_none (tree_view old.tree (as_path bytes)) ≡ false →
     false ≡ is_err r → IfOk r (λ fd. fd ≡ free_number old.files) → OnOk r (files ≡ put_file old.files (free_number old.files) (Some (Reading (record { path = as_path bytes; position = 0 })))) →
     Answers now (ops.Open bytes flags) (reply_in ops.Opened r) (held_with tree files)
 reader_answers old now bytes flags tree files (Err e) same sound write asked e' there ok number added = absurd (cc)
@@ -366,21 +366,21 @@ reader_answers old now bytes flags tree files (Ok fd) same sound write asked e t
     files_answers old now (ops.Open bytes flags) tree files (ops.Opened fd) same sound asked e refl (ap not write) write write refl
     (ap₂ (λ n s. (ops.Opened n, s)) (sym number) (ap₂ (λ t f. record { tree = t; files = f }) kept (sym brought)))
   where
-    kept : (if is_none (tree_seen old.tree (as_path bytes)) then add_file (as_path bytes) (FileNode [] []) (tree_seen old.tree) else tree_seen old.tree) ≡ tree_seen old.tree
-    kept = ap (λ b. if b then add_file (as_path bytes) (FileNode [] []) (tree_seen old.tree) else tree_seen old.tree) there
+    kept : (if is_none (tree_view old.tree (as_path bytes)) then add_file (as_path bytes) (FileNode [] []) (tree_view old.tree) else tree_view old.tree) ≡ tree_view old.tree
+    kept = ap (λ b. if b then add_file (as_path bytes) (FileNode [] []) (tree_view old.tree) else tree_view old.tree) there
 
-    brought : files ≡ put_file old.files (free_number old.files) (Some (if flags.write then Writing (opened_writer (as_path bytes) flags (bytes_at (tree_seen old.tree (as_path bytes)))) else Reading (record { path = as_path bytes; position = 0 })))
+    brought : files ≡ put_file old.files (free_number old.files) (Some (if flags.write then Writing (opened_writer (as_path bytes) flags (bytes_at (tree_view old.tree (as_path bytes)))) else Reading (record { path = as_path bytes; position = 0 })))
     brought = added
-        ∙ ap (λ b. put_file old.files (free_number old.files) (Some (if b then Writing (opened_writer (as_path bytes) flags (bytes_at (tree_seen old.tree (as_path bytes)))) else Reading (record { path = as_path bytes; position = 0 })))) (sym write)
+        ∙ ap (λ b. put_file old.files (free_number old.files) (Some (if b then Writing (opened_writer (as_path bytes) flags (bytes_at (tree_view old.tree (as_path bytes)))) else Reading (record { path = as_path bytes; position = 0 })))) (sym write)
 
 -- no memory is found for it
-pub reader_fails : (old now : Held) (bytes : List ℕ) (flags : Flags) (tree left : Seen) (files : Files) (r : Result ℕ Error) → old ≡ now → IsAsked old.tree tree → refused_by old (ops.Open bytes flags) ≡ None →
+pub reader_fails : (old now : Held) (bytes : List ℕ) (flags : Flags) (tree left : TreeState) (files : Files) (r : Result ℕ Error) → old ≡ now → IsAsked old.tree tree → refused_by old (ops.Open bytes flags) ≡ None →
     true ≡ is_err r → IfErr r (λ e. e ≡ NoMemory) → left ≡ record tree { failed = true } → Answers now (ops.Open bytes flags) (reply_in ops.Opened r) (held_with left files)
 reader_fails old now bytes flags tree left files (Ok fd) same asked e ok error is = absurd (cc)
 reader_fails old now bytes flags tree left files (Err x) same asked e ok error is =
     subst (λ z. Answers z (ops.Open bytes flags) (cond (is_refusal x) (Ok (ops.Refused (refusal_in x))) (Err x)) (held_with left files)) same
     (subst (λ z. Answers old (ops.Open bytes flags) (cond (is_refusal z) (Ok (ops.Refused (refusal_in z))) (Err z)) (held_with left files)) (sym error)
-    (subst (λ t. FailsBy NoMemory (moment_of old) (ops.Open bytes flags) (moment_of (held_with t files))) (sym is)
+    (subst (λ t. FailsBy NoMemory (system_state_of old) (ops.Open bytes flags) (system_state_of (held_with t files))) (sym is)
     (memory_fails old (ops.Open bytes flags) tree files (not_failed old (ops.Open bytes flags) e) asked)))
 
 pub few_readers : (n : ℕ) → nat_le 16 n ≡ false → n < 16
@@ -389,44 +389,44 @@ few_readers n e = grind (arith, nat_tests)
 -- an operation that makes no call and leaves the tree
 pub kept_answer : (old now : Held) (op : Operation) (files : Files) (reply : Reply) → old ≡ now → (old.tree.failed ≡ false → IsSound old.tree) → refused_by old op ≡ None →
     is_remount op ≡ false → recovers op ≡ false → lays_out (session_of old) op ≡ false →
-    effect_of (around_of old.tree) (session_of old) op ≡ (reply, record { tree = tree_seen old.tree; files = files }) → Answers now op (Ok reply) (held_with old.tree files)
+    effect_of (around_of old.tree) (session_of old) op ≡ (reply, record { tree = tree_view old.tree; files = files }) → Answers now op (Ok reply) (held_with old.tree files)
 kept_answer old now op files reply same sound e other none still is =
     let works = not_failed old op e in
-    let to = healthy_moment (held_with old.tree files) works
+    let to = healthy_system (held_with old.tree files) works
     ∙ ap (λ (s : Session). record { disk = old.tree.disk; calls = old.tree.history; state = Healthy s }) (sym (ap (λ (z : Reply × Session). z.1) is)) in
     subst (λ z. Answers z op (Ok reply) (held_with old.tree files)) same
-    (subst (λ r. IsTurn (moment_of old) op r (moment_of (held_with old.tree files))) (ap (λ (z : Reply × Session). z.0) is)
-    (subst (λ m. IsTurn m op (effect_of (around_of old.tree) (session_of old) op).0 (moment_of (held_with old.tree files))) (sym (healthy_moment old works))
-    (subst (λ m. IsTurn (record { disk = old.tree.disk; calls = old.tree.history; state = Healthy (session_of old) }) op (effect_of (around_of old.tree) (session_of old) op).0 m) (sym to)
-    (idle_turn old.tree.disk old.tree.pairs (session_of old) (around_of old.tree) op [] old.tree.history (is_over old.tree old.files (sound works)) (not_refused old op e) other
+    (subst (λ r. IsSessionStep (system_state_of old) op r (system_state_of (held_with old.tree files))) (ap (λ (z : Reply × Session). z.0) is)
+    (subst (λ m. IsSessionStep m op (effect_of (around_of old.tree) (session_of old) op).0 (system_state_of (held_with old.tree files))) (sym (healthy_system old works))
+    (subst (λ m. IsSessionStep (record { disk = old.tree.disk; calls = old.tree.history; state = Healthy (session_of old) }) op (effect_of (around_of old.tree) (session_of old) op).0 m) (sym to)
+    (idle_step old.tree.disk old.tree.pairs (session_of old) (around_of old.tree) op [] old.tree.history (is_over old.tree old.files (sound works)) (not_refused old op e) other
     (ap (λ (z : Reply × Session). z.1.tree) is) none still (refl, refl) (λ k. refl)))))
 
 -- ---- files while the tree changes
 
 -- every file is
-abbrev pub KeepsFiles : Seen → Seen → Type 0
-KeepsFiles t s = (p : Path) → is_file (tree_seen t p) ≡ true → (is_file (tree_seen s p) ≡ true) × (bytes_at (tree_seen s p) ≡ bytes_at (tree_seen t p))
+abbrev pub KeepsFiles : TreeState → TreeState → Type 0
+KeepsFiles t s = (p : Path) → is_file (tree_view t p) ≡ true → (is_file (tree_view s p) ≡ true) × (bytes_at (tree_view s p) ≡ bytes_at (tree_view t p))
 
 unsaved_none : (u : Option Unsaved) (b : Bool) → (is_some u || b) ≡ false → (u ≡ None) × (b ≡ false)
 unsaved_none None b e = (refl, e)
 unsaved_none (Some u) b e = absurd (cc)
 
-pub keeps_writers : (t s : Seen) (ws : List Writer) → KeepsFiles t s → AllByRecursion (IsWritten t) ws → KeepsWriters t s ws
+pub keeps_writers : (t s : TreeState) (ws : List Writer) → KeepsFiles t s → AllByRecursion (IsWritten t) ws → KeepsWriters t s ws
 keeps_writers t s [] keeps h = tt
 keeps_writers t s (w ∷ ws) keeps h = (keeps w.path h.0.there, keeps_writers t s ws keeps h.1)
 
-pub kept_files : (t s : Seen) (files : OpenFiles) → has_unsaved files ≡ false → KeepsWriters t s (writers_in files) → files_seen t files ≡ files_seen s files
+pub kept_files : (t s : TreeState) (files : OpenFiles) → has_unsaved files ≡ false → KeepsWriters t s (writers_in files) → files_view t files ≡ files_view s files
 kept_files t s [] e k = refl
 kept_files t s (None ∷ fs) e k = ap (λ z. None ∷ z) (kept_files t s fs e k)
-kept_files t s (Some (file.Reading r) ∷ fs) e k = ap (λ z. Some (Reading (reader_seen r)) ∷ z) (kept_files t s fs e k)
+kept_files t s (Some (file.Reading r) ∷ fs) e k = ap (λ z. Some (Reading (reader_view r)) ∷ z) (kept_files t s fs e k)
 kept_files t s (Some (file.Writing w) ∷ fs) e k =
     let u = unsaved_none w.unsaved (has_unsaved fs) e in
     ap₂ (λ x z. Some (Writing x) ∷ z) (one w.unsaved u.0) (kept_files t s fs u.1 k.1)
   where
-    one : (u : Option Unsaved) → w.unsaved ≡ None → writer_seen t w ≡ writer_seen s w
+    one : (u : Option Unsaved) → w.unsaved ≡ None → writer_view t w ≡ writer_view s w
     one u n = rw n (ap (λ (bytes : List ℕ). record { path = w.path; contents = bytes; position = w.position; append = w.appends; dirty = false; turned = false; last_end = None }) (sym k.0.1))
 
-written_still : (t s : Seen) (ws : List Writer) → list_any (λ w. is_some w.unsaved) ws ≡ false → s.writable ≡ true → gstate_of s.pairs ≡ no_gstate → KeepsWriters t s ws →
+written_still : (t s : TreeState) (ws : List Writer) → list_any (λ w. is_some w.unsaved) ws ≡ false → s.writable ≡ true → gstate_of s.pairs ≡ no_gstate → KeepsWriters t s ws →
     AllByRecursion (IsWritten t) ws → AllByRecursion (IsWritten s) ws
 written_still t s [] e writable settled k h = tt
 written_still t s (w ∷ ws) e writable settled k h =
@@ -437,7 +437,7 @@ written_still t s (w ∷ ws) e writable settled k h =
     same n = ap (λ z. length (bytes_of s w.path z)) n ∙ ap (λ bs. length bs) k.0.1 ∙ sym (ap (λ z. length (bytes_of t w.path z)) n) ∙ h.0.size
 
 -- an operation leaves a session ready without a changed writer
-pub carried_ready : (old new : Seen) (files : OpenFiles) (op : Operation) → ((p : Path) → takes_or_moves op p ≡ false) → IsReady old files → has_unsaved files ≡ false → KeepsWriters old new (writers_in files) → IsCarried old op new → IsReady new files
+pub carried_ready : (old new : TreeState) (files : OpenFiles) (op : Operation) → ((p : Path) → takes_or_moves op p ≡ false) → IsReady old files → has_unsaved files ≡ false → KeepsWriters old new (writers_in files) → IsAppliedOn old op new → IsReady new files
 carried_ready old new files op off ready e keeps carried = record {
   sound = carried.sound;
   called = still_called old.history new.history carried.calls carried.called ready.called;
@@ -451,7 +451,7 @@ carried_ready old new files op off ready e keeps carried = record {
     never b h = let k = in_flight-freed old.map b h in let none = ready.idle e in absurd (omega (arith, k, none))
 
 -- what an operation spares, it does later
-spares_later : (old new : Seen) (op : Operation) (files : OpenFiles) → IsAsked old new → SparesFiles old op files → SparesFiles new op files
+spares_later : (old new : TreeState) (op : Operation) (files : OpenFiles) → IsAsked old new → SparesFiles old op files → SparesFiles new op files
 spares_later old new op files asked h =
     subst (λ t. SparesFiles t op files) (sym asked.same) (again h)
   where
@@ -459,13 +459,13 @@ spares_later old new op files asked h =
     again h = record { apart = h.apart; unread = h.unread; room = h.room }
 
 -- what an operation leaves once no check refuses it
-pub done_left : (K : Type 0) (old mid new : Seen) (files : OpenFiles) (op : Operation) (r : Result (Unit {0}) Error) → FilesStay → (old.failed ≡ false → IsReady old files) → IsAsked old mid → refused_by (held_of old files) op ≡ None →
-    (IsReady old files → SparesFiles old op files) → (IsReady mid files → IsCarried mid op new → KeepsWriters mid new (writers_in files)) → OnOk r K → (K → IsCarried mid op new) → OnErr r (IsBroken mid new) → new.failed ≡ false → AreLeft old new files
+pub done_left : (K : Type 0) (old mid new : TreeState) (files : OpenFiles) (op : Operation) (r : Result (Unit {0}) Error) → FilesStay → (old.failed ≡ false → IsReady old files) → IsAsked old mid → refused_by (held_of old files) op ≡ None →
+    (IsReady old files → SparesFiles old op files) → (IsReady mid files → IsAppliedOn mid op new → KeepsWriters mid new (writers_in files)) → OnOk r K → (K → IsAppliedOn mid op new) → OnErr r (IsBroken mid new) → new.failed ≡ false → AreLeft old new files
 done_left K old mid new files op (Ok u) stay ready asked e spares keeps k carried broken works =
     let was = ready (not_failed (held_of old files) op e) in
     let now = ready_later old mid files was asked in
     let left = stay mid new op files now (spares_later old mid op files asked (spares was)) (keeps now (carried k)) (carried k) in
-    record { ready = left.ready; same = sym (ap (λ z. files_seen z files) asked.same) ∙ left.same }
+    record { ready = left.ready; same = sym (ap (λ z. files_view z files) asked.same) ∙ left.same }
 done_left K old mid new files op (Err x) stay ready asked e spares keeps k carried broken works = absurd (let l = sym broken.failed ∙ works in cc)
 
 -- it is about no writer's file

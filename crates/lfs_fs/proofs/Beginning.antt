@@ -12,13 +12,13 @@ use Rattle.lfs_model.specs.Writers.{opened_writer}
 use Rattle.lfs_model.specs.Effects.{size_of}
 use Rattle.lfs_model.specs.Tree.{Node, FileNode, DirectoryNode, Path}
 use Rattle.lfs_tree.specs.OpenContents.{IsOver, IsSettleable, bytes_held, kept_of}
-use Rattle.lfs_tree.specs.Seen.{IsCarried, Seen, around_of, tree_seen}
+use Rattle.lfs_tree.specs.TreeState.{IsAppliedOn, TreeState, around_of, tree_view}
 use Rattle.lfs_writer.specs.Contents.{form_of}
 use Rattle.lfs_writer.specs.Form as shape_of
-use Rattle.lfs_writer.specs.Form.{IsKept}
+use Rattle.lfs_writer.specs.Form.{IsWriterForm}
 use Rattle.lfs_writer.specs.declared.contents.Contents.{Contents}
 use Rattle.lfs_fs.specs.Changing.{CanBegin, IsBegunAs}
-use Rattle.lfs_fs.specs.FileSeen.{held_for}
+use Rattle.lfs_fs.specs.FileView.{held_for}
 use Rattle.lfs_fs.specs.declared.files.Writer.{Writer}
 use Rattle.lfs_model.proofs.Paths.{path_itself}
 use Rattle.lfs_model.specs.TreeEdits.{added, change_at, last_name, parent_of, with_name, with_names}
@@ -37,18 +37,18 @@ file_there (Some (FileNode attributes bytes)) size e = (refl, ap or_else e)
     or_else (Some z) = z
 file_there (Some (DirectoryNode attributes names)) size e = absurd (cc)
 
-pub is_file_there : (t : Seen) (path : Path) (size : ℕ) (truncates : Bool) → CanBegin t path size truncates → is_file (tree_seen t path) ≡ true
-is_file_there t path size truncates can = (file_there (tree_seen t path) size can.there).0
+pub is_file_there : (t : TreeState) (path : Path) (size : ℕ) (truncates : Bool) → CanBegin t path size truncates → is_file (tree_view t path) ≡ true
+is_file_there t path size truncates can = (file_there (tree_view t path) size can.there).0
 
 -- The file is there in an image of which nothing is to be recovered, with room for two blocks where it is to be written anew.
-pub record IsAtRest (t : Seen) (path : Path) (size : ℕ) (truncates : Bool) : Type 0 where
+pub record IsAtRest (t : TreeState) (path : Path) (size : ℕ) (truncates : Bool) : Type 0 where
   pub writable : t.writable ≡ true
   pub settled : gstate_of t.pairs ≡ no_gstate
-  pub there : size_of (tree_seen t path) ≡ Some size
+  pub there : size_of (tree_view t path) ≡ Some size
   pub room : truncates ≡ true → 1 ≤ size → length (around_of t).used + 2 ≤ block_count t.disk
 
 -- so it is once the image is recovered, which takes no block
-pub at_rest : (t new : Seen) (path : Path) (size : ℕ) (truncates : Bool) → CanBegin t path size truncates → IsCarried t ops.Recover new → length (around_of new).used ≤ length (around_of t).used + 0 → IsAtRest new path size truncates
+pub at_rest : (t new : TreeState) (path : Path) (size : ℕ) (truncates : Bool) → CanBegin t path size truncates → IsAppliedOn t ops.Recover new → length (around_of new).used ≤ length (around_of t).used + 0 → IsAtRest new path size truncates
 at_rest t new path size truncates can carried few = record {
   writable = carried.writable;
   settled = carried.recovered.gstate;
@@ -61,28 +61,28 @@ no_elements [] e = refl
 no_elements (x ∷ xs) e = absurd (let k = sym (lt-ltb 0 (length (x ∷ xs)) (omega arith)) ∙ e in cc)
 
 -- one with the bytes of the file
-pub begun_clean : (t : Seen) (path : Path) (size : ℕ) (flags : Flags) → IsAtRest t path size flags.truncate → (flags.truncate && nat_lt 0 size) ≡ false →
-    IsBegunAs t (opened_writer path flags (bytes_at (tree_seen t path))) (record { path = path; position = 0; size = size; appends = flags.append; unsaved = None })
+pub begun_clean : (t : TreeState) (path : Path) (size : ℕ) (flags : Flags) → IsAtRest t path size flags.truncate → (flags.truncate && nat_lt 0 size) ≡ false →
+    IsBegunAs t (opened_writer path flags (bytes_at (tree_view t path))) (record { path = path; position = 0; size = size; appends = flags.append; unsaved = None })
 begun_clean t path size flags can none = record {
   seen = seen flags.truncate none;
   written = record { writable = can.writable; settled = can.settled; there = file.0; size = file.1; changed = tt };
 }
   where
-    file : (is_file (tree_seen t path) ≡ true) × (length (bytes_at (tree_seen t path)) ≡ size)
-    file = file_there (tree_seen t path) size can.there
+    file : (is_file (tree_view t path) ≡ true) × (length (bytes_at (tree_view t path)) ≡ size)
+    file = file_there (tree_view t path) size can.there
 
     made : List ℕ → Bool → session.Writer
     made xs dirty = record { path = path; contents = xs; position = 0; append = flags.append; dirty = dirty; turned = false; last_end = None }
 
-    seen : (b : Bool) → (b && nat_lt 0 size) ≡ false → made (bytes_at (tree_seen t path)) false ≡ made (cond b [] (bytes_at (tree_seen t path))) (b && nat_lt 0 (length (bytes_at (tree_seen t path))))
+    seen : (b : Bool) → (b && nat_lt 0 size) ≡ false → made (bytes_at (tree_view t path)) false ≡ made (cond b [] (bytes_at (tree_view t path))) (b && nat_lt 0 (length (bytes_at (tree_view t path))))
     seen false e = refl
     seen true e =
         let few = ap (nat_lt 0) file.1 ∙ e in
-        ap₂ made (no_elements (bytes_at (tree_seen t path)) few) (sym few)
+        ap₂ made (no_elements (bytes_at (tree_view t path)) few) (sym few)
 
 -- one without bytes, where the file has some
-pub begun_anew : (t : Seen) (path : Path) (size : ℕ) (flags : Flags) (c : Contents) → IsAtRest t path size flags.truncate → flags.truncate ≡ true → 1 ≤ size → IsOver t path c → bytes_held (kept_of t) c ≡ [] → form_of c ≡ shape_of.InMemory 0 →
-    IsBegunAs t (opened_writer path flags (bytes_at (tree_seen t path))) (record { path = path; position = 0; size = 0; appends = flags.append; unsaved = Some (record { contents = c; has_turned = false; last_end = None }) })
+pub begun_anew : (t : TreeState) (path : Path) (size : ℕ) (flags : Flags) (c : Contents) → IsAtRest t path size flags.truncate → flags.truncate ≡ true → 1 ≤ size → IsOver t path c → bytes_held (kept_of t) c ≡ [] → form_of c ≡ shape_of.InMemory 0 →
+    IsBegunAs t (opened_writer path flags (bytes_at (tree_view t path))) (record { path = path; position = 0; size = 0; appends = flags.append; unsaved = Some (record { contents = c; has_turned = false; last_end = None }) })
 begun_anew t path size flags c can truncates some over none shape = record {
   seen = seen;
   written = record {
@@ -92,15 +92,15 @@ begun_anew t path size flags c can truncates some over none shape = record {
     size = ap (λ xs. length xs) none;
     changed = record {
       over = over;
-      kept = subst (λ f. IsKept t.disk.block_size f (made (bytes_held (kept_of t) c) true)) (sym shape) kept;
+      kept = subst (λ f. IsWriterForm t.disk.block_size f (made (bytes_held (kept_of t) c) true)) (sym shape) kept;
       form = subst (IsSettleable (inline_limit t.disk.block_size)) (sym shape) (omega arith);
       room = subst (λ n. length (around_of t).used + n ≤ block_count t.disk) (sym two) (can.room truncates some);
     };
   };
 }
   where
-    file : (is_file (tree_seen t path) ≡ true) × (length (bytes_at (tree_seen t path)) ≡ size)
-    file = file_there (tree_seen t path) size can.there
+    file : (is_file (tree_view t path) ≡ true) × (length (bytes_at (tree_view t path)) ≡ size)
+    file = file_there (tree_view t path) size can.there
 
     made : List ℕ → Bool → session.Writer
     made xs dirty = record { path = path; contents = xs; position = 0; append = flags.append; dirty = dirty; turned = false; last_end = None }
@@ -108,45 +108,45 @@ begun_anew t path size flags c can truncates some over none shape = record {
     small : 0 ≤ inline_limit t.disk.block_size
     small = omega arith
 
-    kept : IsKept t.disk.block_size (shape_of.InMemory 0) (made (bytes_held (kept_of t) c) true)
+    kept : IsWriterForm t.disk.block_size (shape_of.InMemory 0) (made (bytes_held (kept_of t) c) true)
     kept = record { size = sym (ap (λ xs. length xs) none); fits = small }
 
     two : held_for t.disk.block_size false 0 ≡ 2
     two = ap (λ z. 2 + 1 * cond z 0 (blocks_for t.disk.block_size 0)) (le-leb 0 (inline_limit t.disk.block_size) (omega arith))
 
-    seen : made (bytes_held (kept_of t) c) true ≡ made (cond flags.truncate [] (bytes_at (tree_seen t path))) (flags.truncate && nat_lt 0 (length (bytes_at (tree_seen t path))))
+    seen : made (bytes_held (kept_of t) c) true ≡ made (cond flags.truncate [] (bytes_at (tree_view t path))) (flags.truncate && nat_lt 0 (length (bytes_at (tree_view t path))))
     seen =
         ap (λ xs. made xs true) none
-        ∙ ap (λ b. made [] b) (sym (lt-ltb 0 (length (bytes_at (tree_seen t path))) (omega (arith, file.1, some))))
-        ∙ sym (ap (λ z. made (cond z [] (bytes_at (tree_seen t path))) (z && nat_lt 0 (length (bytes_at (tree_seen t path))))) truncates)
+        ∙ ap (λ b. made [] b) (sym (lt-ltb 0 (length (bytes_at (tree_view t path))) (omega (arith, file.1, some))))
+        ∙ sym (ap (λ z. made (cond z [] (bytes_at (tree_view t path))) (z && nat_lt 0 (length (bytes_at (tree_view t path))))) truncates)
 
 -- ---- once the image is recovered
 
-pub begun_as_is : (t new : Seen) (path : Path) (size : ℕ) (flags : Flags) (appends : Bool) → CanBegin t path size flags.truncate → IsCarried t ops.Recover new → length (around_of new).used ≤ length (around_of t).used + 0 →
+pub begun_as_is : (t new : TreeState) (path : Path) (size : ℕ) (flags : Flags) (appends : Bool) → CanBegin t path size flags.truncate → IsAppliedOn t ops.Recover new → length (around_of new).used ≤ length (around_of t).used + 0 →
     (flags.truncate && nat_lt 0 size) ≡ false → appends ≡ flags.append →
-    IsBegunAs new (opened_writer path flags (bytes_at (tree_seen t path))) (record { path = path; position = 0; size = size; appends = appends; unsaved = None })
+    IsBegunAs new (opened_writer path flags (bytes_at (tree_view t path))) (record { path = path; position = 0; size = size; appends = appends; unsaved = None })
 begun_as_is t new path size flags appends can carried few none are =
     subst (λ (z : Tree). IsBegunAs new (opened_writer path flags (bytes_at (z path))) (record { path = path; position = 0; size = size; appends = appends; unsaved = None })) (carried.shows (around_of t) [])
-    (subst (λ b. IsBegunAs new (opened_writer path flags (bytes_at (tree_seen new path))) (record { path = path; position = 0; size = size; appends = b; unsaved = None })) (sym are)
+    (subst (λ b. IsBegunAs new (opened_writer path flags (bytes_at (tree_view new path))) (record { path = path; position = 0; size = size; appends = b; unsaved = None })) (sym are)
     (begun_clean new path size flags (at_rest t new path size flags.truncate can carried few) none))
 
-pub begun_empty : (t new : Seen) (path : Path) (size : ℕ) (flags : Flags) (appends : Bool) (c : Contents) → CanBegin t path size flags.truncate → IsCarried t ops.Recover new → length (around_of new).used ≤ length (around_of t).used + 0 →
+pub begun_empty : (t new : TreeState) (path : Path) (size : ℕ) (flags : Flags) (appends : Bool) (c : Contents) → CanBegin t path size flags.truncate → IsAppliedOn t ops.Recover new → length (around_of new).used ≤ length (around_of t).used + 0 →
     flags.truncate ≡ true → 1 ≤ size → appends ≡ flags.append → IsOver new path c → bytes_held (kept_of new) c ≡ bytes_held (kept_of t) c → bytes_held (kept_of t) c ≡ [] → form_of c ≡ shape_of.InMemory 0 →
-    IsBegunAs new (opened_writer path flags (bytes_at (tree_seen t path))) (record { path = path; position = 0; size = 0; appends = appends; unsaved = Some (record { contents = c; has_turned = false; last_end = None }) })
+    IsBegunAs new (opened_writer path flags (bytes_at (tree_view t path))) (record { path = path; position = 0; size = 0; appends = appends; unsaved = Some (record { contents = c; has_turned = false; last_end = None }) })
 begun_empty t new path size flags appends c can carried few truncates some are over same none shape =
     subst (λ (z : Tree). IsBegunAs new (opened_writer path flags (bytes_at (z path))) (begun appends)) (carried.shows (around_of t) [])
-    (subst (λ b. IsBegunAs new (opened_writer path flags (bytes_at (tree_seen new path))) (begun b)) (sym are)
+    (subst (λ b. IsBegunAs new (opened_writer path flags (bytes_at (tree_view new path))) (begun b)) (sym are)
     (begun_anew new path size flags c (at_rest t new path size flags.truncate can carried few) truncates some over (same ∙ none) shape))
   where
     begun : Bool → Writer
     begun b = record { path = path; position = 0; size = 0; appends = b; unsaved = Some (record { contents = c; has_turned = false; last_end = None }) }
 
 -- a file that is made is empty
-made_node : (t new : Seen) (bytes : List ℕ) (flags : Flags) (path : Path) → as_path bytes ≡ path → CanCreate t path → IsCarried t (ops.Open bytes flags) new → tree_seen new path ≡ Some (FileNode [] [])
+made_node : (t new : TreeState) (bytes : List ℕ) (flags : Flags) (path : Path) → as_path bytes ≡ path → CanCreate t path → IsAppliedOn t (ops.Open bytes flags) new → tree_view new path ≡ Some (FileNode [] [])
 made_node t new bytes flags path is can carried =
-    ap (λ (z : Tree). z path) (carried.shows (around_of t) [] ∙ ap (λ p. if is_none (tree_seen t p) then added p (FileNode [] []) (tree_seen t) else tree_seen t) is)
-    ∙ ap (λ b. (if b then added path (FileNode [] []) (tree_seen t) else tree_seen t) path) (nothing (tree_seen t path) can.nothing)
-    ∙ ap (λ b. if b then Some (FileNode [] []) else change_at (parent_of path) (with_names (with_name (last_name path))) (tree_seen t) path) (path_itself path)
+    ap (λ (z : Tree). z path) (carried.shows (around_of t) [] ∙ ap (λ p. if is_none (tree_view t p) then added p (FileNode [] []) (tree_view t) else tree_view t) is)
+    ∙ ap (λ b. (if b then added path (FileNode [] []) (tree_view t) else tree_view t) path) (nothing (tree_view t path) can.nothing)
+    ∙ ap (λ b. if b then Some (FileNode [] []) else change_at (parent_of path) (with_names (with_name (last_name path))) (tree_view t) path) (path_itself path)
   where
     nothing : (n : Option Node) → is_some n ≡ false → is_none n ≡ true
     nothing None e = refl
@@ -160,7 +160,7 @@ no_bytes : (b : Bool) (xs : List ℕ) → xs ≡ [] → xs ≡ (if b then [] els
 no_bytes true xs e = e
 no_bytes false xs e = e
 
-pub begun_made : (t new : Seen) (bytes : List ℕ) (given : Flags) (path : Path) (flags : Flags) (appends : Bool) → as_path bytes ≡ path → CanCreate t path → IsCarried t (ops.Open bytes given) new → appends ≡ flags.append →
+pub begun_made : (t new : TreeState) (bytes : List ℕ) (given : Flags) (path : Path) (flags : Flags) (appends : Bool) → as_path bytes ≡ path → CanCreate t path → IsAppliedOn t (ops.Open bytes given) new → appends ≡ flags.append →
     IsBegunAs new (opened_writer path flags []) (record { path = path; position = 0; size = 0; appends = appends; unsaved = None })
 begun_made t new bytes given path flags appends is can carried appends_is = record {
   seen = ap₂ (λ xs b. made xs b false) (ap bytes_at node) appends_is ∙ ap₂ (λ xs d. made xs flags.append d) (no_bytes flags.truncate [] refl) (none_dirty flags.truncate);
@@ -173,7 +173,7 @@ begun_made t new bytes given path flags appends is can carried appends_is = reco
   };
 }
   where
-    node : tree_seen new path ≡ Some (FileNode [] [])
+    node : tree_view new path ≡ Some (FileNode [] [])
     node = made_node t new bytes given path is can carried
 
     made : List ℕ → Bool → Bool → session.Writer

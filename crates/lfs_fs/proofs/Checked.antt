@@ -15,7 +15,7 @@ use Rattle.lfs_model.specs.Effects.{size_of}
 use Rattle.lfs_device.specs.declared.error.Error.{Error}
 use Rattle.lfs_lookup.specs.Refusals.{error_for, refusal_in}
 use Rattle.lfs_fs.specs.Replies.{passed_with}
-use Rattle.lfs_tree.specs.Seen.{Seen, tree_seen, around_of, IsAsked, IsBrokenAsking, IsError}
+use Rattle.lfs_tree.specs.TreeState.{TreeState, tree_view, around_of, IsAsked, IsBrokenAsking, IsError}
 use Rattle.lfs_tree.specs.Allowed.{CanMake}
 use Rattle.lfs_model.specs.BlockSets.{in_flight_count}
 use Rattle.lfs_lookup.specs.FileContents.{AreContentsAt}
@@ -30,22 +30,22 @@ use Rattle.lfs_fs.proofs.Errors.{error_refuses, refusal_again}
 use Rattle.lfs_fs.proofs.Late.{mkdir_late, reader_late, stat_late}
 
 -- a call failed on the way
-pub lookup_failed : {A : Type 0} (h : Held) (op : Operation) (P : A → Type 0) (e : Error) (tree : Seen) (r : Result A Error) → false ≡ h.tree.failed → IsBrokenAsking h.tree tree → IsError h.tree tree e →
+pub lookup_failed : {A : Type 0} (h : Held) (op : Operation) (P : A → Type 0) (e : Error) (tree : TreeState) (r : Result A Error) → false ≡ h.tree.failed → IsBrokenAsking h.tree tree → IsError h.tree tree e →
     ComesLate h op → r ≡ Err e → Checks h op P r tree
 lookup_failed h op P e tree r works broken error late is =
     subst (λ z. Checks h op P z tree) (sym is)
     (subst (λ b. EndsChecks b h op e tree) (sym (no_refusal_io e error.errors)) (broken, sym works, error, late))
 
 -- the last checks decide
-pub decided : {A : Type 0} (h : Held) (op : Operation) (P : A → Type 0) (x : A) (first : Option Refusal) (tree : Seen) (r : Result A Error) → IsAsked h.tree tree → ComesLate h op → refused_by h op ≡ first → (first ≡ None → P x) →
+pub decided : {A : Type 0} (h : Held) (op : Operation) (P : A → Type 0) (x : A) (first : Option Refusal) (tree : TreeState) (r : Result A Error) → IsAsked h.tree tree → ComesLate h op → refused_by h op ≡ first → (first ≡ None → P x) →
     r ≡ passed_with first x → Checks h op P r tree
 decided h op P x None tree r asked late e p is = subst (λ z. Checks h op P z tree) (sym is) (asked, e, p refl)
 decided h op P x (Some refusal) tree r asked late e p is =
     subst (λ z. Checks h op P z tree) (sym is)
-    (subst (λ b. EndsChecks b h op (error_for refusal) tree) (sym (error_refuses refusal)) (asked, told, λ once. absurd (let k = sym (late _ told) ∙ once in cc)))
+    (subst (λ b. EndsChecks b h op (error_for refusal) tree) (sym (error_refuses refusal)) (asked, reported, λ once. absurd (let k = sym (late _ reported) ∙ once in cc)))
   where
-    told : refused_by h op ≡ Some (refusal_in (error_for refusal))
-    told = e ∙ ap (λ z. Some z) (sym (refusal_again refusal))
+    reported : refused_by h op ≡ Some (refusal_in (error_for refusal))
+    reported = e ∙ ap (λ z. Some z) (sym (refusal_again refusal))
 
 pub both : {A : Type 0} {x y : A} {xs ys : List A} → x ≡ y → xs ≡ ys → x ∷ xs ≡ y ∷ ys
 both e es = ap₂ (λ x xs. x ∷ xs) e es
@@ -57,29 +57,29 @@ pub there : {A : Type 0} → (o : Option A) → is_some o ≡ not (is_none o)
 there None = refl
 there (Some x) = refl
 
-stat_refused : (h : Held) (bytes : List ℕ) (p : Path) (found : Finding) → h.tree.failed ≡ false → path_of bytes ≡ Some p → Finds (tree_seen h.tree) p found →
+stat_refused : (h : Held) (bytes : List ℕ) (p : Path) (found : Finding) → h.tree.failed ≡ false → path_of bytes ≡ Some p → Finds (tree_view h.tree) p found →
     refused_by h (ops.Stat bytes) ≡ first_of (found.fault ∷ refuse_if (is_absent found.node) ops.NoEnt ∷ [])
 stat_refused h bytes p found works is f = rw (works, is, f.parents, f.nothing) refl
 
-size_found : (h : Held) (bytes : List ℕ) (p : Path) (found : Finding) → path_of bytes ≡ Some p → Finds (tree_seen h.tree) p found → size_of (tree_seen h.tree (as_path bytes)) ≡ size_in found.node
-size_found h bytes p found is f = ap (λ z. size_of (tree_seen h.tree (unwrap_or z []))) is ∙ f.sizes
+size_found : (h : Held) (bytes : List ℕ) (p : Path) (found : Finding) → path_of bytes ≡ Some p → Finds (tree_view h.tree) p found → size_of (tree_view h.tree (as_path bytes)) ≡ size_in found.node
+size_found h bytes p found is f = ap (λ z. size_of (tree_view h.tree (unwrap_or z []))) is ∙ f.sizes
 
-pub stat_checked : (h : Held) (bytes : List ℕ) (p : Path) (found : Finding) (tree : Seen) (absent : Bool) (a : Option Refusal) (size : Option ℕ) (r : Result (Option ℕ) Error) →
-    false ≡ h.tree.failed → Some p ≡ path_of bytes → IsAsked h.tree tree → Finds (tree_seen h.tree) p found →
+pub stat_checked : (h : Held) (bytes : List ℕ) (p : Path) (found : Finding) (tree : TreeState) (absent : Bool) (a : Option Refusal) (size : Option ℕ) (r : Result (Option ℕ) Error) →
+    false ≡ h.tree.failed → Some p ≡ path_of bytes → IsAsked h.tree tree → Finds (tree_view h.tree) p found →
     absent ≡ is_absent found.node → a ≡ refuse_if absent ops.NoEnt → size ≡ size_in found.node → r ≡ passed_with (first_of (found.fault ∷ a ∷ [])) size →
-    Checks h (ops.Stat bytes) (λ z. size_of (tree_seen h.tree (as_path bytes)) ≡ z) r tree
+    Checks h (ops.Stat bytes) (λ z. size_of (tree_view h.tree (as_path bytes)) ≡ z) r tree
 stat_checked h bytes p found tree absent a size r works is asked f absent_is a_is size_is r_is =
-    decided h (ops.Stat bytes) (λ z. size_of (tree_seen h.tree (as_path bytes)) ≡ z) size _ tree r asked (stat_late h bytes p works is)
+    decided h (ops.Stat bytes) (λ z. size_of (tree_view h.tree (as_path bytes)) ≡ z) size _ tree r asked (stat_late h bytes p works is)
     (stat_refused h bytes p found (sym works) (sym is) f ∙ ap (λ z. first_of (found.fault ∷ z ∷ [])) (sym (a_is ∙ ap (λ b. refuse_if b ops.NoEnt) absent_is)))
     (λ none. size_found h bytes p found (sym is) f ∙ sym size_is) r_is
 
-mkdir_refused : (h : Held) (bytes : List ℕ) (p : Path) (found : Finding) → h.tree.failed ≡ false → h.tree.writable ≡ true → path_of bytes ≡ Some p → Finds (tree_seen h.tree) p found →
+mkdir_refused : (h : Held) (bytes : List ℕ) (p : Path) (found : Finding) → h.tree.failed ≡ false → h.tree.writable ≡ true → path_of bytes ≡ Some p → Finds (tree_view h.tree) p found →
     refused_by h (ops.Mkdir bytes) ≡ first_of (found.fault ∷ refuse_if (nat_lt 255 (length (last_name p))) ops.NameTooLong ∷ refuse_if (not (is_absent found.node)) ops.Exist
     ∷ refuse_if (is_overcharged (around_of h.tree) (last_name p) []) ops.EntryFull ∷ refuse_if (lacks (around_of h.tree) h.files 4) ops.NoSpace ∷ [])
-mkdir_refused h bytes p found works writable is f = rw (works, writable, is, f.parents, there (tree_seen h.tree p), f.nothing) refl
+mkdir_refused h bytes p found works writable is f = rw (works, writable, is, f.parents, there (tree_view h.tree p), f.nothing) refl
 
-pub mkdir_checked : (h : Held) (bytes : List ℕ) (p : Path) (found : Finding) (tree : Seen) (len other : ℕ) (absent over lack : Bool) (a b d e : Option Refusal) (r : Result Path Error) →
-    false ≡ h.tree.failed → true ≡ h.tree.writable → Some p ≡ path_of bytes → IsAsked h.tree tree → Finds (tree_seen h.tree) p found →
+pub mkdir_checked : (h : Held) (bytes : List ℕ) (p : Path) (found : Finding) (tree : TreeState) (len other : ℕ) (absent over lack : Bool) (a b d e : Option Refusal) (r : Result Path Error) →
+    false ≡ h.tree.failed → true ≡ h.tree.writable → Some p ≡ path_of bytes → IsAsked h.tree tree → Finds (tree_view h.tree) p found →
     len ≡ length (last_name p) → a ≡ refuse_if (nat_lt 255 len) ops.NameTooLong →
     absent ≡ is_absent found.node → b ≡ refuse_if (not absent) ops.Exist →
     other ≡ length (last_name p) → ((name : List ℕ) → length name ≡ other → over ≡ is_overcharged (around_of tree) name []) → d ≡ refuse_if over ops.EntryFull →
@@ -125,9 +125,9 @@ pub mkdir_space : (h : Held) (bytes : List ℕ) → refused_by h (ops.Mkdir byte
 mkdir_space h bytes e =
     let a = neither (refuse_if (not h.tree.writable) ops.ReadOnly) _ (not_refused h (ops.Mkdir bytes) e) in
     let b = neither (refuse_if (is_none (path_of bytes)) ops.Invalid) _ a.1 in
-    let c = neither (parent_fault (tree_seen h.tree) [] (as_path bytes)) _ b.1 in
+    let c = neither (parent_fault (tree_view h.tree) [] (as_path bytes)) _ b.1 in
     let d = neither (refuse_if (is_long (as_path bytes)) ops.NameTooLong) _ c.1 in
-    let i = neither (refuse_if (is_some (tree_seen h.tree (as_path bytes))) ops.Exist) _ d.1 in
+    let i = neither (refuse_if (is_some (tree_view h.tree (as_path bytes))) ops.Exist) _ d.1 in
     let j = neither (refuse_if (is_overcharged (around_of h.tree) (last_name (as_path bytes)) []) ops.EntryFull) _ i.1 in
     let k = neither (refuse_if (lacks (around_of h.tree) h.files 4) ops.NoSpace) None j.1 in
     unrefused (lacks (around_of h.tree) h.files 4) ops.NoSpace k.0
@@ -151,7 +151,7 @@ mkdir_passed h bytes flight e =
     }
 
 -- the directory can be made at the path that the checks let pass
-pub mkdir_can : (h : Held) (bytes : List ℕ) (path : Path) (tree : Seen) → (h.tree.failed ≡ false → in_flight_count h.tree.map ≤ held h.tree.disk.block_size h.files) → Checks h (ops.Mkdir bytes) (λ p. p ≡ as_path bytes) (Ok path) tree → CanMake tree path
+pub mkdir_can : (h : Held) (bytes : List ℕ) (path : Path) (tree : TreeState) → (h.tree.failed ≡ false → in_flight_count h.tree.map ≤ held h.tree.disk.block_size h.files) → Checks h (ops.Mkdir bytes) (λ p. p ≡ as_path bytes) (Ok path) tree → CanMake tree path
 mkdir_can h bytes path tree ready c =
     let can = mkdir_passed h bytes (ready (not_failed h (ops.Mkdir bytes) c.1)) c.1 in
     subst (λ t. CanMake t path) (sym c.0.same) (subst (λ z. CanMake (record h.tree { history = tree.history; cache = tree.cache }) z) (sym c.2)
@@ -174,20 +174,20 @@ no_writing f = go f.unknown f.write f.read f.create f.exclusive f.truncate f.app
 abbrev is_busy : Held → Path → Bool
 is_busy h p = list_any (λ w. same_path p w.path) (writers h.files) || nat_le 16 (length (readers h.files))
 
-open_refused : (h : Held) (bytes : List ℕ) (p : Path) (flags : Flags) (found : Finding) → h.tree.failed ≡ false → path_of bytes ≡ Some p → flags.write ≡ false → is_allowed flags ≡ true → Finds (tree_seen h.tree) p found →
+open_refused : (h : Held) (bytes : List ℕ) (p : Path) (flags : Flags) (found : Finding) → h.tree.failed ≡ false → path_of bytes ≡ Some p → flags.write ≡ false → is_allowed flags ≡ true → Finds (tree_view h.tree) p found →
     refused_by h (ops.Open bytes flags) ≡ first_of (found.fault ∷ refuse_if (is_absent found.node) ops.NoEnt ∷ refuse_if (is_directory_node found.node) ops.IsDir ∷ refuse_if (is_busy h p) ops.Busy ∷ [])
-open_refused h bytes p flags found works is write allowed f = go (is_none (tree_seen h.tree p)) refl
+open_refused h bytes p flags found works is write allowed f = go (is_none (tree_view h.tree p)) refl
   where
     plain : (flags.create ≡ false) × (flags.exclusive ≡ false) × (flags.truncate ≡ false)
     plain = no_writing flags write allowed
 
-    go : (b : Bool) → is_none (tree_seen h.tree p) ≡ b →
+    go : (b : Bool) → is_none (tree_view h.tree p) ≡ b →
         refused_by h (ops.Open bytes flags) ≡ first_of (found.fault ∷ refuse_if (is_absent found.node) ops.NoEnt ∷ refuse_if (is_directory_node found.node) ops.IsDir ∷ refuse_if (is_busy h p) ops.Busy ∷ [])
     go true e = rw (works, allowed, write, is, f.parents, e, sym f.nothing ∙ e, plain.0) refl
-    go false e = rw (works, allowed, write, is, f.parents, e, sym f.nothing ∙ e, there (tree_seen h.tree p) ∙ ap not e, plain.1, plain.2, f.directories) refl
+    go false e = rw (works, allowed, write, is, f.parents, e, sym f.nothing ∙ e, there (tree_view h.tree p) ∙ ap not e, plain.1, plain.2, f.directories) refl
 
-pub open_checked : (h : Held) (bytes : List ℕ) (p : Path) (flags : Flags) (found : Finding) (tree : Seen) (absent directory busy : Bool) (a b d : Option Refusal) (x : FileContents) (r : Result FileContents Error) →
-    (is_file (tree_seen h.tree p) ≡ true → AreContentsAt h.tree.pairs p x) → false ≡ h.tree.failed → Some p ≡ path_of bytes → flags.write ≡ false → true ≡ is_allowed flags → IsAsked h.tree tree → Finds (tree_seen h.tree) p found →
+pub open_checked : (h : Held) (bytes : List ℕ) (p : Path) (flags : Flags) (found : Finding) (tree : TreeState) (absent directory busy : Bool) (a b d : Option Refusal) (x : FileContents) (r : Result FileContents Error) →
+    (is_file (tree_view h.tree p) ≡ true → AreContentsAt h.tree.pairs p x) → false ≡ h.tree.failed → Some p ≡ path_of bytes → flags.write ≡ false → true ≡ is_allowed flags → IsAsked h.tree tree → Finds (tree_view h.tree) p found →
     absent ≡ is_absent found.node → a ≡ refuse_if absent ops.NoEnt → directory ≡ is_directory_node found.node → b ≡ refuse_if directory ops.IsDir → busy ≡ is_busy h p → d ≡ refuse_if busy ops.Busy →
     r ≡ passed_with (first_of (found.fault ∷ a ∷ b ∷ d ∷ [])) x →
     Checks h (ops.Open bytes flags) (IsReadableAs h.tree h.files bytes) r tree
@@ -225,7 +225,7 @@ open_checked h bytes p flags found tree absent directory busy a b d x r has work
         record {
           readable = record {
             given = ap is_some (sym is);
-            there = ap (λ q. is_none (tree_seen h.tree q)) (sym path) ∙ f.nothing ∙ there;
+            there = ap (λ q. is_none (tree_view h.tree q)) (sym path) ∙ f.nothing ∙ there;
             few = second (list_any (λ w. same_path p w.path) (writers h.files)) (nat_le 16 (length (readers h.files))) free;
             apart = ap (λ q. list_any (λ w. same_path q w.path) (writers h.files)) (sym path) ∙ first (list_any (λ w. same_path p w.path) (writers h.files)) (nat_le 16 (length (readers h.files))) free;
           };

@@ -10,10 +10,10 @@ use Rattle.lfs_model.specs.Operations.{Failed, Operation, Refusal, Reply}
 use Rattle.lfs_model.specs.Refusals.{refusal_of}
 use Rattle.lfs_model.specs.Session.{Files}
 use Rattle.lfs_lookup.specs.Refusals.{is_refusal, refusal_in}
-use Rattle.lfs_tree.specs.Seen.{IsAsked, IsError, IsMountError, IsMountedTree, Seen, around_of}
-use Rattle.lfs_model.specs.Discipline.{comes_at_once, takes_nothing}
+use Rattle.lfs_tree.specs.TreeState.{IsAsked, IsError, IsMountError, IsMountedTree, TreeState, around_of}
+use Rattle.lfs_model.specs.Frame.{comes_at_once, takes_nothing}
 use Rattle.lfs_fs.specs.Ending.{EndsWell}
-use Rattle.lfs_fs.specs.FileSeen.{OpenFiles}
+use Rattle.lfs_fs.specs.FileView.{OpenFiles}
 use Rattle.lfs_fs.specs.Held.{Checks, ComesLate, EndsChecks, Held, held_of, held_with, refused_by, session_of}
 use Rattle.lfs_fs.specs.Replies.{reply_in}
 use Rattle.lfs_fs.proofs.Answered.{no_refusal_io, not_failed}
@@ -63,12 +63,12 @@ pub broken_ends : {A : Type 0} (old now : Held) (op : Operation) (reply : A → 
 broken_ends old now op reply e r new same passed takes error is =
     subst (λ z. EndsWell now op (reply_in reply z) new) (sym is) (result_ends old now op reply (Err e) new same passed takes tt (no_refusal_io e error))
 
-no_refusals : {A : Type 0} (old new : Seen) (r : Result A Error) → IfErr r (IsError old new) → IfErr r (λ e. is_refusal e ≡ false)
+no_refusals : {A : Type 0} (old new : TreeState) (r : Result A Error) → IfErr r (IsError old new) → IfErr r (λ e. is_refusal e ≡ false)
 no_refusals old new (Ok x) errors = tt
 no_refusals old new (Err e) errors = no_refusal_io e errors.errors
 
 -- behind reads, a call of the tree came last
-pub carried_ends : {A K : Type 0} (old now : Held) (op : Operation) (reply : A → Reply) (mid new : Seen) (files : Files) (r : Result A Error) → old ≡ now → refused_by old op ≡ None → takes_nothing (session_of old) op ≡ false → IsAsked old.tree mid →
+pub carried_ends : {A K : Type 0} (old now : Held) (op : Operation) (reply : A → Reply) (mid new : TreeState) (files : Files) (r : Result A Error) → old ≡ now → refused_by old op ≡ None → takes_nothing (session_of old) op ≡ false → IsAsked old.tree mid →
     OnOk r K → (K → faults new.history ≡ faults mid.history) → IfErr r (IsError mid new) → EndsWell now op (reply_in reply r) (held_with new files)
 carried_ends {A} {K} old now op reply mid new files r same e takes asked done calm errors =
     result_ends old now op reply r (held_with new files) same e takes (go r done) (no_refusals mid new r errors)
@@ -109,7 +109,7 @@ refused_ends old now op refusal same e = refusal_ends old now op refusal now sam
 pub kept_ends : (old now : Held) (op : Operation) (reply : Reply) → old ≡ now → refused_by old op ≡ None → EndsWell now op (Ok reply) now
 kept_ends old now op reply same e = answer_ends old now op reply now same e (ap (λ (h : Held). faults h.tree.history) (sym same))
 
-checks_end : (t : Seen) (fs : OpenFiles) (now : Held) (op : Operation) (e : Error) (tree : Seen) → held_of t fs ≡ now → takes_nothing (session_of (held_of t fs)) op ≡ false → EndsChecks (is_refusal e) (held_of t fs) op e tree →
+checks_end : (t : TreeState) (fs : OpenFiles) (now : Held) (op : Operation) (e : Error) (tree : TreeState) → held_of t fs ≡ now → takes_nothing (session_of (held_of t fs)) op ≡ false → EndsChecks (is_refusal e) (held_of t fs) op e tree →
     EndsWell now op (cond (is_refusal e) (Ok (ops.Refused (refusal_in e))) (Err e)) (held_of tree fs)
 checks_end t fs now op e tree same takes h = go (is_refusal e) h
   where
@@ -118,13 +118,13 @@ checks_end t fs now op e tree same takes h = go (is_refusal e) h
     go false k = error_late (held_of t fs) now op e (held_of tree fs) same k.1 k.3 takes
 
 -- checks by reads
-pub checked_ends : {A : Type 0} (t : Seen) (fs : OpenFiles) (now : Held) (op : Operation) (reply : A → Reply) (P : A → Type 0) (r : Result A Error) (tree : Seen) → held_of t fs ≡ now → takes_nothing (session_of (held_of t fs)) op ≡ false →
+pub checked_ends : {A : Type 0} (t : TreeState) (fs : OpenFiles) (now : Held) (op : Operation) (reply : A → Reply) (P : A → Type 0) (r : Result A Error) (tree : TreeState) → held_of t fs ≡ now → takes_nothing (session_of (held_of t fs)) op ≡ false →
     Checks (held_of t fs) op P r tree → EndsWell now op (reply_in reply r) (held_of tree fs)
 checked_ends t fs now op reply P (Ok x) tree same takes h = answer_ends (held_of t fs) now op (reply x) (held_of tree fs) same h.1 h.0.no_fault
 checked_ends t fs now op reply P (Err e) tree same takes h = checks_end t fs now op e tree same takes h
 
 -- the same of a call that gives the error on
-pub ended_ends : {A : Type 0} (t : Seen) (fs : OpenFiles) (now : Held) (op : Operation) (reply : A → Reply) (e : Error) (tree : Seen) (r : Result A Error) → held_of t fs ≡ now → takes_nothing (session_of (held_of t fs)) op ≡ false →
+pub ended_ends : {A : Type 0} (t : TreeState) (fs : OpenFiles) (now : Held) (op : Operation) (reply : A → Reply) (e : Error) (tree : TreeState) (r : Result A Error) → held_of t fs ≡ now → takes_nothing (session_of (held_of t fs)) op ≡ false →
     EndsChecks (is_refusal e) (held_of t fs) op e tree → r ≡ Err e → EndsWell now op (reply_in reply r) (held_of tree fs)
 ended_ends t fs now op reply e tree r same takes h is = subst (λ z. EndsWell now op (reply_in reply z) (held_of tree fs)) (sym is) (checks_end t fs now op e tree same takes h)
 
@@ -137,11 +137,11 @@ unread_ends old now op reply e r same h is =
 
 -- ---- a remount
 
-pub remount_refuses_not : {A : Type 0} (old new : Seen) (r : Result A Error) → IfErr r (IsMountError old new) → IfErr r (λ e. is_refusal e ≡ false)
+pub remount_refuses_not : {A : Type 0} (old new : TreeState) (r : Result A Error) → IfErr r (IsMountError old new) → IfErr r (λ e. is_refusal e ≡ false)
 remount_refuses_not old new (Ok x) errors = tt
 remount_refuses_not old new (Err e) errors = no_refusal e errors.errors
 
-pub remount_ends : (old now : Held) (new : Seen) (files : Files) (r : Result (Unit {0}) Error) → old ≡ now → OnOk r (IsMountedTree old.tree.disk old.tree.history new) → IfErr r (λ e. is_refusal e ≡ false) →
+pub remount_ends : (old now : Held) (new : TreeState) (files : Files) (r : Result (Unit {0}) Error) → old ≡ now → OnOk r (IsMountedTree old.tree.disk old.tree.history new) → IfErr r (λ e. is_refusal e ≡ false) →
     EndsWell now ops.Remount (reply_in (λ u. ops.Done) r) (held_with new files)
 remount_ends old now new files r same mounted errors = subst (λ z. EndsWell z ops.Remount (reply_in (λ u. ops.Done) r) (held_with new files)) same (record {
   failed = λ f other. absurd (cc);

@@ -15,7 +15,7 @@ use Rattle.lfs_model.specs.Refusals.{as_path, bad_entry, is_root}
 use Rattle.lfs_model.specs.Tree.{Path}
 use Rattle.lfs_tree.specs.Allowed.{CanRemoveAttr}
 use Rattle.lfs_lookup.specs.Finds.{Finds, is_absent, is_file_node}
-use Rattle.lfs_tree.specs.Seen.{Seen, tree_seen, IsAsked}
+use Rattle.lfs_tree.specs.TreeState.{TreeState, tree_view, IsAsked}
 use Rattle.lfs_lookup.specs.declared.finding.Finding.{Finding}
 use Rattle.lfs_fs.specs.EntryPaths.{entry_path}
 use Rattle.lfs_fs.specs.Replies.{passed_with}
@@ -69,19 +69,19 @@ other_entry (b ∷ c ∷ bytes) h = path_is ∙ go (b == slash) (list_all is_com
 
 -- ---- a list
 
-list_refused : (h : Held) (bytes : List ℕ) (p : Path) (found : Finding) → h.tree.failed ≡ false → path_of bytes ≡ Some p → Finds (tree_seen h.tree) p found →
+list_refused : (h : Held) (bytes : List ℕ) (p : Path) (found : Finding) → h.tree.failed ≡ false → path_of bytes ≡ Some p → Finds (tree_view h.tree) p found →
     refused_by h (ops.ListAll bytes) ≡ first_of (found.fault ∷ refuse_if (is_absent found.node) ops.NoEnt ∷ refuse_if (is_file_node found.node) ops.NotDir ∷ [])
 list_refused h bytes p found works is f = rw (works, is, f.parents, f.nothing, f.files) refl
 
-pub list_checked : {A : Type 0} (items : A → List ops.Item) (h : Held) (bytes : List ℕ) (p : Path) (found : Finding) (tree : Seen) (absent file : Bool) (a b : Option Refusal) (x : A) (r : Result A Error) →
-    false ≡ h.tree.failed → Some p ≡ path_of bytes → IsAsked h.tree tree → Finds (tree_seen h.tree) p found → items x ≡ items_in (tree_seen h.tree) p →
+pub list_checked : {A : Type 0} (items : A → List ops.Item) (h : Held) (bytes : List ℕ) (p : Path) (found : Finding) (tree : TreeState) (absent file : Bool) (a b : Option Refusal) (x : A) (r : Result A Error) →
+    false ≡ h.tree.failed → Some p ≡ path_of bytes → IsAsked h.tree tree → Finds (tree_view h.tree) p found → items x ≡ items_in (tree_view h.tree) p →
     absent ≡ is_absent found.node → a ≡ refuse_if absent ops.NoEnt → file ≡ is_file_node found.node → b ≡ refuse_if file ops.NotDir →
     r ≡ passed_with (first_of (found.fault ∷ a ∷ b ∷ [])) x →
-    Checks h (ops.ListAll bytes) (λ z. items_in (tree_seen h.tree) (as_path bytes) ≡ items z) r tree
+    Checks h (ops.ListAll bytes) (λ z. items_in (tree_view h.tree) (as_path bytes) ≡ items z) r tree
 list_checked items h bytes p found tree absent file a b x r works is asked f are absent_is a_is file_is b_is r_is =
-    decided h (ops.ListAll bytes) (λ z. items_in (tree_seen h.tree) (as_path bytes) ≡ items z) x _ tree r asked (list_late h bytes p works is)
+    decided h (ops.ListAll bytes) (λ z. items_in (tree_view h.tree) (as_path bytes) ≡ items z) x _ tree r asked (list_late h bytes p works is)
     (list_refused h bytes p found (sym works) (sym is) f ∙ ap first_of (sym lists))
-    (λ none. ap (λ z. items_in (tree_seen h.tree) (unwrap_or z [])) (sym is) ∙ sym are) r_is
+    (λ none. ap (λ z. items_in (tree_view h.tree) (unwrap_or z [])) (sym is) ∙ sym are) r_is
   where
     lists : (found.fault ∷ a ∷ b ∷ []) ≡ (found.fault ∷ refuse_if (is_absent found.node) ops.NoEnt ∷ refuse_if (is_file_node found.node) ops.NotDir ∷ [])
     lists = both refl (both (when ops.NoEnt a_is absent_is) (both (when ops.NotDir b_is file_is) refl))
@@ -92,37 +92,37 @@ missing : {A : Type 0} (f : A → List ℕ) (x : Option A) (y : Option (List ℕ
 missing f None y b e is = is ∙ ap is_none e
 missing f (Some x) y b e is = is ∙ ap is_none e
 
-get_refused : (h : Held) (bytes : List ℕ) (kind : ℕ) (p : Path) (found : Finding) → h.tree.failed ≡ false → path_of bytes ≡ Some p → is_root p ≡ false → Finds (tree_seen h.tree) p found →
-    refused_by h (ops.GetAttr bytes kind) ≡ first_of (found.fault ∷ refuse_if (is_absent found.node) ops.NoEnt ∷ refuse_if (is_none (attribute_of kind (attributes_of (tree_seen h.tree p)))) ops.NoAttr ∷ [])
+get_refused : (h : Held) (bytes : List ℕ) (kind : ℕ) (p : Path) (found : Finding) → h.tree.failed ≡ false → path_of bytes ≡ Some p → is_root p ≡ false → Finds (tree_view h.tree) p found →
+    refused_by h (ops.GetAttr bytes kind) ≡ first_of (found.fault ∷ refuse_if (is_absent found.node) ops.NoEnt ∷ refuse_if (is_none (attribute_of kind (attributes_of (tree_view h.tree p)))) ops.NoAttr ∷ [])
 get_refused h bytes kind p found works is entry f = rw (works, is, entry, f.parents, f.nothing) refl
 
 abbrev is_got : Held → List ℕ → ℕ → List ℕ → Type 0
-is_got h bytes kind v = unwrap_or (attribute_of kind (attributes_of (tree_seen h.tree (as_path bytes)))) [] ≡ v
+is_got h bytes kind v = unwrap_or (attribute_of kind (attributes_of (tree_view h.tree (as_path bytes)))) [] ≡ v
 
 pub got : {A : Type 0} (f : A → List ℕ) (o : Option A) (y : Option (List ℕ)) (none got : A) → option_map f o ≡ y → f none ≡ [] → got ≡ unwrap_or o none → unwrap_or y [] ≡ f got
 got f None y none x e empty is = ap (λ z. unwrap_or z []) (sym e) ∙ sym empty ∙ ap f (sym is)
 got f (Some v) y none x e empty is = ap (λ z. unwrap_or z []) (sym e) ∙ ap f (sym is)
 
-pub get_checked : {A : Type 0} (items : A → List ℕ) (h : Held) (bytes : List ℕ) (kind : ℕ) (p : Path) (found : Finding) (tree : Seen) (attribute : Option A) (absent none : Bool) (a b : Option Refusal) (x : A) (r : Result A Error) →
-    false ≡ h.tree.failed → Some p ≡ entry_path bytes → IsAsked h.tree tree → Finds (tree_seen h.tree) p found →
-    option_map items attribute ≡ attribute_of kind (attributes_of (tree_seen h.tree p)) → unwrap_or (attribute_of kind (attributes_of (tree_seen h.tree p))) [] ≡ items x →
+pub get_checked : {A : Type 0} (items : A → List ℕ) (h : Held) (bytes : List ℕ) (kind : ℕ) (p : Path) (found : Finding) (tree : TreeState) (attribute : Option A) (absent none : Bool) (a b : Option Refusal) (x : A) (r : Result A Error) →
+    false ≡ h.tree.failed → Some p ≡ entry_path bytes → IsAsked h.tree tree → Finds (tree_view h.tree) p found →
+    option_map items attribute ≡ attribute_of kind (attributes_of (tree_view h.tree p)) → unwrap_or (attribute_of kind (attributes_of (tree_view h.tree p))) [] ≡ items x →
     absent ≡ is_absent found.node → a ≡ refuse_if absent ops.NoEnt → none ≡ is_none attribute → b ≡ refuse_if none ops.NoAttr →
-    r ≡ passed_with (first_of (found.fault ∷ a ∷ b ∷ [])) x → Checks h (ops.GetAttr bytes kind) (λ v. unwrap_or (attribute_of kind (attributes_of (tree_seen h.tree (as_path bytes)))) [] ≡ items v) r tree
+    r ≡ passed_with (first_of (found.fault ∷ a ∷ b ∷ [])) x → Checks h (ops.GetAttr bytes kind) (λ v. unwrap_or (attribute_of kind (attributes_of (tree_view h.tree (as_path bytes)))) [] ≡ items v) r tree
 get_checked items h bytes kind p found tree attribute absent none a b x r works is asked f attr given absent_is a_is none_is b_is r_is =
-    decided h (ops.GetAttr bytes kind) (λ v. unwrap_or (attribute_of kind (attributes_of (tree_seen h.tree (as_path bytes)))) [] ≡ items v) x _ tree r asked (get_late h bytes kind p works is)
+    decided h (ops.GetAttr bytes kind) (λ v. unwrap_or (attribute_of kind (attributes_of (tree_view h.tree (as_path bytes)))) [] ≡ items v) x _ tree r asked (get_late h bytes kind p works is)
     (get_refused h bytes kind p found (sym works) (is_entry bytes p is).0 (root_false bytes p is) f ∙ ap first_of (sym lists))
-    (λ n. ap (λ q. unwrap_or (attribute_of kind (attributes_of (tree_seen h.tree (unwrap_or q [])))) []) (is_entry bytes p is).0 ∙ given) r_is
+    (λ n. ap (λ q. unwrap_or (attribute_of kind (attributes_of (tree_view h.tree (unwrap_or q [])))) []) (is_entry bytes p is).0 ∙ given) r_is
   where
-    lists : (found.fault ∷ a ∷ b ∷ []) ≡ (found.fault ∷ refuse_if (is_absent found.node) ops.NoEnt ∷ refuse_if (is_none (attribute_of kind (attributes_of (tree_seen h.tree p)))) ops.NoAttr ∷ [])
+    lists : (found.fault ∷ a ∷ b ∷ []) ≡ (found.fault ∷ refuse_if (is_absent found.node) ops.NoEnt ∷ refuse_if (is_none (attribute_of kind (attributes_of (tree_view h.tree p)))) ops.NoAttr ∷ [])
     lists = both refl (both (when ops.NoEnt a_is absent_is) (both (when ops.NoAttr b_is (missing items attribute _ none attr none_is)) refl))
 
-remove_attr_refused : (h : Held) (bytes : List ℕ) (kind : ℕ) (p : Path) (found : Finding) → h.tree.failed ≡ false → h.tree.writable ≡ true → path_of bytes ≡ Some p → is_root p ≡ false → Finds (tree_seen h.tree) p found →
-    refused_by h (ops.RemoveAttr bytes kind) ≡ first_of (found.fault ∷ refuse_if (is_absent found.node) ops.NoEnt ∷ refuse_if (is_none (attribute_of kind (attributes_of (tree_seen h.tree p)))) ops.NoAttr ∷ [])
+remove_attr_refused : (h : Held) (bytes : List ℕ) (kind : ℕ) (p : Path) (found : Finding) → h.tree.failed ≡ false → h.tree.writable ≡ true → path_of bytes ≡ Some p → is_root p ≡ false → Finds (tree_view h.tree) p found →
+    refused_by h (ops.RemoveAttr bytes kind) ≡ first_of (found.fault ∷ refuse_if (is_absent found.node) ops.NoEnt ∷ refuse_if (is_none (attribute_of kind (attributes_of (tree_view h.tree p)))) ops.NoAttr ∷ [])
 remove_attr_refused h bytes kind p found works writable is entry f = rw (works, writable, is, entry, f.parents, f.nothing) refl
 
-pub remove_attr_checked : {A : Type 0} (items : A → List ℕ) (h : Held) (bytes : List ℕ) (kind : ℕ) (p : Path) (found : Finding) (tree : Seen) (attribute : Option A) (absent none : Bool) (a b : Option Refusal) (r : Result Path Error) →
-    false ≡ h.tree.failed → true ≡ h.tree.writable → Some p ≡ entry_path bytes → IsAsked h.tree tree → Finds (tree_seen h.tree) p found →
-    option_map items attribute ≡ attribute_of kind (attributes_of (tree_seen h.tree p)) →
+pub remove_attr_checked : {A : Type 0} (items : A → List ℕ) (h : Held) (bytes : List ℕ) (kind : ℕ) (p : Path) (found : Finding) (tree : TreeState) (attribute : Option A) (absent none : Bool) (a b : Option Refusal) (r : Result Path Error) →
+    false ≡ h.tree.failed → true ≡ h.tree.writable → Some p ≡ entry_path bytes → IsAsked h.tree tree → Finds (tree_view h.tree) p found →
+    option_map items attribute ≡ attribute_of kind (attributes_of (tree_view h.tree p)) →
     absent ≡ is_absent found.node → a ≡ refuse_if absent ops.NoEnt → none ≡ is_none attribute → b ≡ refuse_if none ops.NoAttr →
     r ≡ passed_with (first_of (found.fault ∷ a ∷ b ∷ [])) p → Checks h (ops.RemoveAttr bytes kind) (λ path. path ≡ as_path bytes) r tree
 remove_attr_checked items h bytes kind p found tree attribute absent none a b r works writable is asked f attr absent_is a_is none_is b_is r_is =
@@ -130,14 +130,14 @@ remove_attr_checked items h bytes kind p found tree attribute absent none a b r 
     (remove_attr_refused h bytes kind p found (sym works) (sym writable) (is_entry bytes p is).0 (root_false bytes p is) f ∙ ap first_of (sym lists))
     (λ n. ap (λ z. unwrap_or z []) (sym (is_entry bytes p is).0)) r_is
   where
-    lists : (found.fault ∷ a ∷ b ∷ []) ≡ (found.fault ∷ refuse_if (is_absent found.node) ops.NoEnt ∷ refuse_if (is_none (attribute_of kind (attributes_of (tree_seen h.tree p)))) ops.NoAttr ∷ [])
+    lists : (found.fault ∷ a ∷ b ∷ []) ≡ (found.fault ∷ refuse_if (is_absent found.node) ops.NoEnt ∷ refuse_if (is_none (attribute_of kind (attributes_of (tree_view h.tree p)))) ops.NoAttr ∷ [])
     lists = both refl (both (when ops.NoEnt a_is absent_is) (both (when ops.NoAttr b_is (missing items attribute _ none attr none_is)) refl))
 
 pub good_root : (o : Option Path) → bad_entry o ≡ false → is_root (unwrap_or o []) ≡ false
 good_root None e = absurd (cc)
 good_root (Some p) e = e
 
-pub remove_attr_can : (h : Held) (bytes : List ℕ) (kind : ℕ) (path : Path) (tree : Seen) → Checks h (ops.RemoveAttr bytes kind) (λ p. p ≡ as_path bytes) (Ok path) tree → CanRemoveAttr tree path kind
+pub remove_attr_can : (h : Held) (bytes : List ℕ) (kind : ℕ) (path : Path) (tree : TreeState) → Checks h (ops.RemoveAttr bytes kind) (λ p. p ≡ as_path bytes) (Ok path) tree → CanRemoveAttr tree path kind
 remove_attr_can h bytes kind path tree c =
     let e = c.1 in
     let a = neither _ _ (not_refused h (ops.RemoveAttr bytes kind) e) in

@@ -1,16 +1,16 @@
 -- How many reads a look-up takes, by the calls that came.
 use Rattle.std.proofs.Common.{ℕ, ◌≡◌, ◌≤◌, ◌+◌, List, [], ◌∷◌, ◌++◌, Option, Some, unwrap_or, ap, arith}
 use Rattle.std.specs.Prelude.{sum_by}
-use Rattle.lfs_model.specs.Discipline.{ReadsFew, pairs_of_path}
+use Rattle.lfs_model.specs.Frame.{ReadsFew, pairs_of_path}
 use Rattle.lfs_model.specs.History.{Event, reads}
 use Rattle.lfs_model.specs.Operations.{Operation, path_of}
 use Rattle.lfs_model.specs.Refusals.{as_path}
 use Rattle.lfs_model.specs.Tree.{Path}
-use Rattle.lfs_tree.specs.Seen.{Seen}
+use Rattle.lfs_tree.specs.TreeState.{TreeState}
 use Rattle.lfs_fs.specs.LookUps.{AddsFew}
 
 -- a bound by the path of bytes
-pub few_given : (old new : Seen) (f : Path → List Path) (bytes : List ℕ) (p : Path) → Some p ≡ path_of bytes → reads new.history ≤ reads old.history + sum_by (pairs_of_path old.pairs) (f p)
+pub few_given : (old new : TreeState) (f : Path → List Path) (bytes : List ℕ) (p : Path) → Some p ≡ path_of bytes → reads new.history ≤ reads old.history + sum_by (pairs_of_path old.pairs) (f p)
     → reads new.history ≤ reads old.history + sum_by (pairs_of_path old.pairs) (f (as_path bytes))
 few_given old new f bytes p is few =
     let e = ap (λ (o : Option Path). sum_by (pairs_of_path old.pairs) (f (unwrap_or o []))) is in
@@ -21,7 +21,7 @@ reads_over [] older = omega arith
 reads_over (e ∷ calls) older = let k = reads_over calls older in omega (arith, k)
 
 -- by the calls that came
-pub reads_few : (old new : Seen) (op : Operation) → AddsFew old op new → (calls : List Event) → new.history ≡ calls ++ old.history → ReadsFew old.pairs op calls
+pub reads_few : (old new : TreeState) (op : Operation) → AddsFew old op new → (calls : List Event) → new.history ≡ calls ++ old.history → ReadsFew old.pairs op calls
 reads_few old new op few calls is looks =
     let e = ap reads is in
     let k = reads_over calls old.history in

@@ -12,8 +12,8 @@ use Rattle.lfs_model.proofs.Paths.{path_itself, rest_from}
 use Rattle.lfs_model.proofs.Walks.{IsLeaf, leaf_walk, walk_append}
 use Rattle.std.specs.List.{AllByRecursion}
 use Rattle.lfs_model.specs.Session.{is_open_at}
-use Rattle.lfs_tree.specs.Seen.{Seen, tree_seen}
-use Rattle.lfs_fs.specs.FileSeen.{OpenFiles, files_seen, readers_in}
+use Rattle.lfs_tree.specs.TreeState.{TreeState, tree_view}
+use Rattle.lfs_fs.specs.FileView.{OpenFiles, files_view, readers_in}
 use Rattle.lfs_fs.specs.declared.files.OpenFile.TheVariants as file
 
 -- ---- nothing is beneath what has no names
@@ -44,7 +44,7 @@ not_some true x e = absurd (cc)
 not_some false x e = refl
 
 -- where no file is open at such a path, no reader is
-pub no_reader_at : (t : Seen) (files : OpenFiles) (p : Path → Bool) → is_open_at p (files_seen t files) ≡ false → AllByRecursion (λ r. p r.path ≡ false) (readers_in files)
+pub no_reader_at : (t : TreeState) (files : OpenFiles) (p : Path → Bool) → is_open_at p (files_view t files) ≡ false → AllByRecursion (λ r. p r.path ≡ false) (readers_in files)
 no_reader_at t [] p e = tt
 no_reader_at t (None ∷ fs) p e = no_reader_at t fs p e
 no_reader_at t (Some (file.Reading r) ∷ fs) p e = let k = or_false _ _ e in (not_some _ _ k.0, no_reader_at t fs p k.1)
@@ -55,11 +55,11 @@ none_there None e = refl
 none_there (Some x) e = absurd (cc)
 
 -- a file that is there isn't beneath the path
-pub beside : (t : Seen) (q x : Path) → length (names_of (tree_seen t q)) ≡ 0 → is_file (tree_seen t x) ≡ true → same_path q x ≡ false → rest_after q x ≡ None
+pub beside : (t : TreeState) (q x : Path) → length (names_of (tree_view t q)) ≡ 0 → is_file (tree_view t x) ≡ true → same_path q x ≡ false → rest_after q x ≡ None
 beside t q x bare there apart = go (rest_after q x) refl
   where
     go : (o : Option Path) → rest_after q x ≡ o → o ≡ None
     go None e = refl
     go (Some []) e = absurd (let k = sym apart ∙ ap (same_path q) (rest_from q x [] e ∙ append-nil q) ∙ path_itself q in cc)
     go (Some (m ∷ r)) e =
-        absurd (let k = sym there ∙ ap (λ y. is_file (tree_seen t y)) (rest_from q x (m ∷ r) e) ∙ ap is_file (bare_beneath (contents_in t.disk) (entries_in t.pairs) (root_slot (root_of t.pairs)) q m r bare) in cc)
+        absurd (let k = sym there ∙ ap (λ y. is_file (tree_view t y)) (rest_from q x (m ∷ r) e) ∙ ap is_file (bare_beneath (contents_in t.disk) (entries_in t.pairs) (root_slot (root_of t.pairs)) q m r bare) in cc)

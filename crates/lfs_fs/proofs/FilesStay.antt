@@ -11,11 +11,11 @@ use Rattle.lfs_model.specs.Session.{Reading, Writing, held, held_by}
 use Rattle.lfs_model.specs.Tree.{Path}
 use Rattle.lfs_model.proofs.BlockCounts.{few_flying, in_flight-freed}
 use Rattle.lfs_tree.specs.OpenContents.{IsOver, IsSettleable, bytes_held, kept_of}
-use Rattle.lfs_tree.specs.Seen.{IsCarried, IsSound, Seen, around_of, tree_seen}
+use Rattle.lfs_tree.specs.TreeState.{IsAppliedOn, IsSound, TreeState, around_of, tree_view}
 use Rattle.lfs_writer.specs.Contents.{form_of}
-use Rattle.lfs_writer.specs.Form.{Form, IsKept, form_blocks}
+use Rattle.lfs_writer.specs.Form.{Form, IsWriterForm, form_blocks}
 use Rattle.lfs_writer.specs.declared.contents.Contents.{Contents}
-use Rattle.lfs_fs.specs.FileSeen.{OpenFiles, bytes_of, end_in, files_seen, has_unsaved, held_by_all, held_by_size, held_for, reader_seen, readers_in, turned_in, writer_seen, writers_in, written_paths}
+use Rattle.lfs_fs.specs.FileView.{OpenFiles, bytes_of, end_in, files_view, has_unsaved, held_by_all, held_by_size, held_for, reader_view, readers_in, turned_in, writer_view, writers_in, written_paths}
 use Rattle.lfs_fs.specs.Held.{IsChanged, IsReady, IsUnsavedIn, IsWritten}
 use Rattle.lfs_model.specs.Keeping.{takes_or_moves}
 use Rattle.lfs_tree.specs.KeepsFiles.{taken_by}
@@ -40,15 +40,15 @@ the_first a b c n h = omega arith
 
 -- ---- a writer
 
-module _ (over : (old new : Seen) (op : Operation) (path : Path) (c : Contents) → IsOver old path c → IsSound old → IsCarried old op new → takes_or_moves op path ≡ false → IsOver new path c)
-    (bytes : (old new : Seen) (op : Operation) (path : Path) (c : Contents) → IsOver old path c → IsSound old → IsCarried old op new → takes_or_moves op path ≡ false → bytes_held (kept_of new) c ≡ bytes_held (kept_of old) c)
-    (few : (old new : Seen) (op : Operation) → IsSound old → old.writable ≡ true → IsCarried old op new → length (around_of new).used ≤ length (around_of old).used + taken_by op)
-    (old new : Seen) (op : Operation) (sound : IsSound old) (carried : IsCarried old op new) where
-  same_bytes : (w : Writer) (u : Option Unsaved) → IsUnsavedIn old w u → takes_or_moves op w.path ≡ false → bytes_at (tree_seen new w.path) ≡ bytes_at (tree_seen old w.path) → bytes_of new w.path u ≡ bytes_of old w.path u
+module _ (over : (old new : TreeState) (op : Operation) (path : Path) (c : Contents) → IsOver old path c → IsSound old → IsAppliedOn old op new → takes_or_moves op path ≡ false → IsOver new path c)
+    (bytes : (old new : TreeState) (op : Operation) (path : Path) (c : Contents) → IsOver old path c → IsSound old → IsAppliedOn old op new → takes_or_moves op path ≡ false → bytes_held (kept_of new) c ≡ bytes_held (kept_of old) c)
+    (few : (old new : TreeState) (op : Operation) → IsSound old → old.writable ≡ true → IsAppliedOn old op new → length (around_of new).used ≤ length (around_of old).used + taken_by op)
+    (old new : TreeState) (op : Operation) (sound : IsSound old) (carried : IsAppliedOn old op new) where
+  same_bytes : (w : Writer) (u : Option Unsaved) → IsUnsavedIn old w u → takes_or_moves op w.path ≡ false → bytes_at (tree_view new w.path) ≡ bytes_at (tree_view old w.path) → bytes_of new w.path u ≡ bytes_of old w.path u
   same_bytes w None h off stays = stays
   same_bytes w (Some u) h off stays = bytes old new op w.path u.contents h.over sound carried off
 
-  same_writer : (w : Writer) → IsWritten old w → takes_or_moves op w.path ≡ false → bytes_at (tree_seen new w.path) ≡ bytes_at (tree_seen old w.path) → writer_seen new w ≡ writer_seen old w
+  same_writer : (w : Writer) → IsWritten old w → takes_or_moves op w.path ≡ false → bytes_at (tree_view new w.path) ≡ bytes_at (tree_view old w.path) → writer_view new w ≡ writer_view old w
   same_writer w h off stays = ap make (same_bytes w w.unsaved h.changed off stays)
     where
       make : List ℕ → session.Writer
@@ -65,15 +65,15 @@ module _ (over : (old new : Seen) (op : Operation) (path : Path) (c : Contents) 
       go (inr r) = room_enough _ (length (around_of old).used) (taken_by op) _ _ (block_count old.disk) (few old new op sound writable carried)
           (subst (λ n. length (around_of old).used + n + taken_by op ≤ block_count old.disk) (ap (λ o. if is_none o then 0 else held_for old.disk.block_size (turned_in o) w.size) is) r) carried.geometry.count
 
-  still_changed : (w : Writer) (u : Unsaved) → IsWritten old w → w.unsaved ≡ Some u → takes_or_moves op w.path ≡ false → bytes_at (tree_seen new w.path) ≡ bytes_at (tree_seen old w.path) → IsChanged old w u → HasRoom w → IsChanged new w u
+  still_changed : (w : Writer) (u : Unsaved) → IsWritten old w → w.unsaved ≡ Some u → takes_or_moves op w.path ≡ false → bytes_at (tree_view new w.path) ≡ bytes_at (tree_view old w.path) → IsChanged old w u → HasRoom w → IsChanged new w u
   still_changed w u h is off stays c room = record {
     over = over old new op w.path u.contents c.over sound carried off;
-    kept = subst (λ n. IsKept n (form_of u.contents) (writer_seen new w)) (sym carried.geometry.block_size) (subst (IsKept old.disk.block_size (form_of u.contents)) (sym (same_writer w h off stays)) c.kept);
+    kept = subst (λ n. IsWriterForm n (form_of u.contents) (writer_view new w)) (sym carried.geometry.block_size) (subst (IsWriterForm old.disk.block_size (form_of u.contents)) (sym (same_writer w h off stays)) c.kept);
     form = subst (λ n. IsSettleable (inline_limit n) (form_of u.contents)) (sym carried.geometry.block_size) c.form;
     room = still_fits w u h.writable is c room;
   }
 
-  still_written : (w : Writer) → IsWritten old w → takes_or_moves op w.path ≡ false → (is_file (tree_seen new w.path) ≡ true) × (bytes_at (tree_seen new w.path) ≡ bytes_at (tree_seen old w.path)) → HasRoom w → IsWritten new w
+  still_written : (w : Writer) → IsWritten old w → takes_or_moves op w.path ≡ false → (is_file (tree_view new w.path) ≡ true) × (bytes_at (tree_view new w.path) ≡ bytes_at (tree_view old w.path)) → HasRoom w → IsWritten new w
   still_written w h off keeps room = record {
     writable = carried.writable;
     settled = carried.recovered.gstate;
@@ -98,10 +98,10 @@ module _ (over : (old new : Seen) (op : Operation) (path : Path) (c : Contents) 
       go (inr r) = inr (the_first _ _ _ _ r)
   still_all (w ∷ v ∷ ws) one h off keeps room = absurd (omega (arith, one))
 
-  same_files : (fs : OpenFiles) → AllByRecursion (IsWritten old) (writers_in fs) → AllByRecursion (λ w. takes_or_moves op w.path ≡ false) (writers_in fs) → KeepsWriters old new (writers_in fs) → files_seen old fs ≡ files_seen new fs
+  same_files : (fs : OpenFiles) → AllByRecursion (IsWritten old) (writers_in fs) → AllByRecursion (λ w. takes_or_moves op w.path ≡ false) (writers_in fs) → KeepsWriters old new (writers_in fs) → files_view old fs ≡ files_view new fs
   same_files [] h off keeps = refl
   same_files (None ∷ fs) h off keeps = ap (λ z. None ∷ z) (same_files fs h off keeps)
-  same_files (Some (file.Reading r) ∷ fs) h off keeps = ap (λ z. Some (Reading (reader_seen r)) ∷ z) (same_files fs h off keeps)
+  same_files (Some (file.Reading r) ∷ fs) h off keeps = ap (λ z. Some (Reading (reader_view r)) ∷ z) (same_files fs h off keeps)
   same_files (Some (file.Writing w) ∷ fs) h off keeps = ap₂ (λ x z. Some (Writing x) ∷ z) (sym (same_writer w h.0 off.0 keeps.0.1)) (same_files fs h.1 off.1 keeps.1)
 
   pub are_left : (files : OpenFiles) → IsReady old files → SparesFiles old op files → KeepsWriters old new (writers_in files) → AreLeft old new files
@@ -120,7 +120,7 @@ module _ (over : (old new : Seen) (op : Operation) (path : Path) (c : Contents) 
       never : has_unsaved files ≡ false → (b : ℕ) → IsInFlight old.map b → ⊥
       never saved b h = let k = in_flight-freed old.map b h in let none = ready.idle saved in absurd (omega (arith, k, none))
 
-      by_size : (taken_by op ≡ 0) ⊎ (length (around_of old).used + held old.disk.block_size (files_seen old files) + taken_by op ≤ block_count old.disk) →
+      by_size : (taken_by op ≡ 0) ⊎ (length (around_of old).used + held old.disk.block_size (files_view old files) + taken_by op ≤ block_count old.disk) →
           (taken_by op ≡ 0) ⊎ (length (around_of old).used + held_by_all old.disk.block_size files + taken_by op ≤ block_count old.disk)
       by_size (inl none) = inl none
       by_size (inr r) = inr (subst (λ n. length (around_of old).used + n + taken_by op ≤ block_count old.disk) (sym (held_is old.disk.block_size old files ready)) r)
@@ -130,19 +130,19 @@ module _ (over : (old new : Seen) (op : Operation) (path : Path) (c : Contents) 
 fewer : (flying form held by all : ℕ) → flying ≤ form → form ≤ held - 2 → by ≡ held → all ≡ 0 + by → flying ≤ all
 fewer flying form held by all a b c d = omega arith
 
-module _ (flying : (t : Seen) (path : Path) (c : Contents) → IsOver t path c → in_flight_count t.map ≤ form_blocks t.disk.block_size (form_of c))
-    (covers : (block_size : ℕ) (form : Form) (w : session.Writer) → IsKept block_size form w → form_blocks block_size form ≤ held_by block_size w - 2) (t : Seen) where
+module _ (flying : (t : TreeState) (path : Path) (c : Contents) → IsOver t path c → in_flight_count t.map ≤ form_blocks t.disk.block_size (form_of c))
+    (covers : (block_size : ℕ) (form : Form) (w : session.Writer) → IsWriterForm block_size form w → form_blocks block_size form ≤ held_by block_size w - 2) (t : TreeState) where
   of_writer : (w : Writer) (u : Option Unsaved) → w.unsaved ≡ u → IsWritten t w → IsUnsavedIn t w u → (is_some u || false) ≡ true → in_flight_count t.map ≤ sum_by (held_by_size t.disk.block_size) (w ∷ [])
   of_writer w None is h c e = absurd (cc)
   of_writer w (Some u) is h c e =
-      fewer _ _ _ _ _ (flying t w.path u.contents c.over) (covers t.disk.block_size (form_of u.contents) (writer_seen t w) c.kept) (held_one t.disk.block_size t w h.size) refl
+      fewer _ _ _ _ _ (flying t w.path u.contents c.over) (covers t.disk.block_size (form_of u.contents) (writer_view t w) c.kept) (held_one t.disk.block_size t w h.size) refl
 
   of_writers : (ws : List Writer) → length ws ≤ 1 → AllByRecursion (IsWritten t) ws → list_any (λ w. is_some w.unsaved) ws ≡ true → in_flight_count t.map ≤ sum_by (held_by_size t.disk.block_size) ws
   of_writers [] one h e = absurd (cc)
   of_writers (w ∷ []) one h e = of_writer w w.unsaved refl h.0 h.0.changed e
   of_writers (w ∷ v ∷ ws) one h e = absurd (omega (arith, one))
 
-  pub few_in_flight : (files : OpenFiles) → IsReady t files → in_flight_count t.map ≤ held t.disk.block_size (files_seen t files)
+  pub few_in_flight : (files : OpenFiles) → IsReady t files → in_flight_count t.map ≤ held t.disk.block_size (files_view t files)
   few_in_flight files ready = subst (λ n. in_flight_count t.map ≤ n) (held_is t.disk.block_size t files ready) (go (has_unsaved files) refl)
     where
       go : (b : Bool) → has_unsaved files ≡ b → in_flight_count t.map ≤ held_by_all t.disk.block_size files

@@ -20,7 +20,7 @@ pub mod Calls
 pub mod FewReads
 pub mod KeptLookUps
 pub mod Running
-pub mod Withstanding
+pub mod Surviving
 pub mod Remounting
 pub mod ReaderReads
 pub mod FreshBegun
@@ -32,11 +32,11 @@ pub mod Moving
 pub mod RemoveAnswered
 pub mod RenameAnswered
 pub mod Beginning
-pub mod WriterTurns
+pub mod WriterSteps
 pub mod Truncating
-pub mod WrittenTurns
+pub mod WrittenSteps
 pub mod RecoverAnswered
-pub mod SavedTurns
+pub mod SavedSteps
 pub mod OpenedWriters
 pub mod Stopping
 pub mod StoppedCalls
@@ -44,5 +44,5 @@ pub mod Ending
 pub mod Sparing
 pub mod WrittenAlone
 pub mod WriterPaths
-pub mod Told
+pub mod DeviceLaws
 pub mod Called

@@ -8,7 +8,7 @@ use Rattle.std.proofs.lemmas.Option.{same_Some}
 use Rattle.lfs_model.specs.Disk.{inline_limit}
 use Rattle.lfs_writer.specs.Contents.{form_of}
 use Rattle.lfs_writer.specs.Form as form
-use Rattle.lfs_writer.specs.Form.{Fits, Form, IsKept}
+use Rattle.lfs_writer.specs.Form.{Fits, Form, IsWriterForm}
 use Rattle.std.proofs.lemmas.Bool.Decides.{nat_tests}
 use Rattle.std.proofs.lemmas.List.{map-set, map-append}
 use Rattle.std.proofs.lemmas.Option.{slice_get-map}
@@ -21,8 +21,8 @@ use Rattle.lfs_model.specs.Effects.{moved_to}
 use Rattle.lfs_model.specs.Operations.{path_of}
 use Rattle.lfs_model.specs.Disk.{block_count}
 use Rattle.lfs_model.specs.Session.{lacks}
-use Rattle.lfs_tree.specs.Seen.{Seen, IsAsked, around_of}
-use Rattle.lfs_fs.specs.FileSeen.{OpenFiles, before, picked, bytes_of, entry_of, file_seen, files_seen, free_entry, has_unsaved, is_entry_at, is_unsaved_entry, held_by_all, held_by_size, held_for, moved_entry, put_entry, reader_in, reader_seen, readers_in, turned_in, writer_in, writer_seen, writers_in, written_paths}
+use Rattle.lfs_tree.specs.TreeState.{TreeState, IsAsked, around_of}
+use Rattle.lfs_fs.specs.FileView.{OpenFiles, before, picked, bytes_of, entry_of, file_view, files_view, free_entry, has_unsaved, is_entry_at, is_unsaved_entry, held_by_all, held_by_size, held_for, moved_entry, put_entry, reader_in, reader_view, readers_in, turned_in, writer_in, writer_view, writers_in, written_paths}
 use Rattle.lfs_fs.specs.Held.{IsRead, IsReady, IsUnsavedIn, IsWritten}
 use Rattle.lfs_fs.specs.declared.files.OpenFile.{OpenFile}
 use Rattle.lfs_fs.specs.declared.files.OpenFile.TheVariants as file
@@ -33,84 +33,84 @@ use Rattle.lfs_fs.proofs.OpenReaders.{any_path, read_closed, read_moved, read_pu
 
 -- ---- one file
 
-pub file_is : (t : Seen) (fs : OpenFiles) (fd : ℕ) → file_of (files_seen t fs) fd ≡ option_map (file_seen t) (entry_of fs fd)
-file_is t fs fd = ap option_flatten (slice_get-map (option_map (file_seen t)) fs fd) ∙ flat (slice_get fs fd)
+pub file_is : (t : TreeState) (fs : OpenFiles) (fd : ℕ) → file_of (files_view t fs) fd ≡ option_map (file_view t) (entry_of fs fd)
+file_is t fs fd = ap option_flatten (slice_get-map (option_map (file_view t)) fs fd) ∙ flat (slice_get fs fd)
   where
-    flat : (o : Option (Option OpenFile)) → option_flatten (option_map (option_map (file_seen t)) o) ≡ option_map (file_seen t) (option_flatten o)
+    flat : (o : Option (Option OpenFile)) → option_flatten (option_map (option_map (file_view t)) o) ≡ option_map (file_view t) (option_flatten o)
     flat None = refl
     flat (Some x) = refl
 
-pub is_there : (t : Seen) (o : Option OpenFile) → is_some (option_map (file_seen t) o) ≡ is_some o
+pub is_there : (t : TreeState) (o : Option OpenFile) → is_some (option_map (file_view t) o) ≡ is_some o
 is_there t None = refl
 is_there t (Some x) = refl
 
-pub reader_is : (t : Seen) (o : Option OpenFile) → reader_of (option_map (file_seen t) o) ≡ option_map reader_seen (reader_in o)
+pub reader_is : (t : TreeState) (o : Option OpenFile) → reader_of (option_map (file_view t) o) ≡ option_map reader_view (reader_in o)
 reader_is t None = refl
 reader_is t (Some (file.Reading r)) = refl
 reader_is t (Some (file.Writing w)) = refl
 
-pub writer_is : (t : Seen) (o : Option OpenFile) → session.writer_of (option_map (file_seen t) o) ≡ option_map (writer_seen t) (writer_in o)
+pub writer_is : (t : TreeState) (o : Option OpenFile) → session.writer_of (option_map (file_view t) o) ≡ option_map (writer_view t) (writer_in o)
 writer_is t None = refl
 writer_is t (Some (file.Reading r)) = refl
 writer_is t (Some (file.Writing w)) = refl
 
 -- ---- all of them
 
-pub same_files : (t s : Seen) (fs : OpenFiles) → IsAsked t s → files_seen t fs ≡ files_seen s fs
-same_files t s fs asked = sym (ap (λ z. files_seen z fs) asked.same)
+pub same_files : (t s : TreeState) (fs : OpenFiles) → IsAsked t s → files_view t fs ≡ files_view s fs
+same_files t s fs asked = sym (ap (λ z. files_view z fs) asked.same)
 
-pub writers_are : (t : Seen) (fs : OpenFiles) → writers (files_seen t fs) ≡ map (writer_seen t) (writers_in fs)
+pub writers_are : (t : TreeState) (fs : OpenFiles) → writers (files_view t fs) ≡ map (writer_view t) (writers_in fs)
 writers_are t [] = refl
 writers_are t (None ∷ fs) = writers_are t fs
 writers_are t (Some (file.Reading r) ∷ fs) = writers_are t fs
-writers_are t (Some (file.Writing w) ∷ fs) = ap (λ ws. writer_seen t w ∷ ws) (writers_are t fs)
+writers_are t (Some (file.Writing w) ∷ fs) = ap (λ ws. writer_view t w ∷ ws) (writers_are t fs)
 
-pub readers_are : (t : Seen) (fs : OpenFiles) → readers (files_seen t fs) ≡ map reader_seen (readers_in fs)
+pub readers_are : (t : TreeState) (fs : OpenFiles) → readers (files_view t fs) ≡ map reader_view (readers_in fs)
 readers_are t [] = refl
 readers_are t (None ∷ fs) = readers_are t fs
-readers_are t (Some (file.Reading r) ∷ fs) = ap (λ rs. reader_seen r ∷ rs) (readers_are t fs)
+readers_are t (Some (file.Reading r) ∷ fs) = ap (λ rs. reader_view r ∷ rs) (readers_are t fs)
 readers_are t (Some (file.Writing w) ∷ fs) = readers_are t fs
 
 mapped_length : {A B : Type 0} (f : A → B) (xs : List A) → length (map f xs) ≡ length xs
 mapped_length f [] = refl
 mapped_length f (x ∷ xs) = ap suc (mapped_length f xs)
 
-mapped_any : (t : Seen) (p : Path) (ws : List Writer) → list_any (λ w. same_path p w.path) (map (writer_seen t) ws) ≡ list_any (λ w. same_path p w.path) ws
+mapped_any : (t : TreeState) (p : Path) (ws : List Writer) → list_any (λ w. same_path p w.path) (map (writer_view t) ws) ≡ list_any (λ w. same_path p w.path) ws
 mapped_any t p [] = refl
 mapped_any t p (w ∷ ws) = ap (λ b. same_path p w.path || b) (mapped_any t p ws)
 
-pub writer_count : (t : Seen) (fs : OpenFiles) → length (writers (files_seen t fs)) ≡ length (writers_in fs)
-writer_count t fs = ap (λ ws. length ws) (writers_are t fs) ∙ mapped_length (writer_seen t) (writers_in fs)
+pub writer_count : (t : TreeState) (fs : OpenFiles) → length (writers (files_view t fs)) ≡ length (writers_in fs)
+writer_count t fs = ap (λ ws. length ws) (writers_are t fs) ∙ mapped_length (writer_view t) (writers_in fs)
 
-pub reader_count : (t : Seen) (fs : OpenFiles) → length (readers (files_seen t fs)) ≡ length (readers_in fs)
-reader_count t fs = ap (λ rs. length rs) (readers_are t fs) ∙ mapped_length reader_seen (readers_in fs)
+pub reader_count : (t : TreeState) (fs : OpenFiles) → length (readers (files_view t fs)) ≡ length (readers_in fs)
+reader_count t fs = ap (λ rs. length rs) (readers_are t fs) ∙ mapped_length reader_view (readers_in fs)
 
-pub busy : (t : Seen) (fs : OpenFiles) (p : Path) →
-    (list_any (λ w. same_path p w.path) (writers_in fs) || nat_le 16 (length (readers_in fs))) ≡ (list_any (λ w. same_path p w.path) (writers (files_seen t fs)) || nat_le 16 (length (readers (files_seen t fs))))
+pub busy : (t : TreeState) (fs : OpenFiles) (p : Path) →
+    (list_any (λ w. same_path p w.path) (writers_in fs) || nat_le 16 (length (readers_in fs))) ≡ (list_any (λ w. same_path p w.path) (writers (files_view t fs)) || nat_le 16 (length (readers (files_view t fs))))
 busy t fs p = ap₂ (λ b n. b || nat_le 16 n) (sym (ap (list_any (λ w. same_path p w.path)) (writers_are t fs) ∙ mapped_any t p (writers_in fs))) (sym (reader_count t fs))
 
 -- ---- space
 
-pub held_one : (block_size : ℕ) (t : Seen) (w : Writer) → length (bytes_of t w.path w.unsaved) ≡ w.size → held_by_size block_size w ≡ held_by block_size (writer_seen t w)
+pub held_one : (block_size : ℕ) (t : TreeState) (w : Writer) → length (bytes_of t w.path w.unsaved) ≡ w.size → held_by_size block_size w ≡ held_by block_size (writer_view t w)
 held_one block_size t w e = sizes w.unsaved w.size ∙ ap (λ n. cond (not (is_some w.unsaved)) 0 (held_for block_size (turned_in w.unsaved) n)) (sym e)
   where
     sizes : (u : Option Unsaved) (n : ℕ) → cond (is_none u) 0 (held_for block_size (turned_in u) n) ≡ cond (not (is_some u)) 0 (held_for block_size (turned_in u) n)
     sizes None n = refl
     sizes (Some u) n = refl
 
-held_each : (block_size a : ℕ) (t : Seen) (ws : List Writer) → AllByRecursion (IsWritten t) ws →
-    fold (λ a x. a + held_by_size block_size x) a ws ≡ fold (λ a x. a + held_by block_size x) a (map (writer_seen t) ws)
+held_each : (block_size a : ℕ) (t : TreeState) (ws : List Writer) → AllByRecursion (IsWritten t) ws →
+    fold (λ a x. a + held_by_size block_size x) a ws ≡ fold (λ a x. a + held_by block_size x) a (map (writer_view t) ws)
 held_each block_size a t [] h = refl
 held_each block_size a t (w ∷ ws) h =
     held_each block_size (a + held_by_size block_size w) t ws h.1
-    ∙ ap (λ n. fold (λ a x. a + held_by block_size x) (a + n) (map (writer_seen t) ws)) (held_one block_size t w h.0.size)
+    ∙ ap (λ n. fold (λ a x. a + held_by block_size x) (a + n) (map (writer_view t) ws)) (held_one block_size t w h.0.size)
 
-pub held_is : (block_size : ℕ) (t : Seen) (fs : OpenFiles) → IsReady t fs → held_by_all block_size fs ≡ held block_size (files_seen t fs)
+pub held_is : (block_size : ℕ) (t : TreeState) (fs : OpenFiles) → IsReady t fs → held_by_all block_size fs ≡ held block_size (files_view t fs)
 held_is block_size t fs ready = held_each block_size 0 t (writers_in fs) ready.written ∙ sym (ap (sum_by (held_by block_size)) (writers_are t fs))
 
 -- ---- numbers
 
-pub free_is : (t : Seen) (fs : OpenFiles) → free_entry fs ≡ free_number (files_seen t fs)
+pub free_is : (t : TreeState) (fs : OpenFiles) → free_entry fs ≡ free_number (files_view t fs)
 free_is t [] = refl
 free_is t (None ∷ fs) = refl
 free_is t (Some x ∷ fs) = ap (λ n. 1 + n) (free_is t fs)
@@ -134,12 +134,12 @@ few_with_none fs few none = let k = free_is_few fs in let l = ap (λ ws. length 
 
 -- ---- changes
 
-pub put_is : (t : Seen) (fs : OpenFiles) (fd : ℕ) (entry : Option OpenFile) → files_seen t (put_entry fs fd entry) ≡ put_file (files_seen t fs) fd (option_map (file_seen t) entry)
+pub put_is : (t : TreeState) (fs : OpenFiles) (fd : ℕ) (entry : Option OpenFile) → files_view t (put_entry fs fd entry) ≡ put_file (files_view t fs) fd (option_map (file_view t) entry)
 put_is t fs fd entry = go (nat_lt fd (length fs)) refl
   where
-    go : (b : Bool) → nat_lt fd (length fs) ≡ b → files_seen t (put_entry fs fd entry) ≡ put_file (files_seen t fs) fd (option_map (file_seen t) entry)
-    go true e = rw (mapped_length (option_map (file_seen t)) fs, e) (map-set (option_map (file_seen t)) fs fd entry)
-    go false e = rw (mapped_length (option_map (file_seen t)) fs, e) (map-append (option_map (file_seen t)) fs (entry ∷ []))
+    go : (b : Bool) → nat_lt fd (length fs) ≡ b → files_view t (put_entry fs fd entry) ≡ put_file (files_view t fs) fd (option_map (file_view t) entry)
+    go true e = rw (mapped_length (option_map (file_view t)) fs, e) (map-set (option_map (file_view t)) fs fd entry)
+    go false e = rw (mapped_length (option_map (file_view t)) fs, e) (map-append (option_map (file_view t)) fs (entry ∷ []))
 
 one_further : (n m : ℕ) → nat_lt n m ≡ true → nat_lt (suc n) (suc m) ≡ true
 one_further n m e = grind (arith, nat_tests)
@@ -149,16 +149,16 @@ inside [] fd e = absurd (cc)
 inside (f ∷ fs) zero e = lt-ltb 0 (length (f ∷ fs)) (omega arith)
 inside (f ∷ fs) (suc fd) e = one_further fd (length fs) (inside fs fd e)
 
-pub set_is : (t : Seen) (fs : OpenFiles) (fd : ℕ) (entry : Option OpenFile) → is_some (entry_of fs fd) ≡ true → files_seen t (set fs fd entry) ≡ put_file (files_seen t fs) fd (option_map (file_seen t) entry)
-set_is t fs fd entry e = sym (ap (λ b. files_seen t (cond b (set fs fd entry) (fs ++ entry ∷ []))) (inside fs fd e)) ∙ put_is t fs fd entry
+pub set_is : (t : TreeState) (fs : OpenFiles) (fd : ℕ) (entry : Option OpenFile) → is_some (entry_of fs fd) ≡ true → files_view t (set fs fd entry) ≡ put_file (files_view t fs) fd (option_map (file_view t) entry)
+set_is t fs fd entry e = sym (ap (λ b. files_view t (cond b (set fs fd entry) (fs ++ entry ∷ []))) (inside fs fd e)) ∙ put_is t fs fd entry
 
-pub moved_is : (t : Seen) (fs : OpenFiles) (fd position : ℕ) → is_some (entry_of fs fd) ≡ true →
-    files_seen t (set fs fd (option_map (moved_entry position) (entry_of fs fd))) ≡ put_file (files_seen t fs) fd (option_map (moved_to position) (file_of (files_seen t fs) fd))
+pub moved_is : (t : TreeState) (fs : OpenFiles) (fd position : ℕ) → is_some (entry_of fs fd) ≡ true →
+    files_view t (set fs fd (option_map (moved_entry position) (entry_of fs fd))) ≡ put_file (files_view t fs) fd (option_map (moved_to position) (file_of (files_view t fs) fd))
 moved_is t fs fd position e =
     set_is t fs fd (option_map (moved_entry position) (entry_of fs fd)) e
-    ∙ ap (put_file (files_seen t fs) fd) (moved (entry_of fs fd) ∙ sym (ap (option_map (moved_to position)) (file_is t fs fd)))
+    ∙ ap (put_file (files_view t fs) fd) (moved (entry_of fs fd) ∙ sym (ap (option_map (moved_to position)) (file_is t fs fd)))
   where
-    moved : (o : Option OpenFile) → option_map (file_seen t) (option_map (moved_entry position) o) ≡ option_map (moved_to position) (option_map (file_seen t) o)
+    moved : (o : Option OpenFile) → option_map (file_view t) (option_map (moved_entry position) o) ≡ option_map (moved_to position) (option_map (file_view t) o)
     moved None = refl
     moved (Some (file.Reading r)) = refl
     moved (Some (file.Writing w)) = refl
@@ -187,7 +187,7 @@ writers_put fs r = go (nat_lt (free_entry fs) (length fs)) refl
     go true e = rw e (set_free fs)
     go false e = rw e (behind fs)
 
-kept_moved : (block_size place : ℕ) (shape : Form) (w : session.Writer) → IsKept block_size shape w → IsKept block_size shape (record w { position = place })
+kept_moved : (block_size place : ℕ) (shape : Form) (w : session.Writer) → IsWriterForm block_size shape w → IsWriterForm block_size shape (record w { position = place })
 kept_moved block_size place shape w h = record { size = h.size; fits = fits shape h.fits }
   where
     fits : (f : Form) → Fits (inline_limit block_size) f w → Fits (inline_limit block_size) f (record w { position = place })
@@ -195,11 +195,11 @@ kept_moved block_size place shape w h = record { size = h.size; fits = fits shap
     fits (form.Finished size flying) h = record { dirty = h.dirty; large = h.large; turned = h.turned }
     fits (form.InHand stop base flying) h = record { dirty = h.dirty; large = h.large; turned = h.turned; at_end = h.at_end }
 
-unsaved_moved_in : (t : Seen) (w : Writer) (place : ℕ) (u : Option Unsaved) → IsUnsavedIn t w u → IsUnsavedIn t (record w { position = place }) u
+unsaved_moved_in : (t : TreeState) (w : Writer) (place : ℕ) (u : Option Unsaved) → IsUnsavedIn t w u → IsUnsavedIn t (record w { position = place }) u
 unsaved_moved_in t w place None h = tt
-unsaved_moved_in t w place (Some u) h = record { over = h.over; kept = kept_moved t.disk.block_size place (form_of u.contents) (writer_seen t w) h.kept; form = h.form; room = h.room }
+unsaved_moved_in t w place (Some u) h = record { over = h.over; kept = kept_moved t.disk.block_size place (form_of u.contents) (writer_view t w) h.kept; form = h.form; room = h.room }
 
-written_moved : (t : Seen) (fs : OpenFiles) (fd position : ℕ) → AllByRecursion (IsWritten t) (writers_in fs) → AllByRecursion (IsWritten t) (writers_in (set fs fd (option_map (moved_entry position) (entry_of fs fd))))
+written_moved : (t : TreeState) (fs : OpenFiles) (fd position : ℕ) → AllByRecursion (IsWritten t) (writers_in fs) → AllByRecursion (IsWritten t) (writers_in (set fs fd (option_map (moved_entry position) (entry_of fs fd))))
 written_moved t [] fd position h = h
 written_moved t (None ∷ fs) zero position h = h
 written_moved t (Some (file.Reading r) ∷ fs) zero position h = h
@@ -217,7 +217,7 @@ unsaved_moved (None ∷ fs) (suc fd) position = unsaved_moved fs fd position
 unsaved_moved (Some (file.Reading r) ∷ fs) (suc fd) position = unsaved_moved fs fd position
 unsaved_moved (Some (file.Writing w) ∷ fs) (suc fd) position = ap (λ b. is_some w.unsaved || b) (unsaved_moved fs fd position)
 
-written_closed : (t : Seen) (fs : OpenFiles) (fd : ℕ) → AllByRecursion (IsWritten t) (writers_in fs) → AllByRecursion (IsWritten t) (writers_in (set fs fd None))
+written_closed : (t : TreeState) (fs : OpenFiles) (fd : ℕ) → AllByRecursion (IsWritten t) (writers_in fs) → AllByRecursion (IsWritten t) (writers_in (set fs fd None))
 written_closed t [] fd h = h
 written_closed t (None ∷ fs) zero h = h
 written_closed t (Some (file.Reading r) ∷ fs) zero h = h
@@ -389,7 +389,7 @@ one_closed fs fd h = let k = fewer fs fd in omega (arith, k, h)
     fewer (Some (file.Reading r) ∷ fs) (suc fd) = fewer fs fd
     fewer (Some (file.Writing w) ∷ fs) (suc fd) = let k = fewer fs fd in omega (arith, k)
 
-pub ready_moved : (t : Seen) (fs : OpenFiles) (fd position : ℕ) → IsReady t fs → IsReady t (set fs fd (option_map (moved_entry position) (entry_of fs fd)))
+pub ready_moved : (t : TreeState) (fs : OpenFiles) (fd position : ℕ) → IsReady t fs → IsReady t (set fs fd (option_map (moved_entry position) (entry_of fs fd)))
 ready_moved t fs fd position h = record {
   sound = h.sound;
   called = h.called;
@@ -399,7 +399,7 @@ ready_moved t fs fd position h = record {
   read = read_moved t.pairs fs fd position h.read;
 }
 
-pub ready_closed : (t : Seen) (fs : OpenFiles) (fd : ℕ) → is_saved (entry_of fs fd) ≡ true → IsReady t fs → IsReady t (set fs fd None)
+pub ready_closed : (t : TreeState) (fs : OpenFiles) (fd : ℕ) → is_saved (entry_of fs fd) ≡ true → IsReady t fs → IsReady t (set fs fd None)
 ready_closed t fs fd e h = record {
   sound = h.sound;
   called = h.called;
@@ -409,7 +409,7 @@ ready_closed t fs fd e h = record {
   read = read_closed t.pairs fs fd h.read;
 }
 
-pub ready_put : (t : Seen) (fs : OpenFiles) (r : Reader) → IsRead t.pairs (written_paths fs) r → IsReady t fs → IsReady t (put_entry fs (free_entry fs) (Some (file.Reading r)))
+pub ready_put : (t : TreeState) (fs : OpenFiles) (r : Reader) → IsRead t.pairs (written_paths fs) r → IsReady t fs → IsReady t (put_entry fs (free_entry fs) (Some (file.Reading r)))
 ready_put t fs r k h = record {
   sound = h.sound;
   called = h.called;
@@ -419,31 +419,31 @@ ready_put t fs r k h = record {
   read = read_put t.pairs fs (free_entry fs) r (ap (map (λ w. w.path)) (writers_put fs r)) k h.read;
 }
 
-pub few_left : (t : Seen) (fs : OpenFiles) → nat_le 16 (length (readers (files_seen t fs))) ≡ false → length (readers_in fs) < 16
+pub few_left : (t : TreeState) (fs : OpenFiles) → nat_le 16 (length (readers (files_view t fs))) ≡ false → length (readers_in fs) < 16
 few_left t fs e = few_readers (length (readers_in fs)) (ap (nat_le 16) (sym (reader_count t fs)) ∙ e)
   where
     few_readers : (n : ℕ) → nat_le 16 n ≡ false → n < 16
     few_readers n e = grind (arith, nat_tests)
 
 -- no writer is at a path that may be opened for reading
-pub apart_is : (t : Seen) (fs : OpenFiles) (p : Path) → list_any (λ w. same_path p w.path) (writers (files_seen t fs)) ≡ false → list_any (same_path p) (written_paths fs) ≡ false
+pub apart_is : (t : TreeState) (fs : OpenFiles) (p : Path) → list_any (λ w. same_path p w.path) (writers (files_view t fs)) ≡ false → list_any (same_path p) (written_paths fs) ≡ false
 apart_is t fs p e = sym (any_path p (writers_in fs)) ∙ sym (ap (list_any (λ w. same_path p w.path)) (writers_are t fs) ∙ mapped_any t p (writers_in fs)) ∙ e
 
-pub busy_at : (t : Seen) (fs : OpenFiles) (bytes : List ℕ) (p : Path) (b : Bool) → Some p ≡ path_of bytes →
+pub busy_at : (t : TreeState) (fs : OpenFiles) (bytes : List ℕ) (p : Path) (b : Bool) → Some p ≡ path_of bytes →
     b ≡ (list_any (λ w. same_path (as_path bytes) w.path) (writers_in fs) || nat_le 16 (length (readers_in fs))) →
-    b ≡ (list_any (λ w. same_path p w.path) (writers (files_seen t fs)) || nat_le 16 (length (readers (files_seen t fs))))
+    b ≡ (list_any (λ w. same_path p w.path) (writers (files_view t fs)) || nat_le 16 (length (readers (files_view t fs))))
 busy_at t fs bytes p b is e =
     e ∙ busy t fs (as_path bytes)
-    ∙ ap (λ q. list_any (λ w. same_path q w.path) (writers (files_seen t fs)) || nat_le 16 (length (readers (files_seen t fs)))) (ap (λ z. unwrap_or z []) (sym is))
+    ∙ ap (λ q. list_any (λ w. same_path q w.path) (writers (files_view t fs)) || nat_le 16 (length (readers (files_view t fs)))) (ap (λ z. unwrap_or z []) (sym is))
 
-pub lacks_is : (t : Seen) (fs : OpenFiles) (need : ℕ) → IsReady t fs → nat_lt (block_count t.disk) (length (around_of t).used + held_by_all t.disk.block_size fs + need) ≡ lacks (around_of t) (files_seen t fs) need
+pub lacks_is : (t : TreeState) (fs : OpenFiles) (need : ℕ) → IsReady t fs → nat_lt (block_count t.disk) (length (around_of t).used + held_by_all t.disk.block_size fs + need) ≡ lacks (around_of t) (files_view t fs) need
 lacks_is t fs need ready = ap (λ h. nat_lt (block_count t.disk) (length (around_of t).used + h + need)) (held_is t.disk.block_size t fs ready)
 
-pub some_reader : (t : Seen) (fs : OpenFiles) (fd : ℕ) (r : Reader) → Some r ≡ reader_in (entry_of fs fd) → Some (reader_seen r) ≡ reader_of (file_of (files_seen t fs) fd)
-some_reader t fs fd r e = ap (option_map reader_seen) e ∙ sym (ap reader_of (file_is t fs fd) ∙ reader_is t (entry_of fs fd))
+pub some_reader : (t : TreeState) (fs : OpenFiles) (fd : ℕ) (r : Reader) → Some r ≡ reader_in (entry_of fs fd) → Some (reader_view r) ≡ reader_of (file_of (files_view t fs) fd)
+some_reader t fs fd r e = ap (option_map reader_view) e ∙ sym (ap reader_of (file_is t fs fd) ∙ reader_is t (entry_of fs fd))
 
-pub none_reader : (t : Seen) (fs : OpenFiles) (fd : ℕ) → None ≡ reader_in (entry_of fs fd) → None ≡ reader_of (file_of (files_seen t fs) fd)
-none_reader t fs fd e = ap (option_map reader_seen) e ∙ sym (ap reader_of (file_is t fs fd) ∙ reader_is t (entry_of fs fd))
+pub none_reader : (t : TreeState) (fs : OpenFiles) (fd : ℕ) → None ≡ reader_in (entry_of fs fd) → None ≡ reader_of (file_of (files_view t fs) fd)
+none_reader t fs fd e = ap (option_map reader_view) e ∙ sym (ap reader_of (file_is t fs fd) ∙ reader_is t (entry_of fs fd))
 
 pub reader_there : (o : Option OpenFile) (r : Reader) → Some r ≡ reader_in o → is_some o ≡ true
 reader_there None r e = absurd (cc)
@@ -453,11 +453,11 @@ chosen : (b : Bool) (o : session.OpenFile) → b ≡ is_some (cond b (Some o) No
 chosen true o = refl
 chosen false o = refl
 
-pub open_at_is : (t : Seen) (p : Path → Bool) (fs : OpenFiles) → list_any (is_entry_at p) fs ≡ is_open_at p (files_seen t fs)
+pub open_at_is : (t : TreeState) (p : Path → Bool) (fs : OpenFiles) → list_any (is_entry_at p) fs ≡ is_open_at p (files_view t fs)
 open_at_is t p [] = refl
 open_at_is t p (None ∷ fs) = open_at_is t p fs
-open_at_is t p (Some (file.Reading r) ∷ fs) = ap₂ (λ a b. a || b) (chosen (p r.path) (session.Reading (reader_seen r))) (open_at_is t p fs)
-open_at_is t p (Some (file.Writing w) ∷ fs) = ap₂ (λ a b. a || b) (chosen (p w.path) (session.Writing (writer_seen t w))) (open_at_is t p fs)
+open_at_is t p (Some (file.Reading r) ∷ fs) = ap₂ (λ a b. a || b) (chosen (p r.path) (session.Reading (reader_view r))) (open_at_is t p fs)
+open_at_is t p (Some (file.Writing w) ∷ fs) = ap₂ (λ a b. a || b) (chosen (p w.path) (session.Writing (writer_view t w))) (open_at_is t p fs)
 
 pub writers_after : (fs gs : OpenFiles) (n : ℕ) (r : Reader) → n ≡ free_entry fs → gs ≡ put_entry fs n (Some (file.Reading r)) → writers_in gs ≡ writers_in fs
 writers_after fs gs n r e is = ap (λ xs. writers_in xs) (is ∙ ap (λ m. put_entry fs m (Some (file.Reading r))) e) ∙ writers_put fs r

@@ -17,8 +17,8 @@ use Rattle.lfs_lookup.specs.FileContents.{AreContentsAt, AreFoundAt, struct_of}
 use Rattle.lfs_lookup.specs.declared.file_contents.FileContents.{FileContents}
 use Rattle.lfs_lookup.specs.declared.file_contents.FileContents.TheVariants as contents
 use Rattle.lfs_tree.specs.KeepsFiles.{KeepsOthers}
-use Rattle.lfs_tree.specs.Seen.{IsCarried, Seen, kept_of, tree_seen}
-use Rattle.lfs_fs.specs.FileSeen.{OpenFiles, before, entry_of, moved_entry, put_entry, reader_in, readers_in, writers_in, written_paths}
+use Rattle.lfs_tree.specs.TreeState.{IsAppliedOn, TreeState, kept_of, tree_view}
+use Rattle.lfs_fs.specs.FileView.{OpenFiles, before, entry_of, moved_entry, put_entry, reader_in, readers_in, writers_in, written_paths}
 use Rattle.lfs_fs.specs.Held.{AreRead, IsRead}
 use Rattle.lfs_fs.specs.declared.files.OpenFile.{OpenFile}
 use Rattle.lfs_fs.specs.declared.files.OpenFile.TheVariants as file
@@ -40,7 +40,7 @@ contents_are_file disk ps path c h = go (slot_of_path ps path) h.struct
     go (Some u) e = subst (λ s. is_file (Some (node_of (contents_in disk) (entries_in ps) u.attributes s)) ≡ true) (sym (same_Some u.struct (struct_of c) e)) (kind u.attributes c)
 
 -- contents that are found are those of the file there
-pub found_contents : (t : Seen) (path : Path) (o : Option FileContents) (x none : FileContents) → AreFoundAt (kept_of t) path o → x ≡ unwrap_or o none → is_file (tree_seen t path) ≡ true → AreContentsAt t.pairs path x
+pub found_contents : (t : TreeState) (path : Path) (o : Option FileContents) (x none : FileContents) → AreFoundAt (kept_of t) path o → x ≡ unwrap_or o none → is_file (tree_view t path) ≡ true → AreContentsAt t.pairs path x
 found_contents t path None x none found is there = absurd (let k = sym found ∙ there in cc)
 found_contents t path (Some c) x none found is there = subst (AreContentsAt t.pairs path) (sym is) found
 
@@ -151,7 +151,7 @@ read_put ps fs fd r same k h =
     (all_put (IsRead ps (written_paths fs)) fs fd (Some (file.Reading r)) (k, tt) h)
 
 -- in an operation that is about none of them
-pub read_carried : (old new : Seen) (op : Operation) (written : List Path) (rs : List Reader) → IsCarried old op new → AllByRecursion (λ r. takes_or_moves op r.path ≡ false) rs → AllByRecursion (IsRead old.pairs written) rs → AllByRecursion (IsRead new.pairs written) rs
+pub read_carried : (old new : TreeState) (op : Operation) (written : List Path) (rs : List Reader) → IsAppliedOn old op new → AllByRecursion (λ r. takes_or_moves op r.path ≡ false) rs → AllByRecursion (IsRead old.pairs written) rs → AllByRecursion (IsRead new.pairs written) rs
 read_carried old new op written [] carried off h = tt
 read_carried old new op written (r ∷ rs) carried off h = (
   record {

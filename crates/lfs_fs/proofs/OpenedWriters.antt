@@ -13,7 +13,7 @@ use Rattle.lfs_model.specs.Cache.{CachedBlocks}
 use Rattle.lfs_model.specs.History.{Event}
 use Rattle.lfs_model.specs.Operations as ops
 use Rattle.lfs_model.specs.Operations.{Flags, path_of}
-use Rattle.lfs_model.specs.Run.{IsTurn}
+use Rattle.lfs_model.specs.Run.{IsSessionStep}
 use Rattle.lfs_model.specs.Session as session
 use Rattle.lfs_model.specs.Session.{Files, Session, Reading, Writing, free_number, held, is_long, is_open_at, is_overcharged, lacks, overfills, parent_fault, put_file, readers, writers}
 use Rattle.lfs_model.specs.Writers.{opened_writer}
@@ -22,13 +22,13 @@ use Rattle.lfs_model.specs.Refusals.{as_path}
 use Rattle.lfs_model.specs.Effects.{effect_of, size_of}
 use Rattle.lfs_model.specs.Tree.{DirectoryNode, FileNode, Node, Path}
 use Rattle.lfs_model.proofs.Committed.{recovered_from}
-use Rattle.lfs_model.proofs.TurnsMade.{completed_turn}
+use Rattle.lfs_model.proofs.StepsMade.{completed_step}
 use Rattle.lfs_tree.specs.Allowed.{CanCreate}
 use Rattle.lfs_lookup.specs.Refusals.{refusal_in}
-use Rattle.lfs_tree.specs.Seen.{IsAsked, IsBroken, IsCarried, IsError, IsSound, Seen, around_of, tree_seen}
+use Rattle.lfs_tree.specs.TreeState.{IsAsked, IsBroken, IsAppliedOn, IsError, IsSound, TreeState, around_of, tree_view}
 use Rattle.lfs_fs.specs.Changing.{CanBegin, IsBegunAs}
-use Rattle.lfs_fs.specs.FileSeen.{OpenFiles, entry_of, files_seen, free_entry, has_unsaved, put_entry, readers_in, writer_in, writer_seen, writers_in}
-use Rattle.lfs_fs.specs.Held.{Answers, AreRead, Held, IsReady, IsWritten, held_of, held_with, moment_of, refused_by, session_of}
+use Rattle.lfs_fs.specs.FileView.{OpenFiles, entry_of, files_view, free_entry, has_unsaved, put_entry, readers_in, writer_in, writer_view, writers_in}
+use Rattle.lfs_fs.specs.Held.{Answers, AreRead, Held, IsReady, IsWritten, held_of, held_with, system_state_of, refused_by, session_of}
 use Rattle.lfs_fs.specs.Replies.{reply_in}
 use Rattle.lfs_fs.specs.Staying.{KeepsWriters}
 use Rattle.lfs_fs.specs.declared.files.OpenFile.{OpenFile}
@@ -36,10 +36,10 @@ use Rattle.lfs_fs.specs.declared.files.OpenFile.TheVariants as file
 use Rattle.lfs_fs.specs.declared.files.Writer.{Writer}
 use Rattle.lfs_fs.proofs.Answered.{carried_answer, carried_ready, error_answers, is_over, kept_files, not_failed, not_refused, ready_later, sound_by}
 use Rattle.lfs_fs.proofs.Checked.{negated, neither, there, unrefused}
-use Rattle.lfs_fs.proofs.Failing.{broken_fails, healthy_moment, memory_fails}
+use Rattle.lfs_fs.proofs.Failing.{broken_fails, healthy_system, memory_fails}
 use Rattle.lfs_fs.proofs.OpenFiles.{count_put, free_at_most, free_is, only, put_is, writer_count}
 use Rattle.lfs_fs.proofs.WriterOpens.{writes_anew}
-use Rattle.lfs_fs.proofs.WriterTurns.{there_arranged}
+use Rattle.lfs_fs.proofs.WriterSteps.{there_arranged}
 use Rattle.lfs_fs.proofs.FilesBeside.{no_reader_at}
 use Rattle.lfs_fs.proofs.OpenReaders.{read_opened}
 
@@ -49,15 +49,15 @@ pub record IsPassed (h : Held) (bytes : List ℕ) (p : Path) (flags : Flags) : T
   pub works : h.tree.failed ≡ false
   pub writable : h.tree.writable ≡ true
   pub given : is_some (path_of bytes) ≡ true
-  pub parents : parent_fault (tree_seen h.tree) [] p ≡ None
-  pub name : (is_none (tree_seen h.tree p) && flags.create && is_long p) ≡ false
-  pub creates : (is_none (tree_seen h.tree p) && not flags.create) ≡ false
-  pub directory : is_directory (tree_seen h.tree p) ≡ false
+  pub parents : parent_fault (tree_view h.tree) [] p ≡ None
+  pub name : (is_none (tree_view h.tree p) && flags.create && is_long p) ≡ false
+  pub creates : (is_none (tree_view h.tree p) && not flags.create) ≡ false
+  pub directory : is_directory (tree_view h.tree p) ≡ false
   pub few : nat_lt 0 (length (writers h.files)) ≡ false
   pub closed : is_open_at (same_path p) h.files ≡ false
-  pub fits : (is_none (tree_seen h.tree p) && is_overcharged (around_of h.tree) (last_name p) []) ≡ false
-  pub room : (is_none (tree_seen h.tree p) && lacks (around_of h.tree) h.files 2) ≡ false
-  pub anew : (flags.truncate && overfills (around_of h.tree) (opened_writer p flags (bytes_at (tree_seen h.tree p)))) ≡ false
+  pub fits : (is_none (tree_view h.tree p) && is_overcharged (around_of h.tree) (last_name p) []) ≡ false
+  pub room : (is_none (tree_view h.tree p) && lacks (around_of h.tree) h.files 2) ≡ false
+  pub anew : (flags.truncate && overfills (around_of h.tree) (opened_writer p flags (bytes_at (tree_view h.tree p)))) ≡ false
 
 both_false : (a b : Bool) → (a || b) ≡ false → (a ≡ false) × (b ≡ false)
 both_false true b e = absurd (cc)
@@ -99,8 +99,8 @@ not_less n m e = grind (arith, nat_tests)
 room_left : (n m k f l : ℕ) → f ≡ 0 → nat_lt n (m + k + l) ≡ false → m + f + l ≤ n
 room_left n m k f l none e = grind (arith, nat_tests)
 
-room_anew : (h : Held) (p : Path) (flags : Flags) (size : ℕ) → size_of (tree_seen h.tree p) ≡ Some size →
-    (flags.truncate && overfills (around_of h.tree) (opened_writer p flags (bytes_at (tree_seen h.tree p)))) ≡ false → flags.truncate ≡ true → 1 ≤ size → length (around_of h.tree).used + 2 ≤ block_count h.tree.disk
+room_anew : (h : Held) (p : Path) (flags : Flags) (size : ℕ) → size_of (tree_view h.tree p) ≡ Some size →
+    (flags.truncate && overfills (around_of h.tree) (opened_writer p flags (bytes_at (tree_view h.tree p)))) ≡ false → flags.truncate ≡ true → 1 ≤ size → length (around_of h.tree).used + 2 ≤ block_count h.tree.disk
 room_anew h p flags size sizes fits truncates some =
     not_less (block_count h.tree.disk) (length (around_of h.tree).used + 2)
     (sym (ap₂ (λ t s. t && nat_lt (block_count h.tree.disk) (length (around_of h.tree).used + (if s then 2 else 0))) truncates (lt-ltb 0 size (omega (arith, some))))
@@ -110,15 +110,15 @@ nothing_left : {A : Type 0} (xs : List A) → length xs ≤ 0 → xs ≡ []
 nothing_left [] h = refl
 nothing_left (x ∷ xs) h = absurd (omega (arith, h))
 
-pub no_writer : (t : Seen) (fs : OpenFiles) (bytes : List ℕ) (flags : Flags) → flags.write ≡ true → refused_by (held_of t fs) (ops.Open bytes flags) ≡ None → writers_in fs ≡ []
+pub no_writer : (t : TreeState) (fs : OpenFiles) (bytes : List ℕ) (flags : Flags) → flags.write ≡ true → refused_by (held_of t fs) (ops.Open bytes flags) ≡ None → writers_in fs ≡ []
 no_writer t fs bytes flags write e =
     nothing_left (writers_in fs) (not_less 0 (length (writers_in fs)) (ap (nat_lt 0) (sym (writer_count t fs)) ∙ (open_passed (held_of t fs) bytes flags write e).few))
 
 none_saved : (fs : OpenFiles) → writers_in fs ≡ [] → has_unsaved fs ≡ false
 none_saved fs none = ap (list_any (λ w. is_some w.unsaved)) none
 
-pub can_begin : (t mid : Seen) (fs : OpenFiles) (bytes : List ℕ) (flags : Flags) (p : Path) (size : ℕ) → (t.failed ≡ false → IsReady t fs) → IsAsked t mid → refused_by (held_of t fs) (ops.Open bytes flags) ≡ None →
-    flags.write ≡ true → p ≡ as_path bytes → size_of (tree_seen t p) ≡ Some size → CanBegin mid p size flags.truncate
+pub can_begin : (t mid : TreeState) (fs : OpenFiles) (bytes : List ℕ) (flags : Flags) (p : Path) (size : ℕ) → (t.failed ≡ false → IsReady t fs) → IsAsked t mid → refused_by (held_of t fs) (ops.Open bytes flags) ≡ None →
+    flags.write ≡ true → p ≡ as_path bytes → size_of (tree_view t p) ≡ Some size → CanBegin mid p size flags.truncate
 can_begin t mid fs bytes flags p size ready asked e write is sizes =
     subst (λ z. CanBegin z p size flags.truncate) (sym asked.same)
     (subst (λ q. CanBegin (record t { history = mid.history; cache = mid.cache }) q size flags.truncate) (sym is) (record {
@@ -136,16 +136,16 @@ can_begin t mid fs bytes flags p size ready asked e write is sizes =
     now : IsReady t fs
     now = ready passed.works
 
-    sized : size_of (tree_seen t (as_path bytes)) ≡ Some size
-    sized = sym (ap (λ q. size_of (tree_seen t q)) is) ∙ sizes
+    sized : size_of (tree_view t (as_path bytes)) ≡ Some size
+    sized = sym (ap (λ q. size_of (tree_view t q)) is) ∙ sizes
 
 no_node : (n : Option Node) → size_of n ≡ None → is_directory n ≡ false → n ≡ None
 no_node None e d = refl
 no_node (Some (FileNode attributes bytes)) e d = absurd (cc)
 no_node (Some (DirectoryNode attributes names)) e d = absurd (cc)
 
-pub can_create : (t mid : Seen) (fs : OpenFiles) (bytes : List ℕ) (flags : Flags) (p : Path) → (t.failed ≡ false → IsReady t fs) → IsAsked t mid → refused_by (held_of t fs) (ops.Open bytes flags) ≡ None →
-    flags.write ≡ true → p ≡ as_path bytes → size_of (tree_seen t p) ≡ None → CanCreate mid p
+pub can_create : (t mid : TreeState) (fs : OpenFiles) (bytes : List ℕ) (flags : Flags) (p : Path) → (t.failed ≡ false → IsReady t fs) → IsAsked t mid → refused_by (held_of t fs) (ops.Open bytes flags) ≡ None →
+    flags.write ≡ true → p ≡ as_path bytes → size_of (tree_view t p) ≡ None → CanCreate mid p
 can_create t mid fs bytes flags p ready asked e write is sizes =
     subst (λ z. CanCreate z p) (sym asked.same)
     (subst (λ q. CanCreate (record t { history = mid.history; cache = mid.cache }) q) (sym is) (record {
@@ -155,17 +155,17 @@ can_create t mid fs bytes flags p ready asked e write is sizes =
       name = sym (ap₂ (λ x c. x && c && is_long (as_path bytes)) absent creates) ∙ passed.name;
       nothing = ap is_some none;
       fits = sym (ap (λ x. x && is_overcharged (around_of t) (last_name (as_path bytes)) []) absent) ∙ passed.fits;
-      room = room_left (block_count t.disk) (length (around_of t).used) (held t.disk.block_size (files_seen t fs)) (in_flight_count t.map) 2 ((ready passed.works).idle (none_saved fs (no_writer t fs bytes flags write e)))
-          (sym (ap (λ x. x && lacks (around_of t) (files_seen t fs) 2) absent) ∙ passed.room);
+      room = room_left (block_count t.disk) (length (around_of t).used) (held t.disk.block_size (files_view t fs)) (in_flight_count t.map) 2 ((ready passed.works).idle (none_saved fs (no_writer t fs bytes flags write e)))
+          (sym (ap (λ x. x && lacks (around_of t) (files_view t fs) 2) absent) ∙ passed.room);
     }))
   where
     passed : IsPassed (held_of t fs) bytes (as_path bytes) flags
     passed = open_passed (held_of t fs) bytes flags write e
 
-    none : tree_seen t (as_path bytes) ≡ None
-    none = no_node (tree_seen t (as_path bytes)) (sym (ap (λ q. size_of (tree_seen t q)) is) ∙ sizes) passed.directory
+    none : tree_view t (as_path bytes) ≡ None
+    none = no_node (tree_view t (as_path bytes)) (sym (ap (λ q. size_of (tree_view t q)) is) ∙ sizes) passed.directory
 
-    absent : is_none (tree_seen t (as_path bytes)) ≡ true
+    absent : is_none (tree_view t (as_path bytes)) ≡ true
     absent = ap is_none none
 
     creates : flags.create ≡ true
@@ -241,7 +241,7 @@ room_made fs gs n none number is =
 
 -- ---- the session once the writer is open
 
-ready_with : (t : Seen) (fs gs : OpenFiles) (w : Writer) → writers_in fs ≡ [] → writers_in gs ≡ w ∷ [] → IsReady t fs → IsWritten t w → AreRead t.pairs gs → IsReady t gs
+ready_with : (t : TreeState) (fs gs : OpenFiles) (w : Writer) → writers_in fs ≡ [] → writers_in gs ≡ w ∷ [] → IsReady t fs → IsWritten t w → AreRead t.pairs gs → IsReady t gs
 ready_with t fs gs w none alone h written read = record {
   sound = h.sound;
   called = h.called;
@@ -251,44 +251,44 @@ ready_with t fs gs w none alone h written read = record {
   read = read;
 }
 
-keeps_none : (t s : Seen) (fs : OpenFiles) → writers_in fs ≡ [] → KeepsWriters t s (writers_in fs)
+keeps_none : (t s : TreeState) (fs : OpenFiles) → writers_in fs ≡ [] → KeepsWriters t s (writers_in fs)
 keeps_none t s fs none = subst (λ ws. KeepsWriters t s ws) (sym none) tt
 
 -- what either way of opening comes to: the session is ready but for the writer, which is as the definitions have it
-pub record IsOpenedBy (t : Seen) (fs : OpenFiles) (bytes : List ℕ) (flags : Flags) (new : Seen) (w : Writer) : Type 0 where
+pub record IsOpenedBy (t : TreeState) (fs : OpenFiles) (bytes : List ℕ) (flags : Flags) (new : TreeState) (w : Writer) : Type 0 where
   pub ready : IsReady new fs
   pub unread : AllByRecursion (λ r. same_path (as_path bytes) r.path ≡ false) (readers_in fs)
-  pub begun : IsBegunAs new (opened_writer (as_path bytes) flags (bytes_at (tree_seen t (as_path bytes)))) w
+  pub begun : IsBegunAs new (opened_writer (as_path bytes) flags (bytes_at (tree_view t (as_path bytes)))) w
   pub turn : (files : Files) → (effect_of (around_of t) (session_of (held_of t fs)) (ops.Open bytes flags)).1.files ≡ files →
-      IsTurn (moment_of (held_of t fs)) (ops.Open bytes flags) (effect_of (around_of t) (session_of (held_of t fs)) (ops.Open bytes flags)).0 (moment_of (held_with new files))
+      IsSessionStep (system_state_of (held_of t fs)) (ops.Open bytes flags) (effect_of (around_of t) (session_of (held_of t fs)) (ops.Open bytes flags)).0 (system_state_of (held_with new files))
 
-later : Seen → List Event → CachedBlocks → Seen
+later : TreeState → List Event → CachedBlocks → TreeState
 later t events cache = record t { history = events ++ t.history; cache = cache }
 
-asked_later : (old new : Seen) (asked : IsAsked old new) → new ≡ later old asked.reads.events new.cache
+asked_later : (old new : TreeState) (asked : IsAsked old new) → new ≡ later old asked.reads.events new.cache
 unfolding later
 asked_later old new asked = asked.same ∙ ap (λ history. record old { history = history; cache = new.cache }) asked.reads.extends
 
 -- a file that is there, once the image is recovered
-there_turn : (old : Held) (bytes : List ℕ) (flags : Flags) (mid new : Seen) (files : Files) (n : Node) → (old.tree.failed ≡ false → IsSound old.tree) → IsAsked old.tree mid →
-    refused_by old (ops.Open bytes flags) ≡ None → flags.write ≡ true → tree_seen old.tree (as_path bytes) ≡ Some n → IsCarried mid ops.Recover new →
+there_turn : (old : Held) (bytes : List ℕ) (flags : Flags) (mid new : TreeState) (files : Files) (n : Node) → (old.tree.failed ≡ false → IsSound old.tree) → IsAsked old.tree mid →
+    refused_by old (ops.Open bytes flags) ≡ None → flags.write ≡ true → tree_view old.tree (as_path bytes) ≡ Some n → IsAppliedOn mid ops.Recover new →
     (effect_of (around_of old.tree) (session_of old) (ops.Open bytes flags)).1.files ≡ files →
-    IsTurn (moment_of old) (ops.Open bytes flags) (effect_of (around_of old.tree) (session_of old) (ops.Open bytes flags)).0 (moment_of (held_with new files))
+    IsSessionStep (system_state_of old) (ops.Open bytes flags) (effect_of (around_of old.tree) (session_of old) (ops.Open bytes flags)).0 (system_state_of (held_with new files))
 unfolding later
 there_turn old bytes flags mid new files n sound asked e write node carried opened =
     let op = ops.Open bytes flags in
     let works = not_failed old op e in
     let good = sound works in
     let events = asked.reads.events in
-    let c = subst (λ t. IsCarried t ops.Recover new) (asked_later old.tree mid asked) carried in
-    let kept : tree_seen old.tree ≡ (if is_none (tree_seen old.tree (as_path bytes)) then added (as_path bytes) (FileNode [] []) (tree_seen old.tree) else tree_seen old.tree) =
-    sym (ap (λ o. if is_none o then added (as_path bytes) (FileNode [] []) (tree_seen old.tree) else tree_seen old.tree) node) in
-    let is : record { tree = tree_seen new; files = files } ≡ (effect_of (around_of old.tree) (session_of old) op).1 = ap₂ (λ t f. record { tree = t; files = f }) (c.shows (around_of old.tree) old.files ∙ kept) (sym opened) in
-    let to = healthy_moment (held_with new files) c.works
+    let c = subst (λ t. IsAppliedOn t ops.Recover new) (asked_later old.tree mid asked) carried in
+    let kept : tree_view old.tree ≡ (if is_none (tree_view old.tree (as_path bytes)) then added (as_path bytes) (FileNode [] []) (tree_view old.tree) else tree_view old.tree) =
+    sym (ap (λ o. if is_none o then added (as_path bytes) (FileNode [] []) (tree_view old.tree) else tree_view old.tree) node) in
+    let is : record { tree = tree_view new; files = files } ≡ (effect_of (around_of old.tree) (session_of old) op).1 = ap₂ (λ t f. record { tree = t; files = f }) (c.shows (around_of old.tree) old.files ∙ kept) (sym opened) in
+    let to = healthy_system (held_with new files) c.works
     ∙ ap₂ (λ (calls : List Event) (s : Session). record { disk = new.disk; calls = calls; state = Healthy s }) (c.called ∙ sym (append_assoc c.calls events old.tree.history)) is in
-    subst (λ m. IsTurn m op (effect_of (around_of old.tree) (session_of old) op).0 (moment_of (held_with new files))) (sym (healthy_moment old works))
-    (subst (λ m. IsTurn (record { disk = old.tree.disk; calls = old.tree.history; state = Healthy (session_of old) }) op (effect_of (around_of old.tree) (session_of old) op).0 m) (sym to)
-    (completed_turn old.tree.disk old.tree.pairs (session_of old) (around_of old.tree) op new.disk new.pairs (c.calls ++ events) old.tree.history (is_over old.tree old.files good) (not_refused old op e)
+    subst (λ m. IsSessionStep m op (effect_of (around_of old.tree) (session_of old) op).0 (system_state_of (held_with new files))) (sym (healthy_system old works))
+    (subst (λ m. IsSessionStep (record { disk = old.tree.disk; calls = old.tree.history; state = Healthy (session_of old) }) op (effect_of (around_of old.tree) (session_of old) op).0 m) (sym to)
+    (completed_step old.tree.disk old.tree.pairs (session_of old) (around_of old.tree) op new.disk new.pairs (c.calls ++ events) old.tree.history (is_over old.tree old.files good) (not_refused old op e)
     (record {
       geometry = c.geometry;
       other = refl;
@@ -311,27 +311,27 @@ file_node : (n : Option Node) (size : ℕ) → size_of n ≡ Some size → (m : 
 file_node None size e = absurd (cc)
 file_node (Some m) size e = (m, refl)
 
-pub opened_there : (t mid new : Seen) (fs : OpenFiles) (bytes : List ℕ) (flags : Flags) (w : Writer) (p : Path) (size : ℕ) → (t.failed ≡ false → IsReady t fs) → IsAsked t mid →
-    refused_by (held_of t fs) (ops.Open bytes flags) ≡ None → flags.write ≡ true → p ≡ as_path bytes → size_of (tree_seen t p) ≡ Some size →
-    IsCarried mid ops.Recover new → IsBegunAs new (opened_writer p flags (bytes_at (tree_seen mid p))) w → IsOpenedBy t fs bytes flags new w
+pub opened_there : (t mid new : TreeState) (fs : OpenFiles) (bytes : List ℕ) (flags : Flags) (w : Writer) (p : Path) (size : ℕ) → (t.failed ≡ false → IsReady t fs) → IsAsked t mid →
+    refused_by (held_of t fs) (ops.Open bytes flags) ≡ None → flags.write ≡ true → p ≡ as_path bytes → size_of (tree_view t p) ≡ Some size →
+    IsAppliedOn mid ops.Recover new → IsBegunAs new (opened_writer p flags (bytes_at (tree_view mid p))) w → IsOpenedBy t fs bytes flags new w
 opened_there t mid new fs bytes flags w p size ready asked e write is sizes carried begun =
     let passed = open_passed (held_of t fs) bytes flags write e in
-    let node = file_node (tree_seen t (as_path bytes)) size (sym (ap (λ q. size_of (tree_seen t q)) is) ∙ sizes) in
+    let node = file_node (tree_view t (as_path bytes)) size (sym (ap (λ q. size_of (tree_view t q)) is) ∙ sizes) in
     let none = no_writer t fs bytes flags write e in
     record {
       unread = no_reader_at t fs (same_path (as_path bytes)) passed.closed;
       ready = carried_ready mid new fs ops.Recover (λ p. refl) (ready_later t mid fs (ready passed.works) asked) (none_saved fs none) (keeps_none mid new fs none) carried;
-      begun = subst (λ (z : Seen). IsBegunAs new (opened_writer (as_path bytes) flags (bytes_at (tree_seen z (as_path bytes)))) w) asked.same
-          (subst (λ q. IsBegunAs new (opened_writer q flags (bytes_at (tree_seen mid q))) w) is begun);
+      begun = subst (λ (z : TreeState). IsBegunAs new (opened_writer (as_path bytes) flags (bytes_at (tree_view z (as_path bytes)))) w) asked.same
+          (subst (λ q. IsBegunAs new (opened_writer q flags (bytes_at (tree_view mid q))) w) is begun);
       turn = λ files opened. there_turn (held_of t fs) bytes flags mid new files node.0 (sound_by t fs ready) asked e write node.1 carried opened;
     }
 
-pub opened_new : (t mid new : Seen) (fs : OpenFiles) (bytes : List ℕ) (flags : Flags) (w : Writer) (p : Path) → (t.failed ≡ false → IsReady t fs) → IsAsked t mid →
-    refused_by (held_of t fs) (ops.Open bytes flags) ≡ None → flags.write ≡ true → p ≡ as_path bytes → size_of (tree_seen t p) ≡ None →
-    IsCarried mid (ops.Open bytes flags) new → IsBegunAs new (opened_writer p flags []) w → IsOpenedBy t fs bytes flags new w
+pub opened_new : (t mid new : TreeState) (fs : OpenFiles) (bytes : List ℕ) (flags : Flags) (w : Writer) (p : Path) → (t.failed ≡ false → IsReady t fs) → IsAsked t mid →
+    refused_by (held_of t fs) (ops.Open bytes flags) ≡ None → flags.write ≡ true → p ≡ as_path bytes → size_of (tree_view t p) ≡ None →
+    IsAppliedOn mid (ops.Open bytes flags) new → IsBegunAs new (opened_writer p flags []) w → IsOpenedBy t fs bytes flags new w
 opened_new t mid new fs bytes flags w p ready asked e write is sizes carried begun =
     let passed = open_passed (held_of t fs) bytes flags write e in
-    let node : tree_seen t (as_path bytes) ≡ None = no_node (tree_seen t (as_path bytes)) (sym (ap (λ q. size_of (tree_seen t q)) is) ∙ sizes) passed.directory in
+    let node : tree_view t (as_path bytes) ≡ None = no_node (tree_view t (as_path bytes)) (sym (ap (λ q. size_of (tree_view t q)) is) ∙ sizes) passed.directory in
     let none = no_writer t fs bytes flags write e in
     record {
       unread = no_reader_at t fs (same_path (as_path bytes)) passed.closed;
@@ -342,38 +342,38 @@ opened_new t mid new fs bytes flags w p ready asked e write is sizes carried beg
 
 -- ---- answers
 
-pub writer_ready : (t new : Seen) (fs gs : OpenFiles) (bytes : List ℕ) (flags : Flags) (w : Writer) → IsOpenedBy t fs bytes flags new w → writers_in fs ≡ [] → writers_in (put_entry fs (free_entry fs) (Some (file.Writing w))) ≡ w ∷ [] →
+pub writer_ready : (t new : TreeState) (fs gs : OpenFiles) (bytes : List ℕ) (flags : Flags) (w : Writer) → IsOpenedBy t fs bytes flags new w → writers_in fs ≡ [] → writers_in (put_entry fs (free_entry fs) (Some (file.Writing w))) ≡ w ∷ [] →
     gs ≡ put_entry fs (free_entry fs) (Some (file.Writing w)) → IsReady new gs
 writer_ready t new fs gs bytes flags w opened none alone is =
     let path : as_path bytes ≡ w.path = sym (ap (λ (x : session.Writer). x.path) opened.begun.seen) in
     ready_with new fs gs w none (ap (λ xs. writers_in xs) is ∙ alone) opened.ready opened.begun.written
     (subst (AreRead new.pairs) (sym is) (read_opened new.pairs fs (free_entry fs) w (ap (map (λ x. x.path)) alone) (subst (λ p. AllByRecursion (λ r. same_path p r.path ≡ false) (readers_in fs)) path opened.unread) opened.ready.read))
 
-pub writer_opened : (t new : Seen) (fs gs : OpenFiles) (now : Held) (bytes : List ℕ) (flags : Flags) (w : Writer) (n : ℕ) → held_of t fs ≡ now → IsOpenedBy t fs bytes flags new w → flags.write ≡ true → writers_in fs ≡ [] →
+pub writer_opened : (t new : TreeState) (fs gs : OpenFiles) (now : Held) (bytes : List ℕ) (flags : Flags) (w : Writer) (n : ℕ) → held_of t fs ≡ now → IsOpenedBy t fs bytes flags new w → flags.write ≡ true → writers_in fs ≡ [] →
     n ≡ free_entry fs → gs ≡ put_entry fs (free_entry fs) (Some (file.Writing w)) → Answers now (ops.Open bytes flags) (Ok (ops.Opened n)) (held_of new gs)
 writer_opened t new fs gs now bytes flags w n same opened write none number is =
     subst (λ z. Answers z (ops.Open bytes flags) (Ok (ops.Opened n)) (held_of new gs)) same
-    (subst (λ m. IsTurn (moment_of (held_of t fs)) (ops.Open bytes flags) (ops.Opened m) (moment_of (held_of new gs))) (sym (number ∙ free_is t fs))
-    (opened.turn (files_seen new gs) (sym brought)))
+    (subst (λ m. IsSessionStep (system_state_of (held_of t fs)) (ops.Open bytes flags) (ops.Opened m) (system_state_of (held_of new gs))) (sym (number ∙ free_is t fs))
+    (opened.turn (files_view new gs) (sym brought)))
   where
-    brought : files_seen new gs ≡ put_file (files_seen t fs) (free_number (files_seen t fs)) (Some (if flags.write then Writing (opened_writer (as_path bytes) flags (bytes_at (tree_seen t (as_path bytes)))) else Reading (record { path = as_path bytes; position = 0 })))
-    brought = ap (files_seen new) is ∙ put_is new fs (free_entry fs) (Some (file.Writing w))
-        ∙ ap₂ (λ files m. put_file files m (Some (Writing (writer_seen new w)))) (sym (kept_files t new fs (none_saved fs none) (keeps_none t new fs none))) (free_is t fs)
-        ∙ ap (λ x. put_file (files_seen t fs) (free_number (files_seen t fs)) (Some (Writing x))) opened.begun.seen
-        ∙ ap (λ b. put_file (files_seen t fs) (free_number (files_seen t fs)) (Some (if b then Writing (opened_writer (as_path bytes) flags (bytes_at (tree_seen t (as_path bytes)))) else Reading (record { path = as_path bytes; position = 0 })))) (sym write)
+    brought : files_view new gs ≡ put_file (files_view t fs) (free_number (files_view t fs)) (Some (if flags.write then Writing (opened_writer (as_path bytes) flags (bytes_at (tree_view t (as_path bytes)))) else Reading (record { path = as_path bytes; position = 0 })))
+    brought = ap (files_view new) is ∙ put_is new fs (free_entry fs) (Some (file.Writing w))
+        ∙ ap₂ (λ files m. put_file files m (Some (Writing (writer_view new w)))) (sym (kept_files t new fs (none_saved fs none) (keeps_none t new fs none))) (free_is t fs)
+        ∙ ap (λ x. put_file (files_view t fs) (free_number (files_view t fs)) (Some (Writing x))) opened.begun.seen
+        ∙ ap (λ b. put_file (files_view t fs) (free_number (files_view t fs)) (Some (if b then Writing (opened_writer (as_path bytes) flags (bytes_at (tree_view t (as_path bytes)))) else Reading (record { path = as_path bytes; position = 0 })))) (sym write)
 
-pub writer_breaks : (t mid new : Seen) (fs gs : OpenFiles) (now : Held) (bytes : List ℕ) (flags : Flags) (e : Error) (r : Result ℕ Error) → held_of t fs ≡ now → IsAsked t mid → refused_by (held_of t fs) (ops.Open bytes flags) ≡ None →
+pub writer_breaks : (t mid new : TreeState) (fs gs : OpenFiles) (now : Held) (bytes : List ℕ) (flags : Flags) (e : Error) (r : Result ℕ Error) → held_of t fs ≡ now → IsAsked t mid → refused_by (held_of t fs) (ops.Open bytes flags) ≡ None →
     IsSound t → flags.write ≡ true → IsBroken mid new → IsError mid new e → r ≡ Err e → Answers now (ops.Open bytes flags) (reply_in ops.Opened r) (held_of new gs)
 writer_breaks t mid new fs gs now bytes flags e r same asked passed sound write broken error is =
     subst (λ z. Answers z (ops.Open bytes flags) (reply_in ops.Opened r) (held_of new gs)) same
     (subst (λ z. Answers (held_of t fs) (ops.Open bytes flags) (reply_in ops.Opened z) (held_of new gs)) (sym is)
     (error_answers (held_of t fs) (ops.Open bytes flags) e (held_of new gs) (ops.Refused (refusal_in e)) error.errors
-    (broken_fails e (held_of t fs) (ops.Open bytes flags) mid new (files_seen new gs) (not_failed (held_of t fs) (ops.Open bytes flags) passed) refl (ap not write) refl sound (open_passed (held_of t fs) bytes flags write passed).writable asked broken error)))
+    (broken_fails e (held_of t fs) (ops.Open bytes flags) mid new (files_view new gs) (not_failed (held_of t fs) (ops.Open bytes flags) passed) refl (ap not write) refl sound (open_passed (held_of t fs) bytes flags write passed).writable asked broken error)))
 
 -- no memory is found for it
-pub writer_lacks_memory : (t mid left : Seen) (fs gs : OpenFiles) (now : Held) (bytes : List ℕ) (flags : Flags) → held_of t fs ≡ now → IsAsked t mid → refused_by (held_of t fs) (ops.Open bytes flags) ≡ None →
+pub writer_lacks_memory : (t mid left : TreeState) (fs gs : OpenFiles) (now : Held) (bytes : List ℕ) (flags : Flags) → held_of t fs ≡ now → IsAsked t mid → refused_by (held_of t fs) (ops.Open bytes flags) ≡ None →
     left ≡ record mid { failed = true } → Answers now (ops.Open bytes flags) (Err NoMemory) (held_of left gs)
 writer_lacks_memory t mid left fs gs now bytes flags same asked passed is =
     subst (λ z. Answers z (ops.Open bytes flags) (Err NoMemory) (held_of left gs)) same
     (subst (λ z. Answers (held_of t fs) (ops.Open bytes flags) (Err NoMemory) (held_of z gs)) (sym is)
-    (memory_fails (held_of t fs) (ops.Open bytes flags) mid (files_seen (record mid { failed = true }) gs) (not_failed (held_of t fs) (ops.Open bytes flags) passed) asked))
+    (memory_fails (held_of t fs) (ops.Open bytes flags) mid (files_view (record mid { failed = true }) gs) (not_failed (held_of t fs) (ops.Open bytes flags) passed) asked))

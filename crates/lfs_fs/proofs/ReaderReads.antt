@@ -8,11 +8,11 @@ use Rattle.lfs_model.specs.Operations.{Operation, Reply}
 use Rattle.lfs_model.specs.Session.{Files, OpenFile, Reader, Reading, Writing, file_of, put_file, reader_of, refuse_if}
 use Rattle.lfs_model.specs.Effects.{moved_to, read_effect, size_of}
 use Rattle.lfs_model.specs.Tree.{Node, FileNode, DirectoryNode}
-use Rattle.lfs_tree.specs.Seen.{Seen, IsSound, tree_seen, IsAsked}
+use Rattle.lfs_tree.specs.TreeState.{TreeState, IsSound, tree_view, IsAsked}
 use Rattle.lfs_fs.specs.Held.{Held, held_with, session_of, refused_by, Answers}
 use Rattle.lfs_device.specs.declared.error.Error.{Error}
 use Rattle.lfs_lookup.specs.Refusals.{refusal_in}
-use Rattle.lfs_tree.specs.Seen.{IsBrokenAsking, IsError}
+use Rattle.lfs_tree.specs.TreeState.{IsBrokenAsking, IsError}
 use Rattle.lfs_fs.specs.Replies.{reply_in}
 use Rattle.lfs_fs.proofs.Failing.{asking_fails}
 use Rattle.lfs_fs.proofs.Answered.{error_answers, files_answers}
@@ -33,15 +33,15 @@ no_reader h fd count works e = works_by h (ops.Read fd count) (Some ops.BadFile)
 pub a_reader : (h : Held) (fd count : ℕ) (r : Reader) → false ≡ h.tree.failed → Some r ≡ reader_of (file_of h.files fd) → refused_by h (ops.Read fd count) ≡ None
 a_reader h fd count r works e = works_by h (ops.Read fd count) None works (ap (λ z. refuse_if (is_none z) ops.BadFile) (sym e))
 
-pub read_answers : (old now : Held) (fd count : ℕ) (r : Reader) (tree : Seen) (files : Files) (bytes : List ℕ) (position : ℕ) → old ≡ now → (old.tree.failed ≡ false → IsSound old.tree) → false ≡ old.tree.failed → IsAsked old.tree tree →
-    Some r ≡ reader_of (file_of old.files fd) → bytes ≡ take count (drop r.position (bytes_at (tree_seen old.tree r.path))) → position ≡ r.position + length bytes →
+pub read_answers : (old now : Held) (fd count : ℕ) (r : Reader) (tree : TreeState) (files : Files) (bytes : List ℕ) (position : ℕ) → old ≡ now → (old.tree.failed ≡ false → IsSound old.tree) → false ≡ old.tree.failed → IsAsked old.tree tree →
+    Some r ≡ reader_of (file_of old.files fd) → bytes ≡ take count (drop r.position (bytes_at (tree_view old.tree r.path))) → position ≡ r.position + length bytes →
     files ≡ put_file old.files fd (option_map (moved_to position) (file_of old.files fd)) → Answers now (ops.Read fd count) (Ok (ops.Bytes bytes)) (held_with tree files)
 read_answers old now fd count r tree files bytes position same ready works asked is bytes_are at files_are =
     files_answers old now (ops.Read fd count) tree files (ops.Bytes bytes) same ready asked (a_reader old fd count r works is) refl refl refl refl refl
-    (ap (read_effect (session_of old) fd count) (sym is) ∙ ap₂ (λ b f. (ops.Bytes b, record { tree = tree_seen old.tree; files = f })) (sym bytes_are) moved)
+    (ap (read_effect (session_of old) fd count) (sym is) ∙ ap₂ (λ b f. (ops.Bytes b, record { tree = tree_view old.tree; files = f })) (sym bytes_are) moved)
   where
     given : List ℕ
-    given = take count (drop r.position (bytes_at (tree_seen old.tree r.path)))
+    given = take count (drop r.position (bytes_at (tree_view old.tree r.path)))
 
     moved : put_file old.files fd (Some (Reading (record r { position = r.position + length given }))) ≡ files
     moved = ap (λ n. put_file old.files fd (Some (Reading (record r { position = n })))) (ap (λ b. r.position + length b) (sym bytes_are) ∙ sym at)
@@ -70,7 +70,7 @@ ends_below n size position count len items e small at is are =
     below l d m w x y z = omega (arith, w, x, y, z, small, at, is)
 
 -- a call failed on the way
-pub read_fails : {B : Type 0} (old now : Held) (op : Operation) (reply : B → Reply) (e : Error) (tree : Seen) (r : Result B Error) → old ≡ now → false ≡ old.tree.failed → IsBrokenAsking old.tree tree → IsError old.tree tree e → r ≡ Err e →
+pub read_fails : {B : Type 0} (old now : Held) (op : Operation) (reply : B → Reply) (e : Error) (tree : TreeState) (r : Result B Error) → old ≡ now → false ≡ old.tree.failed → IsBrokenAsking old.tree tree → IsError old.tree tree e → r ≡ Err e →
     Answers now op (reply_in reply r) (held_with tree old.files)
 read_fails old now op reply e tree r same works broken error is =
     subst (λ z. Answers z op (reply_in reply r) (held_with tree old.files)) same

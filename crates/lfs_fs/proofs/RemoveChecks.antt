@@ -9,7 +9,7 @@ use Rattle.lfs_model.specs.Refusals.{as_path, is_root, bad_entry}
 use Rattle.lfs_model.specs.Tree.{Path}
 use Rattle.lfs_tree.specs.Allowed.{CanRemove}
 use Rattle.lfs_lookup.specs.Finds.{Finds, has_names, is_absent}
-use Rattle.lfs_tree.specs.Seen.{Seen, tree_seen, IsAsked}
+use Rattle.lfs_tree.specs.TreeState.{TreeState, tree_view, IsAsked}
 use Rattle.lfs_lookup.specs.declared.finding.Finding.{Finding}
 use Rattle.lfs_fs.specs.EntryPaths.{entry_path}
 use Rattle.lfs_fs.specs.Held.{Held, refused_by, Checks}
@@ -20,13 +20,13 @@ use Rattle.lfs_fs.proofs.Checked.{both, decided, negated, neither, unrefused, wh
 use Rattle.lfs_fs.proofs.EntryChecks.{good_root}
 use Rattle.lfs_fs.proofs.EntryPaths.{is_entry, root_false}
 
-remove_refused : (h : Held) (bytes : List ℕ) (p : Path) (found : Finding) → h.tree.failed ≡ false → h.tree.writable ≡ true → path_of bytes ≡ Some p → is_root p ≡ false → Finds (tree_seen h.tree) p found →
-    refused_by h (ops.Remove bytes) ≡ first_of (found.fault ∷ refuse_if (is_absent found.node) ops.NoEnt ∷ refuse_if (has_names (tree_seen h.tree) p) ops.NotEmpty ∷ refuse_if (is_open_at (same_path p) h.files) ops.Busy ∷ [])
+remove_refused : (h : Held) (bytes : List ℕ) (p : Path) (found : Finding) → h.tree.failed ≡ false → h.tree.writable ≡ true → path_of bytes ≡ Some p → is_root p ≡ false → Finds (tree_view h.tree) p found →
+    refused_by h (ops.Remove bytes) ≡ first_of (found.fault ∷ refuse_if (is_absent found.node) ops.NoEnt ∷ refuse_if (has_names (tree_view h.tree) p) ops.NotEmpty ∷ refuse_if (is_open_at (same_path p) h.files) ops.Busy ∷ [])
 remove_refused h bytes p found works writable is entry f = rw (works, writable, is, entry, f.parents, f.nothing) refl
 
-pub remove_checked : (h : Held) (bytes : List ℕ) (p : Path) (found : Finding) (tree : Seen) (absent filled busy : Bool) (a b d : Option Refusal) (r : Result Path Error) →
-    false ≡ h.tree.failed → true ≡ h.tree.writable → Some p ≡ entry_path bytes → IsAsked h.tree tree → Finds (tree_seen h.tree) p found →
-    absent ≡ is_absent found.node → a ≡ refuse_if absent ops.NoEnt → filled ≡ has_names (tree_seen h.tree) p → b ≡ refuse_if filled ops.NotEmpty → busy ≡ is_open_at (same_path (as_path bytes)) h.files → d ≡ refuse_if busy ops.Busy →
+pub remove_checked : (h : Held) (bytes : List ℕ) (p : Path) (found : Finding) (tree : TreeState) (absent filled busy : Bool) (a b d : Option Refusal) (r : Result Path Error) →
+    false ≡ h.tree.failed → true ≡ h.tree.writable → Some p ≡ entry_path bytes → IsAsked h.tree tree → Finds (tree_view h.tree) p found →
+    absent ≡ is_absent found.node → a ≡ refuse_if absent ops.NoEnt → filled ≡ has_names (tree_view h.tree) p → b ≡ refuse_if filled ops.NotEmpty → busy ≡ is_open_at (same_path (as_path bytes)) h.files → d ≡ refuse_if busy ops.Busy →
     r ≡ passed_with (first_of (found.fault ∷ a ∷ b ∷ d ∷ [])) p → Checks h (ops.Remove bytes) (λ path. path ≡ as_path bytes) r tree
 remove_checked h bytes p found tree absent filled busy a b d r works writable is asked f absent_is a_is filled_is b_is busy_is d_is r_is =
     decided h (ops.Remove bytes) (λ path. path ≡ as_path bytes) p _ tree r asked (remove_late h bytes p works writable is)
@@ -36,10 +36,10 @@ remove_checked h bytes p found tree absent filled busy a b d r works writable is
     given : path_of bytes ≡ Some p
     given = (is_entry bytes p is).0
 
-    lists : (found.fault ∷ a ∷ b ∷ d ∷ []) ≡ (found.fault ∷ refuse_if (is_absent found.node) ops.NoEnt ∷ refuse_if (has_names (tree_seen h.tree) p) ops.NotEmpty ∷ refuse_if (is_open_at (same_path p) h.files) ops.Busy ∷ [])
+    lists : (found.fault ∷ a ∷ b ∷ d ∷ []) ≡ (found.fault ∷ refuse_if (is_absent found.node) ops.NoEnt ∷ refuse_if (has_names (tree_view h.tree) p) ops.NotEmpty ∷ refuse_if (is_open_at (same_path p) h.files) ops.Busy ∷ [])
     lists = both refl (both (when ops.NoEnt a_is absent_is) (both (when ops.NotEmpty b_is filled_is) (both (when ops.Busy d_is (busy_is ∙ ap (λ o. is_open_at (same_path (unwrap_or o [])) h.files) given)) refl)))
 
-pub remove_can : (h : Held) (bytes : List ℕ) (path : Path) (tree : Seen) → Checks h (ops.Remove bytes) (λ p. p ≡ as_path bytes) (Ok path) tree → CanRemove tree path
+pub remove_can : (h : Held) (bytes : List ℕ) (path : Path) (tree : TreeState) → Checks h (ops.Remove bytes) (λ p. p ≡ as_path bytes) (Ok path) tree → CanRemove tree path
 remove_can h bytes path tree c =
     let e = c.1 in
     let a = neither _ _ (not_refused h (ops.Remove bytes) e) in
@@ -61,18 +61,18 @@ pub remove_not_open : (h : Held) (bytes : List ℕ) → refused_by h (ops.Remove
 remove_not_open h bytes e =
     let a = neither (refuse_if (not h.tree.writable) ops.ReadOnly) _ (not_refused h (ops.Remove bytes) e) in
     let b = neither (refuse_if (bad_entry (path_of bytes)) ops.Invalid) _ a.1 in
-    let d = neither (parent_fault (tree_seen h.tree) [] (as_path bytes)) _ b.1 in
-    let i = neither (refuse_if (is_none (tree_seen h.tree (as_path bytes))) ops.NoEnt) _ d.1 in
-    let j = neither (refuse_if (nat_lt 0 (length (names_of (tree_seen h.tree (as_path bytes))))) ops.NotEmpty) _ i.1 in
+    let d = neither (parent_fault (tree_view h.tree) [] (as_path bytes)) _ b.1 in
+    let i = neither (refuse_if (is_none (tree_view h.tree (as_path bytes))) ops.NoEnt) _ d.1 in
+    let j = neither (refuse_if (nat_lt 0 (length (names_of (tree_view h.tree (as_path bytes))))) ops.NotEmpty) _ i.1 in
     let k = neither (refuse_if (is_open_at (same_path (as_path bytes)) h.files) ops.Busy) None j.1 in
     unrefused (is_open_at (same_path (as_path bytes)) h.files) ops.Busy k.0
 
 -- nothing is in what is there
-pub remove_bare : (h : Held) (bytes : List ℕ) → refused_by h (ops.Remove bytes) ≡ None → nat_lt 0 (length (names_of (tree_seen h.tree (as_path bytes)))) ≡ false
+pub remove_bare : (h : Held) (bytes : List ℕ) → refused_by h (ops.Remove bytes) ≡ None → nat_lt 0 (length (names_of (tree_view h.tree (as_path bytes)))) ≡ false
 remove_bare h bytes e =
     let a = neither (refuse_if (not h.tree.writable) ops.ReadOnly) _ (not_refused h (ops.Remove bytes) e) in
     let b = neither (refuse_if (bad_entry (path_of bytes)) ops.Invalid) _ a.1 in
-    let d = neither (parent_fault (tree_seen h.tree) [] (as_path bytes)) _ b.1 in
-    let i = neither (refuse_if (is_none (tree_seen h.tree (as_path bytes))) ops.NoEnt) _ d.1 in
-    let j = neither (refuse_if (nat_lt 0 (length (names_of (tree_seen h.tree (as_path bytes))))) ops.NotEmpty) _ i.1 in
-    unrefused (nat_lt 0 (length (names_of (tree_seen h.tree (as_path bytes))))) ops.NotEmpty j.0
+    let d = neither (parent_fault (tree_view h.tree) [] (as_path bytes)) _ b.1 in
+    let i = neither (refuse_if (is_none (tree_view h.tree (as_path bytes))) ops.NoEnt) _ d.1 in
+    let j = neither (refuse_if (nat_lt 0 (length (names_of (tree_view h.tree (as_path bytes))))) ops.NotEmpty) _ i.1 in
+    unrefused (nat_lt 0 (length (names_of (tree_view h.tree (as_path bytes))))) ops.NotEmpty j.0

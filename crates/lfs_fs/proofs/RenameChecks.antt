@@ -13,7 +13,7 @@ use Rattle.lfs_model.specs.Tree.{Path}
 use Rattle.lfs_tree.specs.Allowed.{CanRename}
 use Rattle.lfs_lookup.specs.AttributeAt.{IsAttributesSize}
 use Rattle.lfs_lookup.specs.Finds.{Finds, has_names, is_absent, is_directory_node, is_file_node}
-use Rattle.lfs_tree.specs.Seen.{Seen, around_of, tree_seen, IsAsked}
+use Rattle.lfs_tree.specs.TreeState.{TreeState, around_of, tree_view, IsAsked}
 use Rattle.lfs_lookup.specs.declared.finding.Finding.{Finding}
 use Rattle.lfs_fs.specs.EntryPaths.{entry_path}
 use Rattle.lfs_fs.specs.Held.{Held, refused_by, Checks}
@@ -43,23 +43,23 @@ abbrev checks_of : Held → Path → Path → Finding → Finding → List (Opti
 checks_of h p q entry target =
     entry.fault ∷ target.fault ∷ refuse_if (nat_lt 255 (length (last_name q))) ops.NameTooLong ∷ refuse_if (is_absent entry.node) ops.NoEnt
     ∷ refuse_if (not (same_path p q) && is_directory_node entry.node && is_file_node target.node) ops.NotDir ∷ refuse_if (not (same_path p q) && is_file_node entry.node && is_directory_node target.node) ops.IsDir
-    ∷ refuse_if (not (same_path p q) && has_names (tree_seen h.tree) q) ops.NotEmpty ∷ refuse_if (is_open_at (is_in_the_way p q) h.files) ops.Busy
-    ∷ refuse_if (not (same_path p q) && is_overcharged (around_of h.tree) (last_name q) (attributes_of (tree_seen h.tree p))) ops.EntryFull ∷ refuse_if (lacks (around_of h.tree) h.files 2) ops.NoSpace ∷ []
+    ∷ refuse_if (not (same_path p q) && has_names (tree_view h.tree) q) ops.NotEmpty ∷ refuse_if (is_open_at (is_in_the_way p q) h.files) ops.Busy
+    ∷ refuse_if (not (same_path p q) && is_overcharged (around_of h.tree) (last_name q) (attributes_of (tree_view h.tree p))) ops.EntryFull ∷ refuse_if (lacks (around_of h.tree) h.files 2) ops.NoSpace ∷ []
 
 rename_refused : (h : Held) (old new : List ℕ) (p q : Path) (entry target : Finding) → h.tree.failed ≡ false → h.tree.writable ≡ true → path_of old ≡ Some p → path_of new ≡ Some q → is_root p ≡ false → is_root q ≡ false → is_beneath p q ≡ false →
-    Finds (tree_seen h.tree) p entry → Finds (tree_seen h.tree) q target → refused_by h (ops.Rename old new) ≡ first_of (checks_of h p q entry target)
+    Finds (tree_view h.tree) p entry → Finds (tree_view h.tree) q target → refused_by h (ops.Rename old new) ≡ first_of (checks_of h p q entry target)
 rename_refused h old new p q entry target works writable is are one two apart f g =
     rw (works, writable, is, are, one, two, apart, f.parents, g.parents, f.nothing, f.directories, g.files, f.files, g.directories) refl
 
-pub rename_checked : (h : Held) (old new : List ℕ) (p q : Path) (entry target : Finding) (mid later tree : Seen) (size len other : ℕ) (same absent one two filled three over four lack busy : Bool)
+pub rename_checked : (h : Held) (old new : List ℕ) (p q : Path) (entry target : Finding) (mid later tree : TreeState) (size len other : ℕ) (same absent one two filled three over four lack busy : Bool)
     (a b c d e f i j : Option Refusal) (r : Result Renaming Error) → (x : Renaming) →
     false ≡ h.tree.failed → true ≡ h.tree.writable → Some p ≡ entry_path old → Some q ≡ entry_path new → is_beneath (as_path old) (as_path new) ≡ false → IsAsked h.tree mid → IsAsked mid later → IsAsked h.tree tree →
-    Finds (tree_seen h.tree) p entry → Finds (tree_seen mid) q target → IsAttributesSize (attributes_of (tree_seen later p)) size → same ≡ same_path (as_path old) (as_path new) →
+    Finds (tree_view h.tree) p entry → Finds (tree_view mid) q target → IsAttributesSize (attributes_of (tree_view later p)) size → same ≡ same_path (as_path old) (as_path new) →
     len ≡ length (last_name q) → a ≡ refuse_if (nat_lt 255 len) ops.NameTooLong →
     absent ≡ is_absent entry.node → b ≡ refuse_if absent ops.NoEnt →
     one ≡ (not same && is_directory_node entry.node && is_file_node target.node) → c ≡ refuse_if one ops.NotDir →
     two ≡ (not same && is_file_node entry.node && is_directory_node target.node) → d ≡ refuse_if two ops.IsDir →
-    filled ≡ has_names (tree_seen mid) q → three ≡ (not same && filled) → e ≡ refuse_if three ops.NotEmpty →
+    filled ≡ has_names (tree_view mid) q → three ≡ (not same && filled) → e ≡ refuse_if three ops.NotEmpty →
     busy ≡ is_open_at (is_in_the_way (as_path old) (as_path new)) h.files → f ≡ refuse_if busy ops.Busy →
     other ≡ length (last_name q) → ((name : List ℕ) (attributes : Attributes) → length name ≡ other → attributes_size attributes ≡ size → over ≡ is_overcharged (around_of tree) name attributes) → four ≡ (not same && over) → i ≡ refuse_if four ops.EntryFull →
     lack ≡ lacks (around_of tree) h.files 2 → j ≡ refuse_if lack ops.NoSpace →
@@ -69,7 +69,7 @@ rename_checked h old new p q entry target mid later tree size len other same abs
     works writable is are apart first second asked found sought sized same_is len_is a_is absent_is b_is one_is c_is two_is d_is filled_is three_is e_is busy_is f_is other_is over_is four_is i_is lack_is j_is x_is r_is =
     decided h (ops.Rename old new) (IsRenaming old new) x _ tree r asked (rename_late h old new p q works writable is are apart)
     (rename_refused h old new p q entry target (sym works) (sym writable) from to (root_false old p is) (root_false new q are) (ap₂ is_beneath (sym from_path) (sym to_path) ∙ apart) found
-    (subst (λ (t : Seen). Finds (tree_seen t) q target) first.same sought) ∙ ap first_of (sym lists))
+    (subst (λ (t : TreeState). Finds (tree_view t) q target) first.same sought) ∙ ap first_of (sym lists))
     (λ none. x_is) r_is
   where
     from : path_of old ≡ Some p
@@ -87,21 +87,21 @@ rename_checked h old new p q entry target mid later tree size len other same abs
     around : around_of tree ≡ around_of h.tree
     around = ap around_of asked.same
 
-    were : attributes_of (tree_seen later p) ≡ attributes_of (tree_seen h.tree p)
-    were = ap (λ (t : Seen). attributes_of (tree_seen t p)) second.same ∙ ap (λ (t : Seen). attributes_of (tree_seen t p)) first.same
+    were : attributes_of (tree_view later p) ≡ attributes_of (tree_view h.tree p)
+    were = ap (λ (t : TreeState). attributes_of (tree_view t p)) second.same ∙ ap (λ (t : TreeState). attributes_of (tree_view t p)) first.same
 
     other_is_not : not same ≡ not (same_path p q)
     other_is_not = ap not (same_is ∙ ap₂ same_path from_path to_path)
 
-    charge : over ≡ is_overcharged (around_of h.tree) (last_name q) (attributes_of (tree_seen h.tree p))
-    charge = over_is (last_name q) (attributes_of (tree_seen h.tree p)) (sym other_is) (sym (subst (λ z. IsAttributesSize z size) were sized).is)
-        ∙ ap (λ z. is_overcharged z (last_name q) (attributes_of (tree_seen h.tree p))) around
+    charge : over ≡ is_overcharged (around_of h.tree) (last_name q) (attributes_of (tree_view h.tree p))
+    charge = over_is (last_name q) (attributes_of (tree_view h.tree p)) (sym other_is) (sym (subst (λ z. IsAttributesSize z size) were sized).is)
+        ∙ ap (λ z. is_overcharged z (last_name q) (attributes_of (tree_view h.tree p))) around
 
     lists : (entry.fault ∷ target.fault ∷ a ∷ b ∷ c ∷ d ∷ e ∷ f ∷ i ∷ j ∷ []) ≡ checks_of h p q entry target
     lists = both refl (both refl (both (when ops.NameTooLong a_is (ap (nat_lt 255) len_is)) (both (when ops.NoEnt b_is absent_is)
         (both (when ops.NotDir c_is (one_is ∙ ap (λ z. z && is_directory_node entry.node && is_file_node target.node) other_is_not))
         (both (when ops.IsDir d_is (two_is ∙ ap (λ z. z && is_file_node entry.node && is_directory_node target.node) other_is_not))
-        (both (when ops.NotEmpty e_is (three_is ∙ ap₂ (λ y z. y && z) other_is_not (filled_is ∙ ap (λ (t : Seen). has_names (tree_seen t) q) first.same)))
+        (both (when ops.NotEmpty e_is (three_is ∙ ap₂ (λ y z. y && z) other_is_not (filled_is ∙ ap (λ (t : TreeState). has_names (tree_view t) q) first.same)))
         (both (when ops.Busy f_is (busy_is ∙ ap₂ (λ y z. is_open_at (is_in_the_way y z) h.files) from_path to_path))
         (both (when ops.EntryFull i_is (four_is ∙ ap₂ (λ y z. y && z) other_is_not charge))
         (both (when ops.NoSpace j_is (lack_is ∙ ap (λ z. lacks z h.files 2) around)) refl)))))))))
@@ -112,7 +112,7 @@ record HasPassed (h : Held) (old new : List ℕ) : Type 0 where
   can : in_flight_count h.tree.map ≤ held h.tree.disk.block_size h.files → CanRename h.tree (as_path old) (as_path new)
   closed : is_open_at (is_in_the_way (as_path old) (as_path new)) h.files ≡ false
   space : lacks (around_of h.tree) h.files 2 ≡ false
-  bare : (not (same_path (as_path old) (as_path new)) && nat_lt 0 (length (names_of (tree_seen h.tree (as_path new))))) ≡ false
+  bare : (not (same_path (as_path old) (as_path new)) && nat_lt 0 (length (names_of (tree_view h.tree (as_path new))))) ≡ false
 
 pub none_of_three : (a b c : Bool) → (a || b || c) ≡ false → (a ≡ false) × (b ≡ false) × (c ≡ false)
 none_of_three true b c e = absurd (cc)
@@ -171,10 +171,10 @@ rename_space h old new e = (passed h old new e).space
 pub rename_closed : (h : Held) (old new : List ℕ) → refused_by h (ops.Rename old new) ≡ None → is_open_at (is_in_the_way (as_path old) (as_path new)) h.files ≡ false
 rename_closed h old new e = (passed h old new e).closed
 
-pub rename_bare : (h : Held) (old new : List ℕ) → refused_by h (ops.Rename old new) ≡ None → (not (same_path (as_path old) (as_path new)) && nat_lt 0 (length (names_of (tree_seen h.tree (as_path new))))) ≡ false
+pub rename_bare : (h : Held) (old new : List ℕ) → refused_by h (ops.Rename old new) ≡ None → (not (same_path (as_path old) (as_path new)) && nat_lt 0 (length (names_of (tree_view h.tree (as_path new))))) ≡ false
 rename_bare h old new e = (passed h old new e).bare
 
-pub rename_can : (h : Held) (old new : List ℕ) (from to : Path) (tree : Seen) → (h.tree.failed ≡ false → in_flight_count h.tree.map ≤ held h.tree.disk.block_size h.files) → IsAsked h.tree tree → refused_by h (ops.Rename old new) ≡ None → from ≡ as_path old → to ≡ as_path new → CanRename tree from to
+pub rename_can : (h : Held) (old new : List ℕ) (from to : Path) (tree : TreeState) → (h.tree.failed ≡ false → in_flight_count h.tree.map ≤ held h.tree.disk.block_size h.files) → IsAsked h.tree tree → refused_by h (ops.Rename old new) ≡ None → from ≡ as_path old → to ≡ as_path new → CanRename tree from to
 rename_can h old new from to tree idle asked e is are =
     let can = (passed h old new e).can (idle (not_failed h (ops.Rename old new) e)) in
     subst (λ z. CanRename tree z to) (sym is) (subst (λ z. CanRename tree (as_path old) z) (sym are)

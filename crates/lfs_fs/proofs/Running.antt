@@ -8,22 +8,22 @@ use Rattle.lfs_model.specs.History.{faults, reads}
 use Rattle.lfs_model.specs.Operations as ops
 use Rattle.lfs_model.specs.Operations.{Operation}
 use Rattle.lfs_model.specs.Performed.{ArePerformed}
-use Rattle.lfs_model.specs.PowerLoss.{Withstands}
-use Rattle.lfs_model.specs.Run.{IsTurn, Moment}
+use Rattle.lfs_model.specs.PowerLoss.{SurvivesLoss}
+use Rattle.lfs_model.specs.Run.{IsSessionStep, SystemState}
 use Rattle.lfs_model.specs.Session.{Session}
 use Rattle.lfs_model.specs.State.{Healthy}
 use Rattle.lfs_model.specs.Thread.{Pair}
-use Rattle.lfs_model.specs.Thrift.{AsksFew, IsThrifty, ReadsKept, if_accepted}
+use Rattle.lfs_model.specs.ReadBounds.{AsksFew, IsWithinReadBounds, ReadsKept, if_accepted}
 use Rattle.lfs_model.specs.View.{IsAccepted}
 use Rattle.lfs_model.proofs.Performing.{last_accepted, last_further, performed_further}
-use Rattle.lfs_fs.specs.Held.{FailsBy, Held, IsEndedBy, moment_of}
-use Rattle.lfs_fs.specs.OpSeen.{IsNamed, op_seen, reply_seen}
+use Rattle.lfs_fs.specs.Held.{FailsBy, Held, IsEndedBy, system_state_of}
+use Rattle.lfs_fs.specs.OpView.{IsNamed, op_view, reply_view}
 use Rattle.lfs_fs.specs.Sparing.{IsCall}
 use Rattle.lfs_fs.proofs.KeptLookUps.{kept_hand, kept_small}
-use Rattle.lfs_lookup.specs.AtHand.{AreSmall}
-use Rattle.lfs_tree.specs.Reads.{HasOnHand}
+use Rattle.lfs_lookup.specs.CachedPairs.{AreSmall}
+use Rattle.lfs_tree.specs.Reads.{HasCached}
 use Rattle.lfs_model.specs.Run as model
-use Rattle.lfs_model.specs.Discipline.{pairs_of_path, searched}
+use Rattle.lfs_model.specs.Frame.{pairs_of_path, searched}
 use Rattle.lfs_fs.specs.declared.run.Op.{Op}
 use Rattle.lfs_fs.specs.declared.run.Reply.{Reply}
 
@@ -34,21 +34,21 @@ first_op (op ∷ ops) i h = op
 
 -- ---- turns that are thrifty
 
--- behind an accepted stat, the small directories that it searched are at hand
+-- behind an accepted stat, the small directories that it searched are cached
 abbrev pub IsWarm : Option Operation → Held → Type 0
 IsWarm None h = Unit {0}
-IsWarm (Some before) h = (path : List ℕ) → before ≡ ops.Stat path → (s : Session) → (moment_of h).state ≡ Healthy s → (ps : List Pair) → IsAccepted h.tree.disk ps → AreSmall ps (searched before) → HasOnHand h.tree (searched before)
+IsWarm (Some before) h = (path : List ℕ) → before ≡ ops.Stat path → (s : Session) → (system_state_of h).state ≡ Healthy s → (ps : List Pair) → IsAccepted h.tree.disk ps → AreSmall ps (searched before) → HasCached h.tree (searched before)
 
-call_thrifty : (before : Option Operation) (old : Held) (op : Operation) (reply : ops.Reply) (new : Held) → IsWarm before old → IsCall old op (Ok reply) new → (turn : IsTurn (moment_of old) op reply (moment_of new)) →
-    IsThrifty before (moment_of old) op turn.calls (moment_of new)
-call_thrifty before old op reply new warm call turn = record {
+call_within_read_bounds : (before : Option Operation) (old : Held) (op : Operation) (reply : ops.Reply) (new : Held) → IsWarm before old → IsCall old op (Ok reply) new → (turn : IsSessionStep (system_state_of old) op reply (system_state_of new)) →
+    IsWithinReadBounds before (system_state_of old) op turn.calls (system_state_of new)
+call_within_read_bounds before old op reply new warm call turn = record {
   alone = call.alone refl;
   asked = λ k. append_cancel_right turn.calls [] old.tree.history (sym turn.called ∙ ap (λ (h : Held). h.tree.history) (call.asks.asked k));
   few = λ s at ps a. call.asks.few s at ps a turn.calls turn.called;
   kept = λ s at ps a. go before warm s at ps a;
 }
   where
-    go : (b : Option Operation) → IsWarm b old → (s : Session) → (moment_of old).state ≡ Healthy s → (ps : List Pair) → IsAccepted old.tree.disk ps → ReadsKept ps b op turn.calls
+    go : (b : Option Operation) → IsWarm b old → (s : Session) → (system_state_of old).state ≡ Healthy s → (ps : List Pair) → IsAccepted old.tree.disk ps → ReadsKept ps b op turn.calls
     go None w s at ps a = tt
     go (Some b) w s at ps a = λ k. call.asks.none k.again (kept_hand ps b op k old.tree (w k.path k.stat s at ps a (kept_small ps b op k))) turn.calls turn.called
 
@@ -62,36 +62,36 @@ warm_behind old op reply new call = go (model.is_refusal reply) refl
 -- ---- the operations so far
 
 -- they are performed, and met no fault
-pub record HaveRun (from : Moment) (operations : List Operation) (replies : List ops.Reply) (to : Held) : Type 0 where
-  pub performed : ArePerformed None from operations replies (moment_of to)
+pub record HaveRun (from : SystemState) (operations : List Operation) (replies : List ops.Reply) (to : Held) : Type 0 where
+  pub performed : ArePerformed None from operations replies (system_state_of to)
   pub no_fault : faults to.tree.history ≡ faults from.calls
   pub warm : IsWarm (last_accepted None operations replies) to
 
-pub none_run : (a : Held) (replies : List Reply) → replies ≡ [] → HaveRun (moment_of a) [] (map reply_seen replies) a
-none_run a replies none = subst (λ rs. HaveRun (moment_of a) [] (map reply_seen rs) a) (sym none) (record { performed = refl; no_fault = refl; warm = tt })
+pub none_run : (a : Held) (replies : List Reply) → replies ≡ [] → HaveRun (system_state_of a) [] (map reply_view replies) a
+none_run a replies none = subst (λ rs. HaveRun (system_state_of a) [] (map reply_view rs) a) (sym none) (record { performed = refl; no_fault = refl; warm = tt })
 
-one_more : (operations : List Operation) (op : Operation) (replies : List ops.Reply) (reply : ops.Reply) (a : Moment) (b c : Held) → HaveRun a operations replies b → IsCall b op (Ok reply) c → HaveRun a (operations ++ op ∷ []) (replies ++ reply ∷ []) c
+one_more : (operations : List Operation) (op : Operation) (replies : List ops.Reply) (reply : ops.Reply) (a : SystemState) (b c : Held) → HaveRun a operations replies b → IsCall b op (Ok reply) c → HaveRun a (operations ++ op ∷ []) (replies ++ reply ∷ []) c
 one_more operations op replies reply a b c done call = record {
-  performed = performed_further None operations op replies reply a (moment_of b) (moment_of c) done.performed (record {
+  performed = performed_further None operations op replies reply a (system_state_of b) (system_state_of c) done.performed (record {
     turn = call.answers;
-    withstands = call.withstands;
-    thrifty = call_thrifty (last_accepted None operations replies) b op reply c done.warm call call.answers;
+    survives_loss = call.survives_loss;
+    read_bounds = call_within_read_bounds (last_accepted None operations replies) b op reply c done.warm call call.answers;
   });
   no_fault = call.ends.no_fault refl ∙ done.no_fault;
-  warm = subst (λ o. IsWarm o c) (sym (last_further None operations op replies reply a (moment_of b) done.performed)) (warm_behind b op reply c call);
+  warm = subst (λ o. IsWarm o c) (sym (last_further None operations op replies reply a (system_state_of b) done.performed)) (warm_behind b op reply c call);
 }
 
 -- one more operation
-pub run_further : (ops : List Op) (i : ℕ) (d : Op) (replies new : List Reply) (reply : Reply) (a : Moment) (b c : Held) → i < length ops → HaveRun a (map op_seen (take i ops)) (map reply_seen replies) b →
-    IsCall b (op_seen (get_or ops i d)) (Ok (reply_seen reply)) c → new ≡ replies ++ reply ∷ [] → HaveRun a (map op_seen (take (i + 1) ops)) (map reply_seen new) c
+pub run_further : (ops : List Op) (i : ℕ) (d : Op) (replies new : List Reply) (reply : Reply) (a : SystemState) (b c : Held) → i < length ops → HaveRun a (map op_view (take i ops)) (map reply_view replies) b →
+    IsCall b (op_view (get_or ops i d)) (Ok (reply_view reply)) c → new ≡ replies ++ reply ∷ [] → HaveRun a (map op_view (take (i + 1) ops)) (map reply_view new) c
 run_further ops i d replies new reply a b c lt done call is =
-    subst (λ rs. HaveRun a (map op_seen (take (i + 1) ops)) (map reply_seen rs) c) (sym is)
-    (subst (λ xs. HaveRun a xs (map reply_seen (replies ++ reply ∷ [])) c) (sym (ap (map op_seen) (take_more ops i d lt) ∙ map-append op_seen (take i ops) (get_or ops i d ∷ [])))
-    (subst (λ rs. HaveRun a (map op_seen (take i ops) ++ op_seen (get_or ops i d) ∷ []) rs c) (sym (map-append reply_seen replies (reply ∷ [])))
-    (one_more (map op_seen (take i ops)) (op_seen (get_or ops i d)) (map reply_seen replies) (reply_seen reply) a b c done call)))
+    subst (λ rs. HaveRun a (map op_view (take (i + 1) ops)) (map reply_view rs) c) (sym is)
+    (subst (λ xs. HaveRun a xs (map reply_view (replies ++ reply ∷ [])) c) (sym (ap (map op_view) (take_more ops i d lt) ∙ map-append op_view (take i ops) (get_or ops i d ∷ [])))
+    (subst (λ rs. HaveRun a (map op_view (take i ops) ++ op_view (get_or ops i d) ∷ []) rs c) (sym (map-append reply_view replies (reply ∷ [])))
+    (one_more (map op_view (take i ops)) (op_view (get_or ops i d)) (map reply_view replies) (reply_view reply) a b c done call)))
 
-pub run_ended : (ops : List Op) (i : ℕ) (replies : List Reply) (a : Moment) (b : Held) → length ops ≤ i → HaveRun a (map op_seen (take i ops)) (map reply_seen replies) b → HaveRun a (map op_seen ops) (map reply_seen replies) b
-run_ended ops i replies a b h done = subst (λ xs. HaveRun a (map op_seen xs) (map reply_seen replies) b) (take_all i ops h) done
+pub run_ended : (ops : List Op) (i : ℕ) (replies : List Reply) (a : SystemState) (b : Held) → length ops ≤ i → HaveRun a (map op_view (take i ops)) (map reply_view replies) b → HaveRun a (map op_view ops) (map reply_view replies) b
+run_ended ops i replies a b h done = subst (λ xs. HaveRun a (map op_view xs) (map reply_view replies) b) (take_all i ops h) done
 
 -- each refusal is named
 pub named_further : (replies new : List Reply) (reply : Reply) → AllByRecursion IsNamed replies → IsNamed reply → new ≡ replies ++ reply ∷ [] → AllByRecursion IsNamed new
@@ -102,7 +102,7 @@ named_further replies new reply done one is = subst (AllByRecursion IsNamed) (sy
     go (r ∷ rs) h = (h.0, go rs h.1)
 
 -- without a call nothing was read
-pub silent_few : (from : Moment) (op : Operation) (to : Moment) → to.calls ≡ from.calls → AsksFew from op to
+pub silent_few : (from : SystemState) (op : Operation) (to : SystemState) → to.calls ≡ from.calls → AsksFew from op to
 silent_few from op to same s at ps a calls is looks =
     let none = append_cancel_right calls [] from.calls (sym is ∙ same) in
     subst (λ z. reads z ≤ sum_by (pairs_of_path ps) (searched op)) (sym none) (zero_least _)
@@ -111,19 +111,19 @@ silent_few from op to same s at ps a calls is looks =
     zero_least n = omega arith
 
 -- the session fails in the next one
-pub run_cut : (e : Error) (ops : List Op) (i : ℕ) (d : Op) (replies : List Reply) (a : Moment) (b : Held) (c : Moment) → i < length ops → HaveRun a (map op_seen (take i ops)) (map reply_seen replies) b → AsksFew (moment_of b) (op_seen (get_or ops i d)) c →
-    FailsBy e (moment_of b) (op_seen (get_or ops i d)) c → Withstands (moment_of b) (op_seen (get_or ops i d)) c → IsEndedBy e a (map op_seen ops) c
-run_cut e ops i d replies a b c lt run few fails withstands = record {
+pub run_cut : (e : Error) (ops : List Op) (i : ℕ) (d : Op) (replies : List Reply) (a : SystemState) (b : Held) (c : SystemState) → i < length ops → HaveRun a (map op_view (take i ops)) (map reply_view replies) b → AsksFew (system_state_of b) (op_view (get_or ops i d)) c →
+    FailsBy e (system_state_of b) (op_view (get_or ops i d)) c → SurvivesLoss (system_state_of b) (op_view (get_or ops i d)) c → IsEndedBy e a (map op_view ops) c
+run_cut e ops i d replies a b c lt run few fails survives_loss = record {
   ended = record {
-    done = map op_seen (take i ops);
-    next = op_seen (get_or ops i d);
-    others = map op_seen (drop (i + 1) ops);
-    are = ap (map op_seen) (sym (take-append-drop i ops)) ∙ map-append op_seen (take i ops) (drop i ops) ∙ ap (λ xs. map op_seen (take i ops) ++ map op_seen xs) (drop-cons ops i d lt ∙ ap (λ n. get_or ops i d ∷ drop n ops) (sym (add-one i)));
-    replies = map reply_seen replies;
-    at = moment_of b;
+    done = map op_view (take i ops);
+    next = op_view (get_or ops i d);
+    others = map op_view (drop (i + 1) ops);
+    are = ap (map op_view) (sym (take-append-drop i ops)) ∙ map-append op_view (take i ops) (drop i ops) ∙ ap (λ xs. map op_view (take i ops) ++ map op_view xs) (drop-cons ops i d lt ∙ ap (λ n. get_or ops i d ∷ drop n ops) (sym (add-one i)));
+    replies = map reply_view replies;
+    at = system_state_of b;
     performed = run.performed;
     fails = fails.fails;
-    withstands = withstands;
+    survives_loss = survives_loss;
     few = few;
   };
   no_fault = run.no_fault;

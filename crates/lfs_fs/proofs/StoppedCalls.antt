@@ -13,9 +13,9 @@ use Rattle.lfs_model.specs.Effects.{committed, size_of, with_bytes}
 use Rattle.lfs_model.specs.Tree.{DirectoryNode, FileNode, Node, Path}
 use Rattle.lfs_model.proofs.Histories.{OnlyReads-trans}
 use Rattle.lfs_tree.specs.OpenContents.{bytes_held, kept_of}
-use Rattle.lfs_tree.specs.Seen.{IsAsked, IsBrokenAsking, IsMountedTree, IsSound, Seen, SurvivesAs, tree_seen}
-use Rattle.lfs_fs.specs.FileSeen.{OpenFiles, bytes_of, entry_of, file_seen, files_seen, is_unsaved_entry}
-use Rattle.lfs_fs.specs.Held.{Held, IsReady, held_of, held_with, moment_of, refused_by}
+use Rattle.lfs_tree.specs.TreeState.{IsAsked, IsBrokenAsking, IsMountedTree, IsSound, TreeState, SurvivesAs, tree_view}
+use Rattle.lfs_fs.specs.FileView.{OpenFiles, bytes_of, entry_of, file_view, files_view, is_unsaved_entry}
+use Rattle.lfs_fs.specs.Held.{Held, IsReady, held_of, held_with, system_state_of, refused_by}
 use Rattle.lfs_model.specs.PowerLoss.{SurvivesStops}
 use Rattle.lfs_fs.specs.declared.files.OpenFile.TheVariants as file
 use Rattle.lfs_fs.specs.declared.files.Unsaved.{Unsaved}
@@ -23,46 +23,46 @@ use Rattle.lfs_fs.specs.declared.files.Writer.{Writer}
 use Rattle.lfs_fs.proofs.Answered.{sound_by}
 use Rattle.lfs_fs.proofs.OpenFiles.{file_is}
 use Rattle.lfs_fs.proofs.OpenedWriters.{open_passed}
-use Rattle.lfs_fs.proofs.SavedTurns.{unsaved_writer}
+use Rattle.lfs_fs.proofs.SavedSteps.{unsaved_writer}
 use Rattle.lfs_fs.proofs.Stopping.{KeepsTree, kept_by_reads, one_changed, then_changes}
 
 -- ---- reads in turn
 
-pub reads_on : (t mid new : Seen) → IsAsked t mid → OnlyReads mid.disk.blocks mid.history new.history → OnlyReads t.disk.blocks t.history new.history
-reads_on t mid new asked reads = OnlyReads-trans asked.reads reads (ap (λ (z : Seen). z.disk.blocks) asked.same)
+pub reads_on : (t mid new : TreeState) → IsAsked t mid → OnlyReads mid.disk.blocks mid.history new.history → OnlyReads t.disk.blocks t.history new.history
+reads_on t mid new asked reads = OnlyReads-trans asked.reads reads (ap (λ (z : TreeState). z.disk.blocks) asked.same)
 
-pub reads_on_by : {A : Type 0} (t mid new : Seen) (r : Result A Error) → IsAsked t mid → OnOk r (IsAsked mid new) → OnErr r (IsBrokenAsking mid new) → OnlyReads t.disk.blocks t.history new.history
+pub reads_on_by : {A : Type 0} (t mid new : TreeState) (r : Result A Error) → IsAsked t mid → OnOk r (IsAsked mid new) → OnErr r (IsBrokenAsking mid new) → OnlyReads t.disk.blocks t.history new.history
 reads_on_by t mid new (Ok x) asked on broken = reads_on t mid new asked on.reads
 reads_on_by t mid new (Err e) asked on broken = reads_on t mid new asked broken.reads
 
-pub reads_of_mount : {A : Type 0} (t new : Seen) (r : Result A Error) → OnOk r (IsMountedTree t.disk t.history new) → OnErr r (IsBrokenAsking t new) → OnlyReads t.disk.blocks t.history new.history
+pub reads_of_mount : {A : Type 0} (t new : TreeState) (r : Result A Error) → OnOk r (IsMountedTree t.disk t.history new) → OnErr r (IsBrokenAsking t new) → OnlyReads t.disk.blocks t.history new.history
 reads_of_mount t new (Ok x) mounted broken = mounted.reads
 reads_of_mount t new (Err e) mounted broken = broken.reads
 
-pub reads_same : (t mid new : Seen) → new ≡ mid → OnlyReads t.disk.blocks t.history mid.history → OnlyReads t.disk.blocks t.history new.history
-reads_same t mid new is reads = subst (λ (z : Seen). OnlyReads t.disk.blocks t.history z.history) (sym is) reads
+pub reads_same : (t mid new : TreeState) → new ≡ mid → OnlyReads t.disk.blocks t.history mid.history → OnlyReads t.disk.blocks t.history new.history
+reads_same t mid new is reads = subst (λ (z : TreeState). OnlyReads t.disk.blocks t.history z.history) (sym is) reads
 
 -- ---- contents of a writer
 
 -- reads, and then blocks that the image doesn't use are written
-pub beside_left : (t mid new : Seen) (calls : List Event) → IsSound t → t.writable ≡ true → IsAsked t mid → new.history ≡ calls ++ mid.history → (mid.writable ≡ true → SurvivesAs mid new (tree_seen mid)) →
-    SurvivesAs t new (tree_seen t)
+pub beside_left : (t mid new : TreeState) (calls : List Event) → IsSound t → t.writable ≡ true → IsAsked t mid → new.history ≡ calls ++ mid.history → (mid.writable ≡ true → SurvivesAs mid new (tree_view mid)) →
+    SurvivesAs t new (tree_view t)
 beside_left t mid new calls sound writable asked called survives =
     let k = kept_by_reads t mid sound writable asked in
-    then_changes t mid calls new.history (tree_seen t) k called (subst (λ z. SurvivesAs mid new z) k.tree (survives k.writable))
+    then_changes t mid calls new.history (tree_view t) k called (subst (λ z. SurvivesAs mid new z) k.tree (survives k.writable))
 
-pub store_left : (t new : Seen) (w : Writer) (u : Unsaved) (path : Path) → w.unsaved ≡ Some u → path ≡ w.path → SurvivesAs t new (change_at path (with_bytes (bytes_held (kept_of t) u.contents)) (tree_seen t)) →
-    SurvivesAs t new (change_at w.path (with_bytes (bytes_of t w.path w.unsaved)) (tree_seen t))
+pub store_left : (t new : TreeState) (w : Writer) (u : Unsaved) (path : Path) → w.unsaved ≡ Some u → path ≡ w.path → SurvivesAs t new (change_at path (with_bytes (bytes_held (kept_of t) u.contents)) (tree_view t)) →
+    SurvivesAs t new (change_at w.path (with_bytes (bytes_of t w.path w.unsaved)) (tree_view t))
 store_left t new w u path is same left =
-    subst (λ z. SurvivesAs t new (change_at w.path (with_bytes (bytes_of t w.path z)) (tree_seen t))) (sym is)
-    (subst (λ p. SurvivesAs t new (change_at p (with_bytes (bytes_held (kept_of t) u.contents)) (tree_seen t))) same left)
+    subst (λ z. SurvivesAs t new (change_at w.path (with_bytes (bytes_of t w.path z)) (tree_view t))) (sym is)
+    (subst (λ p. SurvivesAs t new (change_at p (with_bytes (bytes_held (kept_of t) u.contents)) (tree_view t))) same left)
 
 -- what a sync or a close makes of the tree
-pub saved_tree : (t : Seen) (fs : OpenFiles) (fd : ℕ) (w : Writer) → is_unsaved_entry (entry_of fs fd) ≡ true → Some (file.Writing w) ≡ entry_of fs fd →
-    change_at w.path (with_bytes (bytes_of t w.path w.unsaved)) (tree_seen t) ≡ committed (file_of (files_seen t fs) fd) (tree_seen t)
+pub saved_tree : (t : TreeState) (fs : OpenFiles) (fd : ℕ) (w : Writer) → is_unsaved_entry (entry_of fs fd) ≡ true → Some (file.Writing w) ≡ entry_of fs fd →
+    change_at w.path (with_bytes (bytes_of t w.path w.unsaved)) (tree_view t) ≡ committed (file_of (files_view t fs) fd) (tree_view t)
 saved_tree t fs fd w unsaved is =
-    sym (ap (λ f. committed f (tree_seen t)) (file_is t fs fd ∙ ap (option_map (file_seen t)) (sym is))
-    ∙ ap (λ b. cond b (change_at w.path (with_bytes (bytes_of t w.path w.unsaved)) (tree_seen t)) (tree_seen t)) (unsaved_writer (entry_of fs fd) w unsaved is))
+    sym (ap (λ f. committed f (tree_view t)) (file_is t fs fd ∙ ap (option_map (file_view t)) (sym is))
+    ∙ ap (λ b. cond b (change_at w.path (with_bytes (bytes_of t w.path w.unsaved)) (tree_view t)) (tree_view t)) (unsaved_writer (entry_of fs fd) w unsaved is))
 
 -- ---- a file that is opened for writing, and made
 
@@ -71,19 +71,19 @@ no_node None e d = refl
 no_node (Some (FileNode attributes bytes)) e d = absurd (cc)
 no_node (Some (DirectoryNode attributes names)) e d = absurd (cc)
 
-pub opening_keeps : (t mid : Seen) (fs : OpenFiles) (bytes : List ℕ) (flags : Flags) → (t.failed ≡ false → IsReady t fs) → IsAsked t mid → refused_by (held_of t fs) (ops.Open bytes flags) ≡ None → flags.write ≡ true → KeepsTree t mid
+pub opening_keeps : (t mid : TreeState) (fs : OpenFiles) (bytes : List ℕ) (flags : Flags) → (t.failed ≡ false → IsReady t fs) → IsAsked t mid → refused_by (held_of t fs) (ops.Open bytes flags) ≡ None → flags.write ≡ true → KeepsTree t mid
 opening_keeps t mid fs bytes flags ready asked e write =
     let passed = open_passed (held_of t fs) bytes flags write e in
     kept_by_reads t mid (ready passed.works).sound passed.writable asked
 
-pub created_left : (t mid new : Seen) (fs : OpenFiles) (now : Held) (bytes : List ℕ) (flags : Flags) (p : Path) → held_of t fs ≡ now → (t.failed ≡ false → IsReady t fs) → KeepsTree t mid →
-    refused_by (held_of t fs) (ops.Open bytes flags) ≡ None → flags.write ≡ true → p ≡ as_path bytes → size_of (tree_seen t p) ≡ None → (calls : List Event) × (new.history ≡ calls ++ mid.history) →
-    SurvivesAs mid new (added p (FileNode [] []) (tree_seen mid)) → SurvivesStops (moment_of now) (ops.Open bytes flags) (moment_of (held_with new []))
+pub created_left : (t mid new : TreeState) (fs : OpenFiles) (now : Held) (bytes : List ℕ) (flags : Flags) (p : Path) → held_of t fs ≡ now → (t.failed ≡ false → IsReady t fs) → KeepsTree t mid →
+    refused_by (held_of t fs) (ops.Open bytes flags) ≡ None → flags.write ≡ true → p ≡ as_path bytes → size_of (tree_view t p) ≡ None → (calls : List Event) × (new.history ≡ calls ++ mid.history) →
+    SurvivesAs mid new (added p (FileNode [] []) (tree_view mid)) → SurvivesStops (system_state_of now) (ops.Open bytes flags) (system_state_of (held_with new []))
 created_left t mid new fs now bytes flags p same ready keeps e write is sizes called left =
     let passed = open_passed (held_of t fs) bytes flags write e in
-    let node : tree_seen t (as_path bytes) ≡ None = no_node (tree_seen t (as_path bytes)) (sym (ap (λ q. size_of (tree_seen t q)) is) ∙ sizes) passed.directory in
-    one_changed (held_of t fs) now (ops.Open bytes flags) mid new (added p (FileNode [] []) (tree_seen mid)) same (sound_by t fs ready) e (λ works writable. keeps) called left
-    (ap₂ (λ q z. added q (FileNode [] []) z) is keeps.tree ∙ sym (ap (λ o. if is_none o then added (as_path bytes) (FileNode [] []) (tree_seen t) else tree_seen t) node))
+    let node : tree_view t (as_path bytes) ≡ None = no_node (tree_view t (as_path bytes)) (sym (ap (λ q. size_of (tree_view t q)) is) ∙ sizes) passed.directory in
+    one_changed (held_of t fs) now (ops.Open bytes flags) mid new (added p (FileNode [] []) (tree_view mid)) same (sound_by t fs ready) e (λ works writable. keeps) called left
+    (ap₂ (λ q z. added q (FileNode [] []) z) is keeps.tree ∙ sym (ap (λ o. if is_none o then added (as_path bytes) (FileNode [] []) (tree_view t) else tree_view t) node))
 
 -- ---- one that is there, behind a recovery
 
@@ -91,10 +91,10 @@ file_node : (n : Option Node) (size : ℕ) → size_of n ≡ Some size → (m : 
 file_node None size e = absurd (cc)
 file_node (Some m) size e = (m, refl)
 
-pub opened_left : (t mid new : Seen) (fs : OpenFiles) (now : Held) (bytes : List ℕ) (flags : Flags) (p : Path) (size : ℕ) → held_of t fs ≡ now → (t.failed ≡ false → IsReady t fs) → KeepsTree t mid →
-    refused_by (held_of t fs) (ops.Open bytes flags) ≡ None → p ≡ as_path bytes → size_of (tree_seen t p) ≡ Some size → (calls : List Event) × (new.history ≡ calls ++ mid.history) →
-    SurvivesAs mid new (tree_seen mid) → SurvivesStops (moment_of now) (ops.Open bytes flags) (moment_of (held_with new []))
+pub opened_left : (t mid new : TreeState) (fs : OpenFiles) (now : Held) (bytes : List ℕ) (flags : Flags) (p : Path) (size : ℕ) → held_of t fs ≡ now → (t.failed ≡ false → IsReady t fs) → KeepsTree t mid →
+    refused_by (held_of t fs) (ops.Open bytes flags) ≡ None → p ≡ as_path bytes → size_of (tree_view t p) ≡ Some size → (calls : List Event) × (new.history ≡ calls ++ mid.history) →
+    SurvivesAs mid new (tree_view mid) → SurvivesStops (system_state_of now) (ops.Open bytes flags) (system_state_of (held_with new []))
 opened_left t mid new fs now bytes flags p size same ready keeps e is sizes called left =
-    let node = file_node (tree_seen t (as_path bytes)) size (sym (ap (λ q. size_of (tree_seen t q)) is) ∙ sizes) in
-    one_changed (held_of t fs) now (ops.Open bytes flags) mid new (tree_seen mid) same (sound_by t fs ready) e (λ works writable. keeps) called left
-    (keeps.tree ∙ sym (ap (λ o. if is_none o then added (as_path bytes) (FileNode [] []) (tree_seen t) else tree_seen t) node.1))
+    let node = file_node (tree_view t (as_path bytes)) size (sym (ap (λ q. size_of (tree_view t q)) is) ∙ sizes) in
+    one_changed (held_of t fs) now (ops.Open bytes flags) mid new (tree_view mid) same (sound_by t fs ready) e (λ works writable. keeps) called left
+    (keeps.tree ∙ sym (ap (λ o. if is_none o then added (as_path bytes) (FileNode [] []) (tree_view t) else tree_view t) node.1))

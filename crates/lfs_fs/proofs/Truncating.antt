@@ -8,8 +8,8 @@ use Rattle.std.proofs.lemmas.List.{map-set}
 use Rattle.lfs_model.specs.Disk.{file_limit}
 use Rattle.lfs_model.specs.Operations as ops
 use Rattle.lfs_model.specs.Operations.{Operation, Reply}
-use Rattle.lfs_model.specs.Discipline.{takes_nothing}
-use Rattle.lfs_model.specs.Run.{IsTurn, has_size}
+use Rattle.lfs_model.specs.Frame.{takes_nothing}
+use Rattle.lfs_model.specs.Run.{IsSessionStep, has_size}
 use Rattle.lfs_model.specs.Session as session
 use Rattle.lfs_model.specs.Session.{Files, Session, Surroundings, Writing, file_of, first_of, held_by, overfills, put_file, refuse_if, writer_of}
 use Rattle.lfs_model.specs.Writers.{after_truncate}
@@ -18,18 +18,18 @@ use Rattle.lfs_model.specs.Effects.{effect_of}
 use Rattle.lfs_model.specs.Tree.{Tree}
 use Rattle.lfs_model.specs.View.{View}
 use Rattle.lfs_model.proofs.Committed.{recovered_from}
-use Rattle.lfs_model.proofs.TurnsMade.{filled_turn}
+use Rattle.lfs_model.proofs.StepsMade.{filled_step}
 use Rattle.lfs_tree.specs.OpenContents.{IsWrittenBeside}
-use Rattle.lfs_tree.specs.Seen.{Seen, around_of, tree_seen}
+use Rattle.lfs_tree.specs.TreeState.{TreeState, around_of, tree_view}
 use Rattle.lfs_fs.specs.Changing.{CanTruncate, IsWriterAs}
-use Rattle.lfs_fs.specs.FileSeen.{OpenFiles, bytes_of, entry_of, file_seen, files_seen, reader_seen, writer_in, writer_seen, writers_in}
-use Rattle.lfs_fs.specs.Held.{Answers, Held, IsReady, IsWritten, held_of, moment_of, refused_by, session_of}
+use Rattle.lfs_fs.specs.FileView.{OpenFiles, bytes_of, entry_of, file_view, files_view, reader_view, writer_in, writer_view, writers_in}
+use Rattle.lfs_fs.specs.Held.{Answers, Held, IsReady, IsWritten, held_of, system_state_of, refused_by, session_of}
 use Rattle.lfs_fs.specs.declared.files.OpenFile.{OpenFile}
 use Rattle.lfs_fs.specs.declared.files.OpenFile.TheVariants as file
 use Rattle.lfs_fs.specs.declared.files.Writer.{Writer}
 use Rattle.lfs_fs.proofs.Answered.{is_over, kept_answer, not_failed, not_refused, sound_by}
 use Rattle.lfs_fs.proofs.Checked.{neither, unrefused}
-use Rattle.lfs_fs.proofs.Failing.{healthy_moment}
+use Rattle.lfs_fs.proofs.Failing.{healthy_system}
 use Rattle.lfs_fs.proofs.OpenFiles.{IsOnly, inside_is, only, set_is}
 use Rattle.lfs_fs.proofs.WriterChecks.{the_writer, written_at}
 use Rattle.lfs_fs.proofs.Calls.{still_called}
@@ -37,24 +37,24 @@ use Rattle.lfs_fs.proofs.OpenReaders.{read_rewritten}
 
 -- ---- what no check refuses
 
-module _ (t : Seen) (fs : OpenFiles) (fd size : ℕ) (w : Writer) (e : entry_of fs fd ≡ Some (file.Writing w)) (accepted : refused_by (held_of t fs) (ops.Truncate fd size) ≡ None) where
+module _ (t : TreeState) (fs : OpenFiles) (fd size : ℕ) (w : Writer) (e : entry_of fs fd ≡ Some (file.Writing w)) (accepted : refused_by (held_of t fs) (ops.Truncate fd size) ≡ None) where
   pub is_writer : Some w ≡ writer_in (entry_of fs fd)
   is_writer = sym (ap writer_in e)
 
   pub works_now : t.failed ≡ false
   works_now = not_failed (held_of t fs) (ops.Truncate fd size) accepted
 
-  seen_there : writer_of (file_of (files_seen t fs) fd) ≡ Some (writer_seen t w)
+  seen_there : writer_of (file_of (files_view t fs) fd) ≡ Some (writer_view t w)
   seen_there = the_writer t fs fd (Some w) is_writer
 
   checks_are : refused_by (held_of t fs) (ops.Truncate fd size)
-      ≡ first_of (refuse_if (nat_lt file_limit size) ops.TooBig ∷ refuse_if (not (size == length (bytes_of t w.path w.unsaved)) && overfills (around_of t) (after_truncate (writer_seen t w) size)) ops.NoSpace ∷ [])
+      ≡ first_of (refuse_if (nat_lt file_limit size) ops.TooBig ∷ refuse_if (not (size == length (bytes_of t w.path w.unsaved)) && overfills (around_of t) (after_truncate (writer_view t w) size)) ops.NoSpace ∷ [])
   checks_are = rw (works_now, seen_there) refl
 
   small_enough : nat_lt file_limit size ≡ false
   small_enough = unrefused _ ops.TooBig (neither _ _ (sym checks_are ∙ accepted)).0
 
-  has_room : (not (size == length (bytes_of t w.path w.unsaved)) && overfills (around_of t) (after_truncate (writer_seen t w) size)) ≡ false
+  has_room : (not (size == length (bytes_of t w.path w.unsaved)) && overfills (around_of t) (after_truncate (writer_view t w) size)) ≡ false
   has_room = unrefused _ ops.NoSpace (neither _ _ (neither _ _ (sym checks_are ∙ accepted)).1).0
 
   module _ (ready : IsReady t fs) where
@@ -90,29 +90,29 @@ set_same (f ∷ fs) (suc fd) x e = ap (λ z. f ∷ z) (set_same fs fd x e)
 unchanged : (v : session.Writer) (size : ℕ) → (size == length v.contents) ≡ true → after_truncate v size ≡ v
 unchanged v size e = rw e refl
 
-pub same_size : (t : Seen) (fs : OpenFiles) (fd size : ℕ) (now : Held) (w : Writer) → held_of t fs ≡ now → (t.failed ≡ false → IsReady t fs) → refused_by (held_of t fs) (ops.Truncate fd size) ≡ None → entry_of fs fd ≡ Some (file.Writing w) →
+pub same_size : (t : TreeState) (fs : OpenFiles) (fd size : ℕ) (now : Held) (w : Writer) → held_of t fs ≡ now → (t.failed ≡ false → IsReady t fs) → refused_by (held_of t fs) (ops.Truncate fd size) ≡ None → entry_of fs fd ≡ Some (file.Writing w) →
     (size == w.size) ≡ true → Answers now (ops.Truncate fd size) (Ok ops.Done) now
 same_size t fs fd size now w same ready accepted e is =
     subst (λ z. Answers now (ops.Truncate fd size) (Ok ops.Done) z) same
-    (kept_answer (held_of t fs) now (ops.Truncate fd size) (files_seen t fs) ops.Done same (sound_by t fs ready) accepted refl refl refl
-    (ap (λ f. (ops.Done, record { tree = tree_seen t; files = f })) stays))
+    (kept_answer (held_of t fs) now (ops.Truncate fd size) (files_view t fs) ops.Done same (sound_by t fs ready) accepted refl refl refl
+    (ap (λ f. (ops.Done, record { tree = tree_view t; files = f })) stays))
   where
     long : (size == length (bytes_of t w.path w.unsaved)) ≡ true
     long = ap (λ n. size == n) (written_at t fs fd w (ready (not_failed (held_of t fs) (ops.Truncate fd size) accepted)).written (sym (ap writer_in e))).size ∙ is
 
-    stays : put_file (files_seen t fs) fd (option_map (λ v. Writing (after_truncate v size)) (writer_of (file_of (files_seen t fs) fd))) ≡ files_seen t fs
+    stays : put_file (files_view t fs) fd (option_map (λ v. Writing (after_truncate v size)) (writer_of (file_of (files_view t fs) fd))) ≡ files_view t fs
     stays =
-        ap (λ o. put_file (files_seen t fs) fd (option_map (λ v. Writing (after_truncate v size)) o)) (the_writer t fs fd (Some w) (sym (ap writer_in e)))
-        ∙ ap (λ v. put_file (files_seen t fs) fd (Some (Writing v))) (unchanged (writer_seen t w) size long)
-        ∙ sym (set_is t fs fd (Some (file.Writing w)) (ap is_some e)) ∙ ap (files_seen t) (set_same fs fd (file.Writing w) e)
+        ap (λ o. put_file (files_view t fs) fd (option_map (λ v. Writing (after_truncate v size)) o)) (the_writer t fs fd (Some w) (sym (ap writer_in e)))
+        ∙ ap (λ v. put_file (files_view t fs) fd (Some (Writing v))) (unchanged (writer_view t w) size long)
+        ∙ sym (set_is t fs fd (Some (file.Writing w)) (ap is_some e)) ∙ ap (files_view t) (set_same fs fd (file.Writing w) e)
 
 -- ---- another size
 
 -- the other files are readers
-no_writers : (t s : Seen) (fs : OpenFiles) → writers_in fs ≡ [] → files_seen t fs ≡ files_seen s fs
+no_writers : (t s : TreeState) (fs : OpenFiles) → writers_in fs ≡ [] → files_view t fs ≡ files_view s fs
 no_writers t s [] e = refl
 no_writers t s (None ∷ fs) e = ap (λ z. None ∷ z) (no_writers t s fs e)
-no_writers t s (Some (file.Reading r) ∷ fs) e = ap (λ z. Some (session.Reading (reader_seen r)) ∷ z) (no_writers t s fs e)
+no_writers t s (Some (file.Reading r) ∷ fs) e = ap (λ z. Some (session.Reading (reader_view r)) ∷ z) (no_writers t s fs e)
 no_writers t s (Some (file.Writing w) ∷ fs) e = absurd (cc)
 
 set_twice : {A : Type 0} (xs : List A) (n : ℕ) (x y : A) → set (set xs n x) n y ≡ set xs n y
@@ -120,37 +120,37 @@ set_twice [] n x y = refl
 set_twice (z ∷ xs) zero x y = refl
 set_twice (z ∷ xs) (suc n) x y = ap (λ zs. z ∷ zs) (set_twice xs n x y)
 
-set_in_files : (t : Seen) (fs : OpenFiles) (fd : ℕ) (entry : Option OpenFile) → files_seen t (set fs fd entry) ≡ set (files_seen t fs) fd (option_map (file_seen t) entry)
-set_in_files t fs fd entry = map-set (option_map (file_seen t)) fs fd entry
+set_in_files : (t : TreeState) (fs : OpenFiles) (fd : ℕ) (entry : Option OpenFile) → files_view t (set fs fd entry) ≡ set (files_view t fs) fd (option_map (file_view t) entry)
+set_in_files t fs fd entry = map-set (option_map (file_view t)) fs fd entry
 
 -- a writer in place of the only one
-pub other_tree : (t s : Seen) (fs : OpenFiles) (fd : ℕ) (w v : Writer) → IsOnly fs fd w → files_seen s (set fs fd (Some (file.Writing v))) ≡ set (files_seen t fs) fd (Some (Writing (writer_seen s v)))
+pub other_tree : (t s : TreeState) (fs : OpenFiles) (fd : ℕ) (w v : Writer) → IsOnly fs fd w → files_view s (set fs fd (Some (file.Writing v))) ≡ set (files_view t fs) fd (Some (Writing (writer_view s v)))
 other_tree t s fs fd w v alone =
-    set_in_files s fs fd (Some (file.Writing v)) ∙ sym (set_twice (files_seen s fs) fd None (Some (Writing (writer_seen s v))))
-    ∙ ap (λ z. set z fd (Some (Writing (writer_seen s v)))) (sym (set_in_files s fs fd None) ∙ no_writers s t (set fs fd None) alone.without ∙ set_in_files t fs fd None)
-    ∙ set_twice (files_seen t fs) fd None (Some (Writing (writer_seen s v)))
+    set_in_files s fs fd (Some (file.Writing v)) ∙ sym (set_twice (files_view s fs) fd None (Some (Writing (writer_view s v))))
+    ∙ ap (λ z. set z fd (Some (Writing (writer_view s v)))) (sym (set_in_files s fs fd None) ∙ no_writers s t (set fs fd None) alone.without ∙ set_in_files t fs fd None)
+    ∙ set_twice (files_view t fs) fd None (Some (Writing (writer_view s v)))
 
-pub inside_put : (t : Seen) (fs : OpenFiles) (fd : ℕ) (x : session.OpenFile) → is_some (entry_of fs fd) ≡ true → put_file (files_seen t fs) fd (Some x) ≡ set (files_seen t fs) fd (Some x)
-inside_put t fs fd x e = ap (λ b. cond b (set (files_seen t fs) fd (Some x)) (files_seen t fs ++ Some x ∷ [])) (seen_inside fs fd e)
+pub inside_put : (t : TreeState) (fs : OpenFiles) (fd : ℕ) (x : session.OpenFile) → is_some (entry_of fs fd) ≡ true → put_file (files_view t fs) fd (Some x) ≡ set (files_view t fs) fd (Some x)
+inside_put t fs fd x e = ap (λ b. cond b (set (files_view t fs) fd (Some x)) (files_view t fs ++ Some x ∷ [])) (seen_inside fs fd e)
   where
-    seen_inside : (fs : OpenFiles) (fd : ℕ) → is_some (entry_of fs fd) ≡ true → nat_lt fd (length (files_seen t fs)) ≡ true
-    seen_inside fs fd e = lt-ltb fd (length (files_seen t fs)) (subst (λ n. fd < n) (sym (mapped fs)) (inside_is fs fd e))
+    seen_inside : (fs : OpenFiles) (fd : ℕ) → is_some (entry_of fs fd) ≡ true → nat_lt fd (length (files_view t fs)) ≡ true
+    seen_inside fs fd e = lt-ltb fd (length (files_view t fs)) (subst (λ n. fd < n) (sym (mapped fs)) (inside_is fs fd e))
       where
-        mapped : (fs : OpenFiles) → length (files_seen t fs) ≡ length fs
+        mapped : (fs : OpenFiles) → length (files_view t fs) ≡ length fs
         mapped [] = refl
         mapped (f ∷ fs) = ap suc (mapped fs)
 
 -- another size is to be made
-pub other_needed : (t : Seen) (fs : OpenFiles) (fd size : ℕ) (w : Writer) → entry_of fs fd ≡ Some (file.Writing w) → IsWritten t w → (size == w.size) ≡ false → takes_nothing (session_of (held_of t fs)) (ops.Truncate fd size) ≡ false
+pub other_needed : (t : TreeState) (fs : OpenFiles) (fd size : ℕ) (w : Writer) → entry_of fs fd ≡ Some (file.Writing w) → IsWritten t w → (size == w.size) ≡ false → takes_nothing (session_of (held_of t fs)) (ops.Truncate fd size) ≡ false
 other_needed t fs fd size w e written other = ap (λ o. has_size o size) (the_writer t fs fd (Some w) (sym (ap writer_in e))) ∙ ap (λ n. size == n) written.size ∙ other
 
-pub other_size : (t new : Seen) (fs : OpenFiles) (fd size : ℕ) (now : Held) (w v : Writer) → held_of t fs ≡ now → (t.failed ≡ false → IsReady t fs) → refused_by (held_of t fs) (ops.Truncate fd size) ≡ None → entry_of fs fd ≡ Some (file.Writing w) → (size == w.size) ≡ false →
-    IsWriterAs new (after_truncate (writer_seen t w) size) v → IsWrittenBeside t new → IsTurn (moment_of now) (ops.Truncate fd size) ops.Done (moment_of (held_of new (set fs fd (Some (file.Writing v)))))
+pub other_size : (t new : TreeState) (fs : OpenFiles) (fd size : ℕ) (now : Held) (w v : Writer) → held_of t fs ≡ now → (t.failed ≡ false → IsReady t fs) → refused_by (held_of t fs) (ops.Truncate fd size) ≡ None → entry_of fs fd ≡ Some (file.Writing w) → (size == w.size) ≡ false →
+    IsWriterAs new (after_truncate (writer_view t w) size) v → IsWrittenBeside t new → IsSessionStep (system_state_of now) (ops.Truncate fd size) ops.Done (system_state_of (held_of new (set fs fd (Some (file.Writing v)))))
 other_size t new fs fd size now w v same ready accepted e other made b =
-    subst (λ z. IsTurn (moment_of z) op ops.Done (moment_of (held_of new later))) same
-    (subst (λ m. IsTurn m op ops.Done (moment_of (held_of new later))) (sym (healthy_moment (held_of t fs) works))
-    (subst (λ m. IsTurn (record { disk = t.disk; calls = t.history; state = Healthy (session_of (held_of t fs)) }) op ops.Done m) (sym to)
-    (filled_turn t.disk t.pairs (session_of (held_of t fs)) (around_of t) op new.disk new.pairs b.calls t.history (is_over t (files_seen t fs) (ready works).sound) (not_refused (held_of t fs) op accepted) refl (other_needed t fs fd size w e (written_at t fs fd w (ready works).written (sym (ap writer_in e))) other) b.geometry
+    subst (λ z. IsSessionStep (system_state_of z) op ops.Done (system_state_of (held_of new later))) same
+    (subst (λ m. IsSessionStep m op ops.Done (system_state_of (held_of new later))) (sym (healthy_system (held_of t fs) works))
+    (subst (λ m. IsSessionStep (record { disk = t.disk; calls = t.history; state = Healthy (session_of (held_of t fs)) }) op ops.Done m) (sym to)
+    (filled_step t.disk t.pairs (session_of (held_of t fs)) (around_of t) op new.disk new.pairs b.calls t.history (is_over t (files_view t fs) (ready works).sound) (not_refused (held_of t fs) op accepted) refl (other_needed t fs fd size w e (written_at t fs fd w (ready works).written (sym (ap writer_in e))) other) b.geometry
     b.sound.accepted b.pairs (ap₂ (λ (z : Tree) (a : Surroundings). let k : View = record { tree = z; gstate = a.gstate; used = a.used } in k) b.shows b.around) (recovered_from new.disk new.pairs b.sound.accepted made.written.settled)
     (λ h. b.sound.fits made.written.writable))))
   where
@@ -163,17 +163,17 @@ other_size t new fs fd size now w v same ready accepted e other made b =
     works : t.failed ≡ false
     works = not_failed (held_of t fs) op accepted
 
-    files : files_seen new later ≡ put_file (files_seen t fs) fd (option_map (λ u. Writing (after_truncate u size)) (writer_of (file_of (files_seen t fs) fd)))
+    files : files_view new later ≡ put_file (files_view t fs) fd (option_map (λ u. Writing (after_truncate u size)) (writer_of (file_of (files_view t fs) fd)))
     files =
-        other_tree t new fs fd w v (only fs fd w e (ready works).one) ∙ ap (λ x. set (files_seen t fs) fd (Some (Writing x))) made.seen
-        ∙ sym (inside_put t fs fd (Writing (after_truncate (writer_seen t w) size)) (ap is_some e))
-        ∙ sym (ap (λ o. put_file (files_seen t fs) fd (option_map (λ u. Writing (after_truncate u size)) o)) (the_writer t fs fd (Some w) (sym (ap writer_in e))))
+        other_tree t new fs fd w v (only fs fd w e (ready works).one) ∙ ap (λ x. set (files_view t fs) fd (Some (Writing x))) made.seen
+        ∙ sym (inside_put t fs fd (Writing (after_truncate (writer_view t w) size)) (ap is_some e))
+        ∙ sym (ap (λ o. put_file (files_view t fs) fd (option_map (λ u. Writing (after_truncate u size)) o)) (the_writer t fs fd (Some w) (sym (ap writer_in e))))
 
-    to : moment_of (held_of new later) ≡ record { disk = new.disk; calls = b.calls ++ t.history; state = Healthy (effect_of (around_of t) (session_of (held_of t fs)) op).1 }
-    to = healthy_moment (held_of new later) b.works ∙ ap₂ (λ calls (s : Session). record { disk = new.disk; calls = calls; state = Healthy s }) b.called (ap₂ (λ z f. record { tree = z; files = f }) b.shows files)
+    to : system_state_of (held_of new later) ≡ record { disk = new.disk; calls = b.calls ++ t.history; state = Healthy (effect_of (around_of t) (session_of (held_of t fs)) op).1 }
+    to = healthy_system (held_of new later) b.works ∙ ap₂ (λ calls (s : Session). record { disk = new.disk; calls = calls; state = Healthy s }) b.called (ap₂ (λ z f. record { tree = z; files = f }) b.shows files)
 
 -- what the session keeps
-pub ready_with : (t new : Seen) (fs : OpenFiles) (fd : ℕ) (w v : Writer) (is : session.Writer) → IsOnly fs fd w → IsWriterAs new is v → IsWrittenBeside t new → is.path ≡ w.path → IsReady t fs → IsReady new (set fs fd (Some (file.Writing v)))
+pub ready_with : (t new : TreeState) (fs : OpenFiles) (fd : ℕ) (w v : Writer) (is : session.Writer) → IsOnly fs fd w → IsWriterAs new is v → IsWrittenBeside t new → is.path ≡ w.path → IsReady t fs → IsReady new (set fs fd (Some (file.Writing v)))
 ready_with t new fs fd w v is alone made b named was = record {
   sound = b.sound;
   called = still_called t.history new.history b.calls b.called was.called;

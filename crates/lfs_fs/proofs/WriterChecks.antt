@@ -10,8 +10,8 @@ use Rattle.lfs_model.specs.Operations as ops
 use Rattle.lfs_model.specs.Session as session
 use Rattle.lfs_model.specs.Writers.{after_truncate, after_write, written_into, zeros_to, turns, write_place}
 use Rattle.lfs_model.specs.Session.{file_of, first_of, held_by, overfills, refuse_if, writer_of}
-use Rattle.lfs_tree.specs.Seen.{Seen, around_of}
-use Rattle.lfs_fs.specs.FileSeen.{OpenFiles, bytes_of, end_in, entry_of, files_seen, held_for, turned_in, writer_in, writer_seen, writers_in}
+use Rattle.lfs_tree.specs.TreeState.{TreeState, around_of}
+use Rattle.lfs_fs.specs.FileView.{OpenFiles, bytes_of, end_in, entry_of, files_view, held_for, turned_in, writer_in, writer_view, writers_in}
 use Rattle.lfs_fs.specs.Held.{IsWritten, held_of, refused_by}
 use Rattle.lfs_fs.specs.declared.files.OpenFile.{OpenFile}
 use Rattle.lfs_fs.specs.declared.files.OpenFile.TheVariants as file
@@ -21,8 +21,8 @@ use Rattle.lfs_fs.proofs.Writing.{after_truncate_is, after_write_is, length-cut,
 
 -- ---- the writer of a number
 
-pub the_writer : (t : Seen) (fs : OpenFiles) (fd : ℕ) (o : Option Writer) → o ≡ writer_in (entry_of fs fd) → writer_of (file_of (files_seen t fs) fd) ≡ option_map (writer_seen t) o
-the_writer t fs fd o e = ap writer_of (file_is t fs fd) ∙ writer_is t (entry_of fs fd) ∙ ap (option_map (writer_seen t)) (sym e)
+pub the_writer : (t : TreeState) (fs : OpenFiles) (fd : ℕ) (o : Option Writer) → o ≡ writer_in (entry_of fs fd) → writer_of (file_of (files_view t fs) fd) ≡ option_map (writer_view t) o
+the_writer t fs fd o e = ap writer_of (file_is t fs fd) ∙ writer_is t (entry_of fs fd) ∙ ap (option_map (writer_view t)) (sym e)
 
 pub writer_there : (fs : OpenFiles) (fd : ℕ) (w : Writer) → Some w ≡ writer_in (entry_of fs fd) → is_some (writer_in (entry_of fs fd)) ≡ true
 writer_there fs fd w e = ap is_some (sym e)
@@ -35,7 +35,7 @@ entry_is fs fd w e = go (entry_of fs fd) e
     go (Some (file.Reading r)) k = absurd (cc)
     go (Some (file.Writing v)) k = ap (option_map file.Writing) (sym k)
 
-pub written_at : (t : Seen) (fs : OpenFiles) (fd : ℕ) (w : Writer) → AllByRecursion (IsWritten t) (writers_in fs) → Some w ≡ writer_in (entry_of fs fd) → IsWritten t w
+pub written_at : (t : TreeState) (fs : OpenFiles) (fd : ℕ) (w : Writer) → AllByRecursion (IsWritten t) (writers_in fs) → Some w ≡ writer_in (entry_of fs fd) → IsWritten t w
 written_at t [] fd w h e = absurd (cc)
 written_at t (None ∷ fs) zero w h e = absurd (cc)
 written_at t (Some (file.Reading r) ∷ fs) zero w h e = absurd (cc)
@@ -46,56 +46,56 @@ written_at t (Some (file.Writing v) ∷ fs) (suc fd) w h e = written_at t fs fd 
 
 -- ---- a write
 
-write_refused : (t : Seen) (fs : OpenFiles) (fd : ℕ) (bytes : List ℕ) (w : session.Writer) (x y : Bool) → false ≡ t.failed → writer_of (file_of (files_seen t fs) fd) ≡ Some w →
+write_refused : (t : TreeState) (fs : OpenFiles) (fd : ℕ) (bytes : List ℕ) (w : session.Writer) (x y : Bool) → false ≡ t.failed → writer_of (file_of (files_view t fs) fd) ≡ Some w →
     (nat_lt 0 (length bytes) && nat_lt file_limit (write_place w + length bytes)) ≡ x → (nat_lt 0 (length bytes) && overfills (around_of t) (after_write w bytes)) ≡ y →
     refused_by (held_of t fs) (ops.Write fd bytes) ≡ first_of (refuse_if x ops.TooBig ∷ refuse_if y ops.NoSpace ∷ [])
 write_refused t fs fd bytes w x y works is big full = rw (sym works, is, big, full) refl
 
-pub write_no_writer : (t : Seen) (fs : OpenFiles) (fd : ℕ) (bytes : List ℕ) → false ≡ t.failed → None ≡ writer_in (entry_of fs fd) → refused_by (held_of t fs) (ops.Write fd bytes) ≡ Some ops.BadFile
+pub write_no_writer : (t : TreeState) (fs : OpenFiles) (fd : ℕ) (bytes : List ℕ) → false ≡ t.failed → None ≡ writer_in (entry_of fs fd) → refused_by (held_of t fs) (ops.Write fd bytes) ≡ Some ops.BadFile
 write_no_writer t fs fd bytes works none = rw (sym works, the_writer t fs fd None none) refl
 
-pub write_nothing : (t : Seen) (fs : OpenFiles) (fd : ℕ) (bytes : List ℕ) (w : Writer) → false ≡ t.failed → Some w ≡ writer_in (entry_of fs fd) → nat_lt 0 (length bytes) ≡ false → refused_by (held_of t fs) (ops.Write fd bytes) ≡ None
+pub write_nothing : (t : TreeState) (fs : OpenFiles) (fd : ℕ) (bytes : List ℕ) (w : Writer) → false ≡ t.failed → Some w ≡ writer_in (entry_of fs fd) → nat_lt 0 (length bytes) ≡ false → refused_by (held_of t fs) (ops.Write fd bytes) ≡ None
 write_nothing t fs fd bytes w works is none =
-    write_refused t fs fd bytes (writer_seen t w) false false works (the_writer t fs fd (Some w) is)
-    (ap (λ b. b && nat_lt file_limit (write_place (writer_seen t w) + length bytes)) none) (ap (λ b. b && overfills (around_of t) (after_write (writer_seen t w) bytes)) none)
+    write_refused t fs fd bytes (writer_view t w) false false works (the_writer t fs fd (Some w) is)
+    (ap (λ b. b && nat_lt file_limit (write_place (writer_view t w) + length bytes)) none) (ap (λ b. b && overfills (around_of t) (after_write (writer_view t w) bytes)) none)
 
-pub write_too_big : (t : Seen) (fs : OpenFiles) (fd : ℕ) (bytes : List ℕ) (w : Writer) (place : ℕ) → false ≡ t.failed → IsWritten t w → Some w ≡ writer_in (entry_of fs fd) → nat_lt 0 (length bytes) ≡ true →
+pub write_too_big : (t : TreeState) (fs : OpenFiles) (fd : ℕ) (bytes : List ℕ) (w : Writer) (place : ℕ) → false ≡ t.failed → IsWritten t w → Some w ≡ writer_in (entry_of fs fd) → nat_lt 0 (length bytes) ≡ true →
     place ≡ (if w.appends then w.size else w.position) → nat_lt file_limit (place + length bytes) ≡ true → refused_by (held_of t fs) (ops.Write fd bytes) ≡ Some ops.TooBig
 write_too_big t fs fd bytes w place works written is some at big =
-    write_refused t fs fd bytes (writer_seen t w) true _ works (the_writer t fs fd (Some w) is)
+    write_refused t fs fd bytes (writer_view t w) true _ works (the_writer t fs fd (Some w) is)
     (ap₂ (λ a b. a && b) some (ap (λ p. nat_lt file_limit (p + length bytes)) (sym (place_is t w place written at)) ∙ big)) refl
 
 -- what the writer would hold
-overfills_is : (t : Seen) (w v : session.Writer) (turned : Bool) (size : ℕ) → v.dirty ≡ true → v.turned ≡ turned → length v.contents ≡ size →
+overfills_is : (t : TreeState) (w v : session.Writer) (turned : Bool) (size : ℕ) → v.dirty ≡ true → v.turned ≡ turned → length v.contents ≡ size →
     overfills (around_of t) v ≡ nat_lt (block_count t.disk) (length (around_of t).used + held_for t.disk.block_size turned size)
 overfills_is t w v turned size dirty turns long = rw (dirty, turns, long) refl
 
-pub write_fits : (t : Seen) (fs : OpenFiles) (fd : ℕ) (bytes : List ℕ) (w : Writer) (place begin size : ℕ) (turned full : Bool) → false ≡ t.failed → IsWritten t w → Some w ≡ writer_in (entry_of fs fd) → nat_lt 0 (length bytes) ≡ true → 1 ≤ length bytes →
+pub write_fits : (t : TreeState) (fs : OpenFiles) (fd : ℕ) (bytes : List ℕ) (w : Writer) (place begin size : ℕ) (turned full : Bool) → false ≡ t.failed → IsWritten t w → Some w ≡ writer_in (entry_of fs fd) → nat_lt 0 (length bytes) ≡ true → 1 ≤ length bytes →
     place ≡ (if w.appends then w.size else w.position) → nat_lt file_limit (place + length bytes) ≡ false → begin ≡ min place w.size → turned ≡ (turned_in w.unsaved || turns (end_in w.unsaved) begin) → size ≡ max w.size (place + length bytes) →
     full ≡ nat_lt (block_count t.disk) (length (around_of t).used + held_for t.disk.block_size turned size) → refused_by (held_of t fs) (ops.Write fd bytes) ≡ refuse_if full ops.NoSpace
 write_fits t fs fd bytes w place begin size turned full works written is some one at small begin_is turned_is size_is full_is =
-    write_refused t fs fd bytes (writer_seen t w) false full works (the_writer t fs fd (Some w) is)
+    write_refused t fs fd bytes (writer_view t w) false full works (the_writer t fs fd (Some w) is)
     (ap₂ (λ a b. a && b) some (ap (λ p. nat_lt file_limit (p + length bytes)) (sym p_is) ∙ small))
-    (ap₂ (λ a b. a && b) some (overfills_is t (writer_seen t w) (after_write (writer_seen t w) bytes) turned size (ap (λ (v : session.Writer). v.dirty) after) (ap (λ (v : session.Writer). v.turned) after ∙ turn) (ap (λ (v : session.Writer). length v.contents) after ∙ long) ∙ sym full_is))
+    (ap₂ (λ a b. a && b) some (overfills_is t (writer_view t w) (after_write (writer_view t w) bytes) turned size (ap (λ (v : session.Writer). v.dirty) after) (ap (λ (v : session.Writer). v.turned) after ∙ turn) (ap (λ (v : session.Writer). length v.contents) after ∙ long) ∙ sym full_is))
     ∙ left full
   where
-    p_is : place ≡ write_place (writer_seen t w)
+    p_is : place ≡ write_place (writer_view t w)
     p_is = place_is t w place written at
 
-    after : after_write (writer_seen t w) bytes ≡ record (writer_seen t w) {
-      contents = written_into (bytes_of t w.path w.unsaved) (write_place (writer_seen t w)) bytes;
-      position = write_place (writer_seen t w) + length bytes;
+    after : after_write (writer_view t w) bytes ≡ record (writer_view t w) {
+      contents = written_into (bytes_of t w.path w.unsaved) (write_place (writer_view t w)) bytes;
+      position = write_place (writer_view t w) + length bytes;
       dirty = true;
-      turned = turned_in w.unsaved || turns (end_in w.unsaved) (min (write_place (writer_seen t w)) (length (bytes_of t w.path w.unsaved)));
-      last_end = Some (write_place (writer_seen t w) + length bytes);
+      turned = turned_in w.unsaved || turns (end_in w.unsaved) (min (write_place (writer_view t w)) (length (bytes_of t w.path w.unsaved)));
+      last_end = Some (write_place (writer_view t w) + length bytes);
     }
-    after = after_write_is (writer_seen t w) bytes one
+    after = after_write_is (writer_view t w) bytes one
 
-    turn : (turned_in w.unsaved || turns (end_in w.unsaved) (min (write_place (writer_seen t w)) (length (bytes_of t w.path w.unsaved)))) ≡ turned
+    turn : (turned_in w.unsaved || turns (end_in w.unsaved) (min (write_place (writer_view t w)) (length (bytes_of t w.path w.unsaved)))) ≡ turned
     turn = ap₂ (λ p n. turned_in w.unsaved || turns (end_in w.unsaved) (min p n)) (sym p_is) written.size ∙ ap (λ b. turned_in w.unsaved || turns (end_in w.unsaved) b) (sym begin_is) ∙ sym turned_is
 
-    long : length (written_into (bytes_of t w.path w.unsaved) (write_place (writer_seen t w)) bytes) ≡ size
-    long = length-written (bytes_of t w.path w.unsaved) (write_place (writer_seen t w)) bytes ∙ ap₂ (λ m p. max m (p + length bytes)) written.size (sym p_is) ∙ sym size_is
+    long : length (written_into (bytes_of t w.path w.unsaved) (write_place (writer_view t w)) bytes) ≡ size
+    long = length-written (bytes_of t w.path w.unsaved) (write_place (writer_view t w)) bytes ∙ ap₂ (λ m p. max m (p + length bytes)) written.size (sym p_is) ∙ sym size_is
 
     left : (b : Bool) → first_of (refuse_if false ops.TooBig ∷ refuse_if b ops.NoSpace ∷ []) ≡ refuse_if b ops.NoSpace
     left true = refl
@@ -103,41 +103,41 @@ write_fits t fs fd bytes w place begin size turned full works written is some on
 
 -- ---- a truncation
 
-truncate_refused : (t : Seen) (fs : OpenFiles) (fd size : ℕ) (w : session.Writer) (x y : Bool) → false ≡ t.failed → writer_of (file_of (files_seen t fs) fd) ≡ Some w →
+truncate_refused : (t : TreeState) (fs : OpenFiles) (fd size : ℕ) (w : session.Writer) (x y : Bool) → false ≡ t.failed → writer_of (file_of (files_view t fs) fd) ≡ Some w →
     nat_lt file_limit size ≡ x → (not (size == length w.contents) && overfills (around_of t) (after_truncate w size)) ≡ y →
     refused_by (held_of t fs) (ops.Truncate fd size) ≡ first_of (refuse_if x ops.TooBig ∷ refuse_if y ops.NoSpace ∷ [])
 truncate_refused t fs fd size w x y works is big full = rw (sym works, is, big, full) refl
 
-pub truncate_no_writer : (t : Seen) (fs : OpenFiles) (fd size : ℕ) → false ≡ t.failed → None ≡ writer_in (entry_of fs fd) → refused_by (held_of t fs) (ops.Truncate fd size) ≡ Some ops.BadFile
+pub truncate_no_writer : (t : TreeState) (fs : OpenFiles) (fd size : ℕ) → false ≡ t.failed → None ≡ writer_in (entry_of fs fd) → refused_by (held_of t fs) (ops.Truncate fd size) ≡ Some ops.BadFile
 truncate_no_writer t fs fd size works none = rw (sym works, the_writer t fs fd None none) refl
 
-pub truncate_too_big : (t : Seen) (fs : OpenFiles) (fd size : ℕ) (w : Writer) → false ≡ t.failed → Some w ≡ writer_in (entry_of fs fd) → nat_lt file_limit size ≡ true → refused_by (held_of t fs) (ops.Truncate fd size) ≡ Some ops.TooBig
-truncate_too_big t fs fd size w works is big = truncate_refused t fs fd size (writer_seen t w) true _ works (the_writer t fs fd (Some w) is) big refl
+pub truncate_too_big : (t : TreeState) (fs : OpenFiles) (fd size : ℕ) (w : Writer) → false ≡ t.failed → Some w ≡ writer_in (entry_of fs fd) → nat_lt file_limit size ≡ true → refused_by (held_of t fs) (ops.Truncate fd size) ≡ Some ops.TooBig
+truncate_too_big t fs fd size w works is big = truncate_refused t fs fd size (writer_view t w) true _ works (the_writer t fs fd (Some w) is) big refl
 
-pub truncate_same : (t : Seen) (fs : OpenFiles) (fd size : ℕ) (w : Writer) → false ≡ t.failed → IsWritten t w → Some w ≡ writer_in (entry_of fs fd) → nat_lt file_limit size ≡ false → size ≡ w.size → refused_by (held_of t fs) (ops.Truncate fd size) ≡ None
+pub truncate_same : (t : TreeState) (fs : OpenFiles) (fd size : ℕ) (w : Writer) → false ≡ t.failed → IsWritten t w → Some w ≡ writer_in (entry_of fs fd) → nat_lt file_limit size ≡ false → size ≡ w.size → refused_by (held_of t fs) (ops.Truncate fd size) ≡ None
 truncate_same t fs fd size w works written is small same =
-    truncate_refused t fs fd size (writer_seen t w) false false works (the_writer t fs fd (Some w) is) small
-    (ap (λ b. not b && overfills (around_of t) (after_truncate (writer_seen t w) size)) (eq-eqb size (length (bytes_of t w.path w.unsaved)) (same ∙ sym written.size)))
+    truncate_refused t fs fd size (writer_view t w) false false works (the_writer t fs fd (Some w) is) small
+    (ap (λ b. not b && overfills (around_of t) (after_truncate (writer_view t w) size)) (eq-eqb size (length (bytes_of t w.path w.unsaved)) (same ∙ sym written.size)))
 
-pub truncate_fits : (t : Seen) (fs : OpenFiles) (fd size : ℕ) (w : Writer) (turned full : Bool) → false ≡ t.failed → IsWritten t w → Some w ≡ writer_in (entry_of fs fd) → nat_lt file_limit size ≡ false → (size ≡ w.size → ⊥) →
+pub truncate_fits : (t : TreeState) (fs : OpenFiles) (fd size : ℕ) (w : Writer) (turned full : Bool) → false ≡ t.failed → IsWritten t w → Some w ≡ writer_in (entry_of fs fd) → nat_lt file_limit size ≡ false → (size ≡ w.size → ⊥) →
     turned ≡ (turned_in w.unsaved || is_some (end_in w.unsaved)) → full ≡ nat_lt (block_count t.disk) (length (around_of t).used + held_for t.disk.block_size turned size) →
     refused_by (held_of t fs) (ops.Truncate fd size) ≡ refuse_if full ops.NoSpace
 truncate_fits t fs fd size w turned full works written is small other turned_is full_is =
-    truncate_refused t fs fd size (writer_seen t w) false full works (the_writer t fs fd (Some w) is) small
-    (ap₂ (λ a b. not a && b) differs (overfills_is t (writer_seen t w) (after_truncate (writer_seen t w) size) turned size (ap (λ (v : session.Writer). v.dirty) after) (ap (λ (v : session.Writer). v.turned) after ∙ sym turned_is)
+    truncate_refused t fs fd size (writer_view t w) false full works (the_writer t fs fd (Some w) is) small
+    (ap₂ (λ a b. not a && b) differs (overfills_is t (writer_view t w) (after_truncate (writer_view t w) size) turned size (ap (λ (v : session.Writer). v.dirty) after) (ap (λ (v : session.Writer). v.turned) after ∙ sym turned_is)
     (ap (λ (v : session.Writer). length v.contents) after ∙ length-cut (bytes_of t w.path w.unsaved) size) ∙ sym full_is))
     ∙ left full
   where
     differs : (size == length (bytes_of t w.path w.unsaved)) ≡ false
     differs = ne_eqb size (length (bytes_of t w.path w.unsaved)) (λ e. other (e ∙ written.size))
 
-    after : after_truncate (writer_seen t w) size ≡ record (writer_seen t w) {
+    after : after_truncate (writer_view t w) size ≡ record (writer_view t w) {
       contents = take size (zeros_to size (bytes_of t w.path w.unsaved));
       dirty = true;
       turned = turned_in w.unsaved || is_some (end_in w.unsaved);
       last_end = if nat_lt (length (bytes_of t w.path w.unsaved)) size then Some size else end_in w.unsaved;
     }
-    after = after_truncate_is (writer_seen t w) size differs
+    after = after_truncate_is (writer_view t w) size differs
 
     left : (b : Bool) → first_of (refuse_if false ops.TooBig ∷ refuse_if b ops.NoSpace ∷ []) ≡ refuse_if b ops.NoSpace
     left true = refl

@@ -16,13 +16,13 @@ use Rattle.lfs_model.specs.Slots.{no_gstate}
 use Rattle.lfs_model.specs.Thread.{gstate_of}
 use Rattle.lfs_model.specs.Tree.{Node, FileNode, DirectoryNode, Path, Tree}
 use Rattle.lfs_tree.specs.OpenContents.{CanStoreAt, IsStoredAt, CanTruncateBeside, CanWriteBeside, IsOver, IsSettleable, IsWrittenBeside, bytes_held, kept_of}
-use Rattle.lfs_tree.specs.Seen.{Seen, IsAsked, IsBroken, around_of, tree_seen}
+use Rattle.lfs_tree.specs.TreeState.{TreeState, IsAsked, IsBroken, around_of, tree_view}
 use Rattle.lfs_writer.specs.Contents.{IsLarge, end_room, NeedsRoom, form_of, truncate_room, write_room}
 use Rattle.lfs_writer.specs.Form as shape_of
-use Rattle.lfs_writer.specs.Form.{Fits, Form, IsKept, form_size, grown, shortened, truncated, written}
+use Rattle.lfs_writer.specs.Form.{Fits, Form, IsWriterForm, form_size, grown, shortened, truncated, written}
 use Rattle.lfs_writer.specs.declared.contents.Contents.{Contents}
 use Rattle.lfs_fs.specs.Changing.{CanChange, CanSave, IsSavedAs, CanTruncate, CanWrite, HasContents, HasRoomFor, IsFormOf, IsWriterAs}
-use Rattle.lfs_fs.specs.FileSeen.{bytes_of, end_in, held_by_size, held_for, turned_in, writer_seen}
+use Rattle.lfs_fs.specs.FileView.{bytes_of, end_in, held_by_size, held_for, turned_in, writer_view}
 use Rattle.lfs_fs.specs.Held.{IsChanged, IsUnsavedIn, IsWritten}
 use Rattle.lfs_fs.specs.declared.files.Unsaved.{Unsaved}
 use Rattle.lfs_fs.specs.declared.files.Writer.{Writer}
@@ -61,7 +61,7 @@ pub after_truncate_is : (w : session.Writer) (size : ℕ) → (size == length w.
 }
 after_truncate_is w size e = rw e refl
 
-pub place_is : (t : Seen) (w : Writer) (place : ℕ) → IsWritten t w → place ≡ (if w.appends then w.size else w.position) → place ≡ write_place (writer_seen t w)
+pub place_is : (t : TreeState) (w : Writer) (place : ℕ) → IsWritten t w → place ≡ (if w.appends then w.size else w.position) → place ≡ write_place (writer_view t w)
 place_is t w place opened e = e ∙ ap (λ n. if w.appends then n else w.position) (sym opened.size)
 
 -- ---- forms
@@ -118,10 +118,10 @@ settle_truncated limit size f v other h = first (size == form_size f) refl
 
 -- ---- the contents before
 
-changed_in : (t : Seen) (w : Writer) (u : Unsaved) → IsUnsavedIn t w w.unsaved → w.unsaved ≡ Some u → IsChanged t w u
+changed_in : (t : TreeState) (w : Writer) (u : Unsaved) → IsUnsavedIn t w w.unsaved → w.unsaved ≡ Some u → IsChanged t w u
 changed_in t w u h e = subst (IsUnsavedIn t w) e h
 
-pub has_contents : (t : Seen) (w : Writer) → CanChange t w → HasContents t w.path w.unsaved
+pub has_contents : (t : TreeState) (w : Writer) → CanChange t w → HasContents t w.path w.unsaved
 has_contents t w can = record {
   works = can.works;
   writable = can.written.writable;
@@ -130,20 +130,20 @@ has_contents t w can = record {
   over = λ u e. (changed_in t w u can.written.changed e).over;
 }
 
-pub kept_by_form : (t : Seen) (w : Writer) (shape : Form) → IsWritten t w → IsFormOf t.disk.block_size w.unsaved (length (bytes_of t w.path w.unsaved)) shape → IsKept t.disk.block_size shape (writer_seen t w)
+pub kept_by_form : (t : TreeState) (w : Writer) (shape : Form) → IsWritten t w → IsFormOf t.disk.block_size w.unsaved (length (bytes_of t w.path w.unsaved)) shape → IsWriterForm t.disk.block_size shape (writer_view t w)
 kept_by_form t w shape opened h = go w.unsaved refl h
   where
-    go : (u : Option Unsaved) → w.unsaved ≡ u → IsFormOf t.disk.block_size u (length (bytes_of t w.path w.unsaved)) shape → IsKept t.disk.block_size shape (writer_seen t w)
-    go None e (inl k) = subst (λ f. IsKept t.disk.block_size f (writer_seen t w)) (sym k.0) (record { size = refl; fits = k.1 })
-    go None e (inr k) = subst (λ f. IsKept t.disk.block_size f (writer_seen t w)) (sym k) (record {
+    go : (u : Option Unsaved) → w.unsaved ≡ u → IsFormOf t.disk.block_size u (length (bytes_of t w.path w.unsaved)) shape → IsWriterForm t.disk.block_size shape (writer_view t w)
+    go None e (inl k) = subst (λ f. IsWriterForm t.disk.block_size f (writer_view t w)) (sym k.0) (record { size = refl; fits = k.1 })
+    go None e (inr k) = subst (λ f. IsWriterForm t.disk.block_size f (writer_view t w)) (sym k) (record {
       size = refl;
       fits = record { dirty = λ z. absurd (cc); large = λ z. absurd (cc); turned = λ z. absurd (cc) };
     })
-    go (Some u) e k = subst (λ f. IsKept t.disk.block_size f (writer_seen t w)) (sym k) (changed_in t w u opened.changed e).kept
+    go (Some u) e k = subst (λ f. IsWriterForm t.disk.block_size f (writer_view t w)) (sym k) (changed_in t w u opened.changed e).kept
 
 -- ---- the writer after
 
-pub beside_later : (old mid new : Seen) → IsAsked old mid → IsWrittenBeside mid new → IsWrittenBeside old new
+pub beside_later : (old mid new : TreeState) → IsAsked old mid → IsWrittenBeside mid new → IsWrittenBeside old new
 beside_later old mid new asked b =
     again (subst (λ t. IsWrittenBeside t new) asked.same b)
   where
@@ -162,22 +162,22 @@ beside_later old mid new asked b =
       no_fault = k.no_fault ∙ asked.no_fault;
     }
 
-pub broken_later : (old mid new : Seen) → IsAsked old mid → IsBroken mid new → IsBroken old new
+pub broken_later : (old mid new : TreeState) → IsAsked old mid → IsBroken mid new → IsBroken old new
 broken_later old mid new asked b = record {
   failed = b.failed;
-  geometry = subst (λ (t : Seen). SameGeometry t.disk new.disk) asked.same b.geometry;
+  geometry = subst (λ (t : TreeState). SameGeometry t.disk new.disk) asked.same b.geometry;
   calls = b.calls ++ asked.reads.events;
   called = b.called ∙ ap (λ z. b.calls ++ z) asked.reads.extends ∙ sym (append_assoc b.calls asked.reads.events old.history);
 }
 
-pub broken_after : {A : Type 0} (old mid new : Seen) (r : Result A Error) → IsAsked old mid → IsBroken mid new → OnErr r (IsBroken old new)
+pub broken_after : {A : Type 0} (old mid new : TreeState) (r : Result A Error) → IsAsked old mid → IsBroken mid new → OnErr r (IsBroken old new)
 broken_after old mid new (Ok x) asked b = tt
 broken_after old mid new (Err e) asked b = broken_later old mid new asked b
 
-pub as_writer : (old new : Seen) (path : Path) (position size : ℕ) (appends turned : Bool) (end : Option ℕ) (c : Contents) (v : session.Writer) → IsWrittenBeside old new → old.writable ≡ true →
-    gstate_of old.pairs ≡ no_gstate → is_file (tree_seen old path) ≡ true → length (bytes_held (kept_of new) c) ≡ size → IsOver new path c → IsKept old.disk.block_size (form_of c) v →
+pub as_writer : (old new : TreeState) (path : Path) (position size : ℕ) (appends turned : Bool) (end : Option ℕ) (c : Contents) (v : session.Writer) → IsWrittenBeside old new → old.writable ≡ true →
+    gstate_of old.pairs ≡ no_gstate → is_file (tree_view old path) ≡ true → length (bytes_held (kept_of new) c) ≡ size → IsOver new path c → IsWriterForm old.disk.block_size (form_of c) v →
     IsSettleable (inline_limit old.disk.block_size) (form_of c) → HasRoomFor old v →
-    writer_seen new (record { path = path; position = position; size = size; appends = appends; unsaved = Some (record { contents = c; has_turned = turned; last_end = end }) }) ≡ v →
+    writer_view new (record { path = path; position = position; size = size; appends = appends; unsaved = Some (record { contents = c; has_turned = turned; last_end = end }) }) ≡ v →
     IsWriterAs new v (record { path = path; position = position; size = size; appends = appends; unsaved = Some (record { contents = c; has_turned = turned; last_end = end }) })
 as_writer old new path position size appends turned end c v b writable settled there long over kept settle room seen = record {
   seen = seen;
@@ -188,7 +188,7 @@ as_writer old new path position size appends turned end c v b writable settled t
     size = long;
     changed = record {
       over = over;
-      kept = subst (λ z. IsKept new.disk.block_size (form_of c) z) (sym seen) (subst (λ a. IsKept a.block_size (form_of c) v) (sym b.around) kept);
+      kept = subst (λ z. IsWriterForm new.disk.block_size (form_of c) z) (sym seen) (subst (λ a. IsWriterForm a.block_size (form_of c) v) (sym b.around) kept);
       form = subst (λ a. IsSettleable (inline_limit a.block_size) (form_of c)) (sym b.around) settle;
       room = subst (λ a. length a.used + held_for a.block_size turned size ≤ a.block_count) (sym b.around)
           (subst (λ n. length (around_of old).used + n ≤ block_count old.disk) (ap (held_by old.disk.block_size) (sym seen) ∙ sym (held_one old.disk.block_size new w long)) room);
@@ -201,13 +201,13 @@ as_writer old new path position size appends turned end c v b writable settled t
     w = record { path = path; position = position; size = size; appends = appends; unsaved = Some (record { contents = c; has_turned = turned; last_end = end }) }
 
 -- the one that wrote bytes
-pub wrote : (old new : Seen) (w : Writer) (bytes : List ℕ) (place end size : ℕ) (turned : Bool) (c : Contents) → IsWrittenBeside old new → IsWritten old w → 1 ≤ length bytes → HasRoomFor old (after_write (writer_seen old w) bytes) →
-    place ≡ write_place (writer_seen old w) → end ≡ place + length bytes → size ≡ max w.size end → turned ≡ (turned_in w.unsaved || turns (end_in w.unsaved) (min place w.size)) →
-    IsOver new w.path c → bytes_held (kept_of new) c ≡ written_into (bytes_of old w.path w.unsaved) place bytes → IsKept old.disk.block_size (form_of c) (after_write (writer_seen old w) bytes) →
+pub wrote : (old new : TreeState) (w : Writer) (bytes : List ℕ) (place end size : ℕ) (turned : Bool) (c : Contents) → IsWrittenBeside old new → IsWritten old w → 1 ≤ length bytes → HasRoomFor old (after_write (writer_view old w) bytes) →
+    place ≡ write_place (writer_view old w) → end ≡ place + length bytes → size ≡ max w.size end → turned ≡ (turned_in w.unsaved || turns (end_in w.unsaved) (min place w.size)) →
+    IsOver new w.path c → bytes_held (kept_of new) c ≡ written_into (bytes_of old w.path w.unsaved) place bytes → IsWriterForm old.disk.block_size (form_of c) (after_write (writer_view old w) bytes) →
     IsSettleable (inline_limit old.disk.block_size) (form_of c) →
-    IsWriterAs new (after_write (writer_seen old w) bytes) (record { path = w.path; position = end; size = size; appends = w.appends; unsaved = Some (record { contents = c; has_turned = turned; last_end = Some end }) })
+    IsWriterAs new (after_write (writer_view old w) bytes) (record { path = w.path; position = end; size = size; appends = w.appends; unsaved = Some (record { contents = c; has_turned = turned; last_end = Some end }) })
 wrote old new w bytes place end size turned c b opened some room at stop long turns_is over are kept settle =
-    as_writer old new w.path end size w.appends turned (Some end) c (after_write (writer_seen old w) bytes) b opened.writable opened.settled opened.there
+    as_writer old new w.path end size w.appends turned (Some end) c (after_write (writer_view old w) bytes) b opened.writable opened.settled opened.there
     (ap (λ xs. length xs) are ∙ length-written (bytes_of old w.path w.unsaved) place bytes ∙ ap₂ (λ m n. max m n) opened.size (sym stop) ∙ sym long)
     over kept settle room seen
   where
@@ -215,173 +215,173 @@ wrote old new w bytes place end size turned c b opened some room at stop long tu
     make xs e t = record { path = w.path; contents = xs; position = e; append = w.appends; dirty = true; turned = t; last_end = Some e }
 
     place' : ℕ
-    place' = write_place (writer_seen old w)
+    place' = write_place (writer_view old w)
 
-    seen : make (bytes_held (kept_of new) c) end turned ≡ after_write (writer_seen old w) bytes
+    seen : make (bytes_held (kept_of new) c) end turned ≡ after_write (writer_view old w) bytes
     seen =
         ap (λ xs. make xs end turned) (are ∙ ap (λ p. written_into (bytes_of old w.path w.unsaved) p bytes) at)
         ∙ ap (λ e. make (written_into (bytes_of old w.path w.unsaved) place' bytes) e turned) (stop ∙ ap (λ p. p + length bytes) at)
         ∙ ap (λ z. make (written_into (bytes_of old w.path w.unsaved) place' bytes) (place' + length bytes) z)
         (turns_is ∙ ap₂ (λ p n. turned_in w.unsaved || turns (end_in w.unsaved) (min p n)) at (sym opened.size))
-        ∙ sym (after_write_is (writer_seen old w) bytes some)
+        ∙ sym (after_write_is (writer_view old w) bytes some)
 
 -- the one whose contents have another size
-pub cut : (old new : Seen) (w : Writer) (size : ℕ) (turned : Bool) (end : Option ℕ) (c : Contents) → IsWrittenBeside old new → IsWritten old w → (size == length (bytes_of old w.path w.unsaved)) ≡ false →
-    HasRoomFor old (after_truncate (writer_seen old w) size) → turned ≡ (turned_in w.unsaved || is_some (end_in w.unsaved)) → end ≡ (if nat_lt w.size size then Some size else end_in w.unsaved) →
-    IsOver new w.path c → bytes_held (kept_of new) c ≡ take size (zeros_to size (bytes_of old w.path w.unsaved)) → IsKept old.disk.block_size (form_of c) (after_truncate (writer_seen old w) size) →
+pub cut : (old new : TreeState) (w : Writer) (size : ℕ) (turned : Bool) (end : Option ℕ) (c : Contents) → IsWrittenBeside old new → IsWritten old w → (size == length (bytes_of old w.path w.unsaved)) ≡ false →
+    HasRoomFor old (after_truncate (writer_view old w) size) → turned ≡ (turned_in w.unsaved || is_some (end_in w.unsaved)) → end ≡ (if nat_lt w.size size then Some size else end_in w.unsaved) →
+    IsOver new w.path c → bytes_held (kept_of new) c ≡ take size (zeros_to size (bytes_of old w.path w.unsaved)) → IsWriterForm old.disk.block_size (form_of c) (after_truncate (writer_view old w) size) →
     IsSettleable (inline_limit old.disk.block_size) (form_of c) →
-    IsWriterAs new (after_truncate (writer_seen old w) size) (record { path = w.path; position = w.position; size = size; appends = w.appends; unsaved = Some (record { contents = c; has_turned = turned; last_end = end }) })
+    IsWriterAs new (after_truncate (writer_view old w) size) (record { path = w.path; position = w.position; size = size; appends = w.appends; unsaved = Some (record { contents = c; has_turned = turned; last_end = end }) })
 cut old new w size turned end c b opened other room turns_is end_is over are kept settle =
-    as_writer old new w.path w.position size w.appends turned end c (after_truncate (writer_seen old w) size) b opened.writable opened.settled opened.there
+    as_writer old new w.path w.position size w.appends turned end c (after_truncate (writer_view old w) size) b opened.writable opened.settled opened.there
     (ap (λ xs. length xs) are ∙ length-cut (bytes_of old w.path w.unsaved) size)
     over kept settle room seen
   where
     make : List ℕ → Bool → Option ℕ → session.Writer
     make xs t e = record { path = w.path; contents = xs; position = w.position; append = w.appends; dirty = true; turned = t; last_end = e }
 
-    seen : make (bytes_held (kept_of new) c) turned end ≡ after_truncate (writer_seen old w) size
+    seen : make (bytes_held (kept_of new) c) turned end ≡ after_truncate (writer_view old w) size
     seen =
         ap (λ xs. make xs turned end) are
         ∙ ap (λ t. make (take size (zeros_to size (bytes_of old w.path w.unsaved))) t end) turns_is
         ∙ ap (λ e. make (take size (zeros_to size (bytes_of old w.path w.unsaved))) (turned_in w.unsaved || is_some (end_in w.unsaved)) e)
         (end_is ∙ ap (λ n. if nat_lt n size then Some size else end_in w.unsaved) (sym opened.size))
-        ∙ sym (after_truncate_is (writer_seen old w) size other)
+        ∙ sym (after_truncate_is (writer_view old w) size other)
 
 -- ---- room, and what the laws of forms give
 
 abbrev pub LargeLaw : Type 0
-LargeLaw = (block_size : ℕ) (shape : Form) (w : session.Writer) → IsKept block_size shape w → IsLarge (inline_limit block_size) shape
+LargeLaw = (block_size : ℕ) (shape : Form) (w : session.Writer) → IsWriterForm block_size shape w → IsLarge (inline_limit block_size) shape
 
 abbrev pub WriteLaw : Type 0
-WriteLaw = (block_size : ℕ) (shape : Form) (w : session.Writer) (byte : ℕ) (bytes : List ℕ) (used all : ℕ) → IsKept block_size shape w → used + held_by block_size (after_write w (byte ∷ bytes)) ≤ all →
+WriteLaw = (block_size : ℕ) (shape : Form) (w : session.Writer) (byte : ℕ) (bytes : List ℕ) (used all : ℕ) → IsWriterForm block_size shape w → used + held_by block_size (after_write w (byte ∷ bytes)) ≤ all →
     inline_limit block_size < max (form_size shape) (write_place w + length (byte ∷ bytes)) → used + write_room block_size (write_place w) (length (byte ∷ bytes)) shape ≤ all
 
 abbrev pub WrittenLaw : Type 0
-WrittenLaw = (block_size : ℕ) (shape : Form) (w : session.Writer) (byte : ℕ) (bytes : List ℕ) → IsKept block_size shape w →
-    IsKept block_size (written (inline_limit block_size) (write_place w) (length (byte ∷ bytes)) shape) (after_write w (byte ∷ bytes))
+WrittenLaw = (block_size : ℕ) (shape : Form) (w : session.Writer) (byte : ℕ) (bytes : List ℕ) → IsWriterForm block_size shape w →
+    IsWriterForm block_size (written (inline_limit block_size) (write_place w) (length (byte ∷ bytes)) shape) (after_write w (byte ∷ bytes))
 
 abbrev pub TruncateLaw : Type 0
-TruncateLaw = (block_size : ℕ) (shape : Form) (w : session.Writer) (size used all : ℕ) → IsKept block_size shape w → used + held_by block_size w ≤ all → used + held_by block_size (after_truncate w size) ≤ all →
+TruncateLaw = (block_size : ℕ) (shape : Form) (w : session.Writer) (size used all : ℕ) → IsWriterForm block_size shape w → used + held_by block_size w ≤ all → used + held_by block_size (after_truncate w size) ≤ all →
     NeedsRoom (inline_limit block_size) size shape → used + truncate_room block_size size shape ≤ all
 
 abbrev pub TruncatedLaw : Type 0
-TruncatedLaw = (block_size : ℕ) (shape : Form) (w : session.Writer) (size : ℕ) → IsKept block_size shape w → IsKept block_size (truncated (inline_limit block_size) size shape) (after_truncate w size)
+TruncatedLaw = (block_size : ℕ) (shape : Form) (w : session.Writer) (size : ℕ) → IsWriterForm block_size shape w → IsWriterForm block_size (truncated (inline_limit block_size) size shape) (after_truncate w size)
 
-room_to_write : WriteLaw → (block_size : ℕ) (shape : Form) (w : session.Writer) (bytes : List ℕ) (used all : ℕ) → 1 ≤ length bytes → IsKept block_size shape w → used + held_by block_size (after_write w bytes) ≤ all →
+room_to_write : WriteLaw → (block_size : ℕ) (shape : Form) (w : session.Writer) (bytes : List ℕ) (used all : ℕ) → 1 ≤ length bytes → IsWriterForm block_size shape w → used + held_by block_size (after_write w bytes) ≤ all →
     inline_limit block_size < max (form_size shape) (write_place w + length bytes) → used + write_room block_size (write_place w) (length bytes) shape ≤ all
 room_to_write law block_size shape w [] used all some kept room large = absurd (omega (arith, some))
 room_to_write law block_size shape w (b ∷ bytes) used all some kept room large = law block_size shape w b bytes used all kept room large
 
-kept_written : WrittenLaw → (block_size : ℕ) (shape : Form) (w : session.Writer) (bytes : List ℕ) → 1 ≤ length bytes → IsKept block_size shape w →
-    IsKept block_size (written (inline_limit block_size) (write_place w) (length bytes) shape) (after_write w bytes)
+kept_written : WrittenLaw → (block_size : ℕ) (shape : Form) (w : session.Writer) (bytes : List ℕ) → 1 ≤ length bytes → IsWriterForm block_size shape w →
+    IsWriterForm block_size (written (inline_limit block_size) (write_place w) (length bytes) shape) (after_write w bytes)
 kept_written law block_size shape w [] some kept = absurd (omega (arith, some))
 kept_written law block_size shape w (b ∷ bytes) some kept = law block_size shape w b bytes kept
 
-pub can_write : (old mid : Seen) (w : Writer) (bytes : List ℕ) (place : ℕ) (c : Contents) (path : Path) → CanWrite old w bytes → IsAsked old mid → place ≡ (if w.appends then w.size else w.position) → IsOver mid path c → path ≡ w.path →
+pub can_write : (old mid : TreeState) (w : Writer) (bytes : List ℕ) (place : ℕ) (c : Contents) (path : Path) → CanWrite old w bytes → IsAsked old mid → place ≡ (if w.appends then w.size else w.position) → IsOver mid path c → path ≡ w.path →
     IsFormOf old.disk.block_size w.unsaved (length (bytes_of old path w.unsaved)) (form_of c) → LargeLaw → WriteLaw → CanWriteBeside mid c place (length bytes)
 can_write old mid w bytes place c path can asked at over same shape large write =
     subst (λ t. CanWriteBeside t c place (length bytes)) (sym asked.same)
     (subst (λ p. CanWriteBeside (record old { history = mid.history; cache = mid.cache }) c p (length bytes)) (sym is) (record {
       works = can.can.works;
       stands = (subst (λ t. IsOver t path c) asked.same over).stands;
-      large = large old.disk.block_size (form_of c) (writer_seen old w) kept;
+      large = large old.disk.block_size (form_of c) (writer_view old w) kept;
       some = can.some;
       small = can.small;
-      room = room_to_write write old.disk.block_size (form_of c) (writer_seen old w) bytes (length (around_of old).used) (block_count old.disk) can.some kept can.room;
+      room = room_to_write write old.disk.block_size (form_of c) (writer_view old w) bytes (length (around_of old).used) (block_count old.disk) can.some kept can.room;
     }))
   where
-    is : place ≡ write_place (writer_seen old w)
+    is : place ≡ write_place (writer_view old w)
     is = place_is old w place can.can.written at
 
-    kept : IsKept old.disk.block_size (form_of c) (writer_seen old w)
+    kept : IsWriterForm old.disk.block_size (form_of c) (writer_view old w)
     kept = kept_by_form old w (form_of c) can.can.written (subst (λ p. IsFormOf old.disk.block_size w.unsaved (length (bytes_of old p w.unsaved)) (form_of c)) same shape)
 
-pub has_written : (old mid new : Seen) (w : Writer) (bytes : List ℕ) (place begin size : ℕ) (turned : Bool) (c d : Contents) (path : Path) → CanWrite old w bytes → IsAsked old mid →
+pub has_written : (old mid new : TreeState) (w : Writer) (bytes : List ℕ) (place begin size : ℕ) (turned : Bool) (c d : Contents) (path : Path) → CanWrite old w bytes → IsAsked old mid →
     place ≡ (if w.appends then w.size else w.position) → IsOver mid path c → path ≡ w.path → IsFormOf old.disk.block_size w.unsaved (length (bytes_of old path w.unsaved)) (form_of c) →
     bytes_held (kept_of mid) c ≡ bytes_of old path w.unsaved → WrittenLaw → IsWrittenBeside mid new → ((p : Path) → IsOver mid p c → IsOver new p d) →
     bytes_held (kept_of new) d ≡ written_into (bytes_held (kept_of mid) c) place bytes → form_of d ≡ written (inline_limit mid.disk.block_size) place (length bytes) (form_of c) →
     begin ≡ min place w.size → turned ≡ (turned_in w.unsaved || turns (end_in w.unsaved) begin) → size ≡ max w.size (place + length bytes) →
-    IsWriterAs new (after_write (writer_seen old w) bytes) (record { path = w.path; position = place + length bytes; size = size; appends = w.appends; unsaved = Some (record { contents = d; has_turned = turned; last_end = Some (place + length bytes) }) })
+    IsWriterAs new (after_write (writer_view old w) bytes) (record { path = w.path; position = place + length bytes; size = size; appends = w.appends; unsaved = Some (record { contents = d; has_turned = turned; last_end = Some (place + length bytes) }) })
 has_written old mid new w bytes place begin size turned c d path can asked at over same shape had law beside overs wrote_is form_is begin_is turned_is size_is =
     wrote old new w bytes place (place + length bytes) size turned d (beside_later old mid new asked beside) can.can.written can.some can.room is refl size_is
     (turned_is ∙ ap (λ b. turned_in w.unsaved || turns (end_in w.unsaved) b) begin_is)
     (subst (λ p. IsOver new p d) same (overs path over))
     (wrote_is ∙ ap (λ xs. written_into xs place bytes) (had ∙ ap (λ p. bytes_of old p w.unsaved) same))
     kept (subst (IsSettleable (inline_limit old.disk.block_size)) (sym form_at)
-    (settle_written (inline_limit old.disk.block_size) (write_place (writer_seen old w)) (length bytes) (form_of c) (after_write (writer_seen old w) bytes) written_kept.fits))
+    (settle_written (inline_limit old.disk.block_size) (write_place (writer_view old w)) (length bytes) (form_of c) (after_write (writer_view old w) bytes) written_kept.fits))
   where
-    is : place ≡ write_place (writer_seen old w)
+    is : place ≡ write_place (writer_view old w)
     is = place_is old w place can.can.written at
 
-    before_kept : IsKept old.disk.block_size (form_of c) (writer_seen old w)
+    before_kept : IsWriterForm old.disk.block_size (form_of c) (writer_view old w)
     before_kept = kept_by_form old w (form_of c) can.can.written (subst (λ p. IsFormOf old.disk.block_size w.unsaved (length (bytes_of old p w.unsaved)) (form_of c)) same shape)
 
-    written_kept : IsKept old.disk.block_size (written (inline_limit old.disk.block_size) (write_place (writer_seen old w)) (length bytes) (form_of c)) (after_write (writer_seen old w) bytes)
-    written_kept = kept_written law old.disk.block_size (form_of c) (writer_seen old w) bytes can.some before_kept
+    written_kept : IsWriterForm old.disk.block_size (written (inline_limit old.disk.block_size) (write_place (writer_view old w)) (length bytes) (form_of c)) (after_write (writer_view old w) bytes)
+    written_kept = kept_written law old.disk.block_size (form_of c) (writer_view old w) bytes can.some before_kept
 
-    form_at : form_of d ≡ written (inline_limit old.disk.block_size) (write_place (writer_seen old w)) (length bytes) (form_of c)
-    form_at = form_is ∙ ap₂ (λ n p. written (inline_limit n) p (length bytes) (form_of c)) (ap (λ (t : Seen). t.disk.block_size) asked.same) is
+    form_at : form_of d ≡ written (inline_limit old.disk.block_size) (write_place (writer_view old w)) (length bytes) (form_of c)
+    form_at = form_is ∙ ap₂ (λ n p. written (inline_limit n) p (length bytes) (form_of c)) (ap (λ (t : TreeState). t.disk.block_size) asked.same) is
 
-    kept : IsKept old.disk.block_size (form_of d) (after_write (writer_seen old w) bytes)
-    kept = subst (λ f. IsKept old.disk.block_size f (after_write (writer_seen old w) bytes)) (sym form_at) written_kept
+    kept : IsWriterForm old.disk.block_size (form_of d) (after_write (writer_view old w) bytes)
+    kept = subst (λ f. IsWriterForm old.disk.block_size f (after_write (writer_view old w) bytes)) (sym form_at) written_kept
 
 -- what the writer holds, there is room for
-held_room : (t : Seen) (w : Writer) → CanChange t w → length (around_of t).used ≤ block_count t.disk → length (around_of t).used + held_by t.disk.block_size (writer_seen t w) ≤ block_count t.disk
+held_room : (t : TreeState) (w : Writer) → CanChange t w → length (around_of t).used ≤ block_count t.disk → length (around_of t).used + held_by t.disk.block_size (writer_view t w) ≤ block_count t.disk
 held_room t w can few = subst (λ n. length (around_of t).used + n ≤ block_count t.disk) (held_one t.disk.block_size t w can.written.size) (go w.unsaved refl)
   where
     go : (u : Option Unsaved) → w.unsaved ≡ u → length (around_of t).used + held_by_size t.disk.block_size w ≤ block_count t.disk
     go None e = rw e (omega (arith, few))
     go (Some u) e = rw e (changed_in t w u can.written.changed e).room
 
-pub can_truncate : (old mid : Seen) (w : Writer) (size : ℕ) (c : Contents) (path : Path) → CanTruncate old w size → IsAsked old mid → IsOver mid path c → path ≡ w.path →
+pub can_truncate : (old mid : TreeState) (w : Writer) (size : ℕ) (c : Contents) (path : Path) → CanTruncate old w size → IsAsked old mid → IsOver mid path c → path ≡ w.path →
     IsFormOf old.disk.block_size w.unsaved (length (bytes_of old path w.unsaved)) (form_of c) → LargeLaw → TruncateLaw → CanTruncateBeside mid c size
 can_truncate old mid w size c path can asked over same shape large truncate =
     subst (λ t. CanTruncateBeside t c size) (sym asked.same) (record {
       works = can.can.works;
       stands = (subst (λ t. IsOver t path c) asked.same over).stands;
-      large = large old.disk.block_size (form_of c) (writer_seen old w) kept;
+      large = large old.disk.block_size (form_of c) (writer_view old w) kept;
       small = can.small;
-      room = truncate old.disk.block_size (form_of c) (writer_seen old w) size (length (around_of old).used) (block_count old.disk) kept
+      room = truncate old.disk.block_size (form_of c) (writer_view old w) size (length (around_of old).used) (block_count old.disk) kept
           (held_room old w can.can (let r = can.room in omega (arith, r))) can.room;
     })
   where
-    kept : IsKept old.disk.block_size (form_of c) (writer_seen old w)
+    kept : IsWriterForm old.disk.block_size (form_of c) (writer_view old w)
     kept = kept_by_form old w (form_of c) can.can.written (subst (λ p. IsFormOf old.disk.block_size w.unsaved (length (bytes_of old p w.unsaved)) (form_of c)) same shape)
 
-pub has_truncated : (old mid new : Seen) (w : Writer) (size : ℕ) (turned : Bool) (end : Option ℕ) (c d : Contents) (path : Path) → CanTruncate old w size → IsAsked old mid →
+pub has_truncated : (old mid new : TreeState) (w : Writer) (size : ℕ) (turned : Bool) (end : Option ℕ) (c d : Contents) (path : Path) → CanTruncate old w size → IsAsked old mid →
     IsOver mid path c → path ≡ w.path → IsFormOf old.disk.block_size w.unsaved (length (bytes_of old path w.unsaved)) (form_of c) →
     bytes_held (kept_of mid) c ≡ bytes_of old path w.unsaved → TruncatedLaw → IsWrittenBeside mid new → ((p : Path) → IsOver mid p c → IsOver new p d) →
     bytes_held (kept_of new) d ≡ take size (zeros_to size (bytes_held (kept_of mid) c)) → form_of d ≡ truncated (inline_limit mid.disk.block_size) size (form_of c) →
     turned ≡ (turned_in w.unsaved || is_some (end_in w.unsaved)) → end ≡ (if nat_lt w.size size then Some size else end_in w.unsaved) →
-    IsWriterAs new (after_truncate (writer_seen old w) size) (record { path = w.path; position = w.position; size = size; appends = w.appends; unsaved = Some (record { contents = d; has_turned = turned; last_end = end }) })
+    IsWriterAs new (after_truncate (writer_view old w) size) (record { path = w.path; position = w.position; size = size; appends = w.appends; unsaved = Some (record { contents = d; has_turned = turned; last_end = end }) })
 has_truncated old mid new w size turned end c d path can asked over same shape had law beside overs cut_is form_is turned_is end_is =
     cut old new w size turned end d (beside_later old mid new asked beside) can.can.written
     (ne_eqb size (length (bytes_of old w.path w.unsaved)) (λ e. can.other (e ∙ can.can.written.size))) can.room turned_is end_is
     (subst (λ p. IsOver new p d) same (overs path over))
     (cut_is ∙ ap (λ xs. take size (zeros_to size xs)) (had ∙ ap (λ p. bytes_of old p w.unsaved) same))
-    (subst (λ f. IsKept old.disk.block_size f (after_truncate (writer_seen old w) size)) (sym form_at) truncated_kept)
+    (subst (λ f. IsWriterForm old.disk.block_size f (after_truncate (writer_view old w) size)) (sym form_at) truncated_kept)
     (subst (IsSettleable (inline_limit old.disk.block_size)) (sym form_at)
-    (settle_truncated (inline_limit old.disk.block_size) size (form_of c) (after_truncate (writer_seen old w) size) (λ e. can.other (e ∙ before_kept.size ∙ can.can.written.size)) truncated_kept.fits))
+    (settle_truncated (inline_limit old.disk.block_size) size (form_of c) (after_truncate (writer_view old w) size) (λ e. can.other (e ∙ before_kept.size ∙ can.can.written.size)) truncated_kept.fits))
   where
-    before_kept : IsKept old.disk.block_size (form_of c) (writer_seen old w)
+    before_kept : IsWriterForm old.disk.block_size (form_of c) (writer_view old w)
     before_kept = kept_by_form old w (form_of c) can.can.written (subst (λ p. IsFormOf old.disk.block_size w.unsaved (length (bytes_of old p w.unsaved)) (form_of c)) same shape)
 
-    truncated_kept : IsKept old.disk.block_size (truncated (inline_limit old.disk.block_size) size (form_of c)) (after_truncate (writer_seen old w) size)
-    truncated_kept = law old.disk.block_size (form_of c) (writer_seen old w) size before_kept
+    truncated_kept : IsWriterForm old.disk.block_size (truncated (inline_limit old.disk.block_size) size (form_of c)) (after_truncate (writer_view old w) size)
+    truncated_kept = law old.disk.block_size (form_of c) (writer_view old w) size before_kept
 
     form_at : form_of d ≡ truncated (inline_limit old.disk.block_size) size (form_of c)
-    form_at = form_is ∙ ap (λ n. truncated (inline_limit n) size (form_of c)) (ap (λ (t : Seen). t.disk.block_size) asked.same)
+    form_at = form_is ∙ ap (λ n. truncated (inline_limit n) size (form_of c)) (ap (λ (t : TreeState). t.disk.block_size) asked.same)
 
 -- ---- saving
 
 abbrev pub EndLaw : Type 0
-EndLaw = (block_size : ℕ) (shape : Form) (w : session.Writer) (used all : ℕ) → IsKept block_size shape w → used + held_by block_size w ≤ all → used + end_room block_size shape ≤ all
+EndLaw = (block_size : ℕ) (shape : Form) (w : session.Writer) (used all : ℕ) → IsWriterForm block_size shape w → used + held_by block_size w ≤ all → used + end_room block_size shape ≤ all
 
 room_to_store : (used all blocks : ℕ) (turned : Bool) → used + (2 + cond turned 2 1 * blocks) ≤ all → used + blocks + 2 ≤ all
 room_to_store used all blocks true h = omega (arith, h)
 room_to_store used all blocks false h = omega (arith, h)
 
-pub can_store : (t : Seen) (w : Writer) (u : Unsaved) (path : Path) → CanSave t w → w.unsaved ≡ Some u → path ≡ w.path → EndLaw → CanStoreAt t path u.contents
+pub can_store : (t : TreeState) (w : Writer) (u : Unsaved) (path : Path) → CanSave t w → w.unsaved ≡ Some u → path ≡ w.path → EndLaw → CanStoreAt t path u.contents
 can_store t w u path can is same law =
     subst (λ p. CanStoreAt t p u.contents) (sym same) (record {
       works = can.works;
@@ -389,7 +389,7 @@ can_store t w u path can is same law =
       settled = can.written.settled;
       over = changed.over;
       form = changed.form;
-      end = law t.disk.block_size (form_of u.contents) (writer_seen t w) (length (around_of t).used) (block_count t.disk) changed.kept
+      end = law t.disk.block_size (form_of u.contents) (writer_view t w) (length (around_of t).used) (block_count t.disk) changed.kept
           (subst (λ n. length (around_of t).used + n ≤ block_count t.disk) (held_one t.disk.block_size t w can.written.size) held);
       room = subst (λ n. length (around_of t).used + ctz_blocks t.disk.block_size n + 2 ≤ block_count t.disk) (sym long)
           (room_to_store (length (around_of t).used) (block_count t.disk) (ctz_blocks t.disk.block_size w.size) u.has_turned changed.room);
@@ -409,8 +409,8 @@ stored_node None bytes e = absurd (cc)
 stored_node (Some (FileNode attributes old)) bytes e = (refl, refl)
 stored_node (Some (DirectoryNode attributes names)) bytes e = absurd (cc)
 
-pub has_saved : (t new : Seen) (w : Writer) (u : Unsaved) (path : Path) → CanSave t w → w.unsaved ≡ Some u → path ≡ w.path → IsStoredAt t path (bytes_held (kept_of t) u.contents) new →
-    IsSavedAs new (after_sync (writer_seen t w)) (record { path = w.path; position = w.position; size = w.size; appends = w.appends; unsaved = None })
+pub has_saved : (t new : TreeState) (w : Writer) (u : Unsaved) (path : Path) → CanSave t w → w.unsaved ≡ Some u → path ≡ w.path → IsStoredAt t path (bytes_held (kept_of t) u.contents) new →
+    IsSavedAs new (after_sync (writer_view t w)) (record { path = w.path; position = w.position; size = w.size; appends = w.appends; unsaved = None })
 has_saved t new w u path can is same stored = record {
   seen = ap (λ xs. saved xs) node.1 ∙ sym (rw is refl);
   written = record {
@@ -426,12 +426,12 @@ has_saved t new w u path can is same stored = record {
     saved : List ℕ → session.Writer
     saved xs = record { path = w.path; contents = xs; position = w.position; append = w.appends; dirty = false; turned = false; last_end = None }
 
-    at : tree_seen new w.path ≡ option_map (with_bytes (bytes_held (kept_of t) u.contents)) (tree_seen t w.path)
-    at = ap (λ (z : Tree). z w.path) (stored.shows ∙ ap (λ p. change_at p (with_bytes (bytes_held (kept_of t) u.contents)) (tree_seen t)) same)
-        ∙ ap (λ b. cond b (option_map (with_bytes (bytes_held (kept_of t) u.contents)) (tree_seen t w.path)) (tree_seen t w.path)) (path_itself w.path)
+    at : tree_view new w.path ≡ option_map (with_bytes (bytes_held (kept_of t) u.contents)) (tree_view t w.path)
+    at = ap (λ (z : Tree). z w.path) (stored.shows ∙ ap (λ p. change_at p (with_bytes (bytes_held (kept_of t) u.contents)) (tree_view t)) same)
+        ∙ ap (λ b. cond b (option_map (with_bytes (bytes_held (kept_of t) u.contents)) (tree_view t w.path)) (tree_view t w.path)) (path_itself w.path)
 
-    node : (is_file (tree_seen new w.path) ≡ true) × (bytes_at (tree_seen new w.path) ≡ bytes_held (kept_of t) u.contents)
-    node = rw at (stored_node (tree_seen t w.path) (bytes_held (kept_of t) u.contents) can.written.there)
+    node : (is_file (tree_view new w.path) ≡ true) × (bytes_at (tree_view new w.path) ≡ bytes_held (kept_of t) u.contents)
+    node = rw at (stored_node (tree_view t w.path) (bytes_held (kept_of t) u.contents) can.written.there)
 
-pub stored_as : (t new : Seen) (w : Writer) (u : Unsaved) (path : Path) → w.unsaved ≡ Some u → path ≡ w.path → IsStoredAt t path (bytes_held (kept_of t) u.contents) new → IsStoredAt t w.path (bytes_of t w.path w.unsaved) new
+pub stored_as : (t new : TreeState) (w : Writer) (u : Unsaved) (path : Path) → w.unsaved ≡ Some u → path ≡ w.path → IsStoredAt t path (bytes_held (kept_of t) u.contents) new → IsStoredAt t w.path (bytes_of t w.path w.unsaved) new
 stored_as t new w u path is same stored = subst (λ z. IsStoredAt t w.path (bytes_of t w.path z) new) (sym is) (subst (λ p. IsStoredAt t p (bytes_held (kept_of t) u.contents) new) same stored)

@@ -9,19 +9,19 @@ use Rattle.lfs_model.specs.Session.{held_by}
 use Rattle.lfs_model.specs.Effects.{size_of}
 use Rattle.lfs_model.specs.Tree.{Path}
 use Rattle.lfs_tree.specs.OpenContents.{IsOpenedForm, IsOver}
-use Rattle.lfs_tree.specs.Seen.{IsSound, Seen, around_of, tree_seen}
+use Rattle.lfs_tree.specs.TreeState.{IsSound, TreeState, around_of, tree_view}
 use Rattle.lfs_writer.specs.Contents.{form_of}
 use Rattle.lfs_writer.specs.Form.{Form}
-use Rattle.lfs_fs.specs.FileSeen.{writer_seen}
+use Rattle.lfs_fs.specs.FileView.{writer_view}
 use Rattle.lfs_fs.specs.Held.{IsWritten}
 use Rattle.lfs_fs.specs.declared.files.Unsaved.{Unsaved}
 use Rattle.lfs_fs.specs.declared.files.Writer.{Writer}
 
 -- a file stands there, whose contents were changed so, or not
-pub record HasContents (t : Seen) (path : Path) (unsaved : Option Unsaved) : Type 0 where
+pub record HasContents (t : TreeState) (path : Path) (unsaved : Option Unsaved) : Type 0 where
   pub works : t.failed ≡ false
   pub writable : t.writable ≡ true
-  pub file : is_file (tree_seen t path) ≡ true
+  pub file : is_file (tree_view t path) ≡ true
   pub idle : is_some unsaved ≡ false → in_flight_count t.map ≡ 0
   pub over : (u : Unsaved) → unsaved ≡ Some u → IsOver t path u.contents
 
@@ -31,56 +31,56 @@ IsFormOf block_size None size shape = IsOpenedForm block_size size shape
 IsFormOf block_size (Some u) size shape = shape ≡ form_of u.contents
 
 -- The writer may be changed: the tree works, and no block is in flight but for the writer.
-pub record CanChange (t : Seen) (w : Writer) : Type 0 where
+pub record CanChange (t : TreeState) (w : Writer) : Type 0 where
   pub works : t.failed ≡ false
   pub written : IsWritten t w
   pub idle : is_some w.unsaved ≡ false → in_flight_count t.map ≡ 0
 
 -- there is room for what a writer would hold
-abbrev pub HasRoomFor : Seen → session.Writer → Type 0
+abbrev pub HasRoomFor : TreeState → session.Writer → Type 0
 HasRoomFor t w = length (around_of t).used + held_by t.disk.block_size w ≤ block_count t.disk
 
-pub record CanWrite (t : Seen) (w : Writer) (bytes : List ℕ) : Type 0 where
+pub record CanWrite (t : TreeState) (w : Writer) (bytes : List ℕ) : Type 0 where
   pub can : CanChange t w
   pub some : 1 ≤ length bytes
-  pub small : write_place (writer_seen t w) + length bytes < 2 ^ 31
-  pub room : HasRoomFor t (after_write (writer_seen t w) bytes)
+  pub small : write_place (writer_view t w) + length bytes < 2 ^ 31
+  pub room : HasRoomFor t (after_write (writer_view t w) bytes)
 
-pub record CanTruncate (t : Seen) (w : Writer) (size : ℕ) : Type 0 where
+pub record CanTruncate (t : TreeState) (w : Writer) (size : ℕ) : Type 0 where
   pub can : CanChange t w
   pub other : size ≡ w.size → ⊥
   pub small : size < 2 ^ 31
-  pub room : HasRoomFor t (after_truncate (writer_seen t w) size)
+  pub room : HasRoomFor t (after_truncate (writer_view t w) size)
 
 -- the writer is this one, and stays open
-pub record IsWriterAs (t : Seen) (is : session.Writer) (w : Writer) : Type 0 where
-  pub seen : writer_seen t w ≡ is
+pub record IsWriterAs (t : TreeState) (is : session.Writer) (w : Writer) : Type 0 where
+  pub seen : writer_view t w ≡ is
   pub written : IsWritten t w
   pub changed : is_some w.unsaved ≡ true
 
 -- the writer has changes, which can be saved
-pub record CanSave (t : Seen) (w : Writer) : Type 0 where
+pub record CanSave (t : TreeState) (w : Writer) : Type 0 where
   pub works : t.failed ≡ false
   pub written : IsWritten t w
   pub changed : is_some w.unsaved ≡ true
 
 -- the writer is this one, stays open, and has no changes
-pub record IsSavedAs (t : Seen) (is : session.Writer) (w : Writer) : Type 0 where
-  pub seen : writer_seen t w ≡ is
+pub record IsSavedAs (t : TreeState) (is : session.Writer) (w : Writer) : Type 0 where
+  pub seen : writer_view t w ≡ is
   pub written : IsWritten t w
   pub saved : w.unsaved ≡ None
 
 -- a file of that size is there, and may be opened for writing
-pub record CanBegin (t : Seen) (path : Path) (size : ℕ) (truncates : Bool) : Type 0 where
+pub record CanBegin (t : TreeState) (path : Path) (size : ℕ) (truncates : Bool) : Type 0 where
   pub works : t.failed ≡ false
   pub writable : t.writable ≡ true
   pub sound : IsSound t
   pub idle : in_flight_count t.map ≡ 0
-  pub there : size_of (tree_seen t path) ≡ Some size
+  pub there : size_of (tree_view t path) ≡ Some size
   -- room for two blocks, where something is to be written anew
   pub room : truncates ≡ true → 1 ≤ size → length (around_of t).used + 2 ≤ block_count t.disk
 
 -- the writer is this one, and stays open
-pub record IsBegunAs (t : Seen) (is : session.Writer) (w : Writer) : Type 0 where
-  pub seen : writer_seen t w ≡ is
+pub record IsBegunAs (t : TreeState) (is : session.Writer) (w : Writer) : Type 0 where
+  pub seen : writer_view t w ≡ is
   pub written : IsWritten t w

@@ -3,7 +3,7 @@ use Rattle.std.specs.Prelude.{ℕ, ◌+◌, ◌≤◌, nat_le, length, is_none, 
 use Rattle.lfs_device.specs.declared.error.Error.{Error}
 use Rattle.lfs_device.specs.declared.error.Error.TheVariants.{Io, NoMemory, Corrupt}
 use Rattle.lfs_model.specs.BlockSets.{in_flight_count}
-use Rattle.lfs_model.specs.Discipline.{comes_at_once}
+use Rattle.lfs_model.specs.Frame.{comes_at_once}
 use Rattle.lfs_model.specs.History.{Event, OnlyReads, faults}
 use Rattle.lfs_model.specs.Disk.{Disk, block_count, inline_limit}
 use Rattle.lfs_model.specs.View.{IsAccepted}
@@ -12,7 +12,7 @@ use Rattle.lfs_model.specs.Slots.{no_gstate}
 use Rattle.lfs_model.specs.Thread.{Pair, gstate_of}
 use Rattle.lfs_model.specs.Tree.{Path, Tree}
 use Rattle.lfs_model.specs.Session.{Files, Session, readers, writers}
-use Rattle.lfs_fs.specs.FileSeen.{OpenFiles, bytes_of, files_seen, has_unsaved, held_for, readers_in, writer_seen, writers_in, written_paths}
+use Rattle.lfs_fs.specs.FileView.{OpenFiles, bytes_of, files_view, has_unsaved, held_for, readers_in, writer_view, writers_in, written_paths}
 use Rattle.lfs_fs.specs.declared.files.Reader.{Reader}
 use Rattle.lfs_fs.specs.declared.files.Writer.{Writer}
 use Rattle.std.specs.List.{AllByRecursion, list_any}
@@ -21,46 +21,46 @@ use Rattle.lfs_model.specs.Refusals.{as_path, refusal_of}
 use Rattle.lfs_model.specs.Effects.{size_of}
 use Rattle.lfs_tree.specs.OpenContents.{IsOver, IsSettleable}
 use Rattle.lfs_writer.specs.Contents.{form_of}
-use Rattle.lfs_writer.specs.Form.{IsKept}
+use Rattle.lfs_writer.specs.Form.{IsWriterForm}
 use Rattle.lfs_fs.specs.declared.checks.Opening.{Opening}
 use Rattle.lfs_fs.specs.declared.files.Unsaved.{Unsaved}
 use Rattle.lfs_model.specs.TreeEdits.{is_file, same_path}
-use Rattle.lfs_model.specs.Run.{Moment, Shows, IsTurn}
+use Rattle.lfs_model.specs.Run.{SystemState, Shows, IsSessionStep}
 use Rattle.lfs_model.specs.Failure.{Fails}
 use Rattle.lfs_model.specs.Performed.{IsCutShort}
 use Rattle.lfs_lookup.specs.FileContents.{AreContentsAt}
 use Rattle.lfs_lookup.specs.Refusals.{is_refusal, refusal_in}
 use Rattle.lfs_lookup.specs.declared.file_contents.FileContents.{FileContents}
-use Rattle.lfs_tree.specs.Seen.{Seen, tree_seen, around_of, IsSound, IsAsked, IsBrokenAsking, IsError}
+use Rattle.lfs_tree.specs.TreeState.{TreeState, tree_view, around_of, IsSound, IsAsked, IsBrokenAsking, IsError}
 
 -- The tree and the open files.
 pub record Held : Type 0 where
-  pub tree : Seen
+  pub tree : TreeState
   pub files : Files
 
-abbrev pub held_with : Seen → Files → Held
+abbrev pub held_with : TreeState → Files → Held
 held_with tree files = record { tree = tree; files = files }
 
-abbrev pub held_of : Seen → OpenFiles → Held
-held_of tree files = held_with tree (files_seen tree files)
+abbrev pub held_of : TreeState → OpenFiles → Held
+held_of tree files = held_with tree (files_view tree files)
 
 -- Contents that were changed are those of the file's writer, in a form that fits what is said of it. They can be saved, and there
 -- is room for what the writer holds.
-pub record IsChanged (t : Seen) (w : Writer) (u : Unsaved) : Type 0 where
+pub record IsChanged (t : TreeState) (w : Writer) (u : Unsaved) : Type 0 where
   pub over : IsOver t w.path u.contents
-  pub kept : IsKept t.disk.block_size (form_of u.contents) (writer_seen t w)
+  pub kept : IsWriterForm t.disk.block_size (form_of u.contents) (writer_view t w)
   pub form : IsSettleable (inline_limit t.disk.block_size) (form_of u.contents)
   pub room : length (around_of t).used + held_for t.disk.block_size u.has_turned w.size ≤ block_count t.disk
 
-abbrev pub IsUnsavedIn : Seen → Writer → Option Unsaved → Type 0
+abbrev pub IsUnsavedIn : TreeState → Writer → Option Unsaved → Type 0
 IsUnsavedIn t w None = Unit {0}
 IsUnsavedIn t w (Some u) = IsChanged t w u
 
 -- The image of a file that is open for writing is at rest, and the file is in the tree.
-pub record IsWritten (t : Seen) (w : Writer) : Type 0 where
+pub record IsWritten (t : TreeState) (w : Writer) : Type 0 where
   pub writable : t.writable ≡ true
   pub settled : gstate_of t.pairs ≡ no_gstate
-  pub there : is_file (tree_seen t w.path) ≡ true
+  pub there : is_file (tree_view t w.path) ≡ true
   pub size : length (bytes_of t w.path w.unsaved) ≡ w.size
   pub changed : IsUnsavedIn t w w.unsaved
 
@@ -75,7 +75,7 @@ AreRead ps files = AllByRecursion (IsRead ps (written_paths files)) (readers_in 
 
 -- What a session keeps of a tree that works: it is the disk's, whose device has had a call, and blocks are in flight only where
 -- a writer changed something.
-pub record IsReady (t : Seen) (files : OpenFiles) : Type 0 where
+pub record IsReady (t : TreeState) (files : OpenFiles) : Type 0 where
   pub sound : IsSound t
   pub called : t.history ≢ []
   pub one : length (writers_in files) ≤ 1
@@ -84,17 +84,17 @@ pub record IsReady (t : Seen) (files : OpenFiles) : Type 0 where
   pub read : AreRead t.pairs files
 
 abbrev pub session_of : Held → Session
-session_of h = record { tree = tree_seen h.tree; files = h.files }
+session_of h = record { tree = tree_view h.tree; files = h.files }
 
-abbrev pub moment_of : Held → Moment
-moment_of h = record {
+abbrev pub system_state_of : Held → SystemState
+system_state_of h = record {
   disk = h.tree.disk;
   calls = h.tree.history;
   state = if h.tree.failed then HasFailed else Healthy (session_of h);
 }
 
 -- The session fails in an operation by that error. Only a remount answers `Corrupt`, and then the disk isn't accepted.
-pub record FailsBy (e : Error) (from : Moment) (op : Operation) (to : Moment) : Type 0 where
+pub record FailsBy (e : Error) (from : SystemState) (op : Operation) (to : SystemState) : Type 0 where
   pub fails : Fails from op to
   pub errors : (e ≡ Io) ⊎ ((e ≡ NoMemory) ⊎ ((e ≡ Corrupt) × (is_remount op ≡ true) × Shows from.disk None))
   pub fault : e ≡ Io → faults from.calls < faults to.calls
@@ -102,11 +102,11 @@ pub record FailsBy (e : Error) (from : Moment) (op : Operation) (to : Moment) : 
 
 -- The call is an operation's turn with that reply. Where an error takes the reply's place, the session has failed by it.
 abbrev pub Answers : Held → Operation → Result Reply Error → Held → Type 0
-Answers old op (Ok reply) new = IsTurn (moment_of old) op reply (moment_of new)
-Answers old op (Err e) new = FailsBy e (moment_of old) op (moment_of new)
+Answers old op (Ok reply) new = IsSessionStep (system_state_of old) op reply (system_state_of new)
+Answers old op (Err e) new = FailsBy e (system_state_of old) op (system_state_of new)
 
 -- Some operations were performed, without a fault of the device; in the next one the session failed by that error.
-pub record IsEndedBy (e : Error) (from : Moment) (operations : List Operation) (to : Moment) : Type 0 where
+pub record IsEndedBy (e : Error) (from : SystemState) (operations : List Operation) (to : SystemState) : Type 0 where
   pub ended : IsCutShort from operations to
   pub no_fault : faults ended.at.calls ≡ faults from.calls
   pub by : FailsBy e ended.at ended.next to
@@ -120,12 +120,12 @@ abbrev pub ComesLate : Held → Operation → Type 0
 ComesLate h op = (r : Refusal) → refused_by h op ≡ Some r → comes_at_once op r ≡ false
 
 -- what the checks leave where they end in that error: a refusal, or a call that failed
-abbrev pub EndsChecks : Bool → Held → Operation → Error → Seen → Type 0
+abbrev pub EndsChecks : Bool → Held → Operation → Error → TreeState → Type 0
 EndsChecks true h op e tree = IsAsked h.tree tree × (refused_by h op ≡ Some (refusal_in e)) × (comes_at_once op (refusal_in e) ≡ true → tree ≡ h.tree)
 EndsChecks false h op e tree = IsBrokenAsking h.tree tree × (h.tree.failed ≡ false) × IsError h.tree tree e × ComesLate h op
 
 -- An operation's checks by reads alone: it passes, and then the value has P; or it is refused; or a read failed.
-abbrev pub Checks : {A : Type 0} → Held → Operation → (A → Type 0) → Result A Error → Seen → Type 0
+abbrev pub Checks : {A : Type 0} → Held → Operation → (A → Type 0) → Result A Error → TreeState → Type 0
 Checks h op P (Ok a) tree = IsAsked h.tree tree × (refused_by h op ≡ None) × P a
 Checks h op P (Err e) tree = EndsChecks (is_refusal e) h op e tree
 
@@ -142,8 +142,8 @@ pub record IsReadable (t : Tree) (files : Files) (bytes : List ℕ) : Type 0 whe
   pub apart : list_any (λ w. same_path (as_path bytes) w.path) (writers files) ≡ false
 
 -- the same, with the contents of its file
-pub record IsReadableAs (t : Seen) (files : Files) (bytes : List ℕ) (kept : FileContents) : Type 0 where
-  pub readable : IsReadable (tree_seen t) files bytes
+pub record IsReadableAs (t : TreeState) (files : Files) (bytes : List ℕ) (kept : FileContents) : Type 0 where
+  pub readable : IsReadable (tree_view t) files bytes
   pub contents : AreContentsAt t.pairs (as_path bytes) kept
 
 -- what is found where a file may be opened for writing
@@ -152,7 +152,7 @@ pub record IsOpening (t : Tree) (bytes : List ℕ) (found : Opening) : Type 0 wh
   pub size : size_of (t found.path) ≡ found.size
 
 -- A session that a mount began: it works, has the tree of the disk, which was only read, and no open file.
-pub record IsBegun (disk : Disk) (history : List Event) (h : Held) : Type 0 where
+pub record IsFreshSession (disk : Disk) (history : List Event) (h : Held) : Type 0 where
   pub works : h.tree.failed ≡ false
   pub disk_is : h.tree.disk ≡ disk
   pub accepted : IsAccepted disk h.tree.pairs

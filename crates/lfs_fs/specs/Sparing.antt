@@ -1,44 +1,44 @@
 -- What a session's call promises: how it answers and ends, what a loss of power leaves, which blocks it leaves alone, how many reads it takes.
 use Rattle.std.specs.Prelude.{ℕ, ◌≡◌, true, false, List, Result, Ok, is_err}
 use Rattle.lfs_device.specs.declared.error.Error.{Error}
-use Rattle.lfs_model.specs.Discipline.{LeavesAlone, is_kept, looks_up, searched}
+use Rattle.lfs_model.specs.Frame.{LeavesAlone, is_kept, looks_up, searched}
 use Rattle.lfs_model.specs.Operations as ops
 use Rattle.lfs_model.specs.Operations.{Operation, Reply}
-use Rattle.lfs_model.specs.PowerLoss.{Withstands}
-use Rattle.lfs_model.specs.Run.{Moment, is_refusal}
+use Rattle.lfs_model.specs.PowerLoss.{SurvivesLoss}
+use Rattle.lfs_model.specs.Run.{SystemState, is_refusal}
 use Rattle.lfs_model.specs.Session.{Session}
 use Rattle.lfs_model.specs.Slots.{no_gstate}
 use Rattle.lfs_model.specs.State.{Healthy}
 use Rattle.lfs_model.specs.Thread.{Pair, gstate_of}
-use Rattle.lfs_model.specs.Thrift.{AsksFew}
+use Rattle.lfs_model.specs.ReadBounds.{AsksFew}
 use Rattle.lfs_model.specs.View.{IsAccepted}
-use Rattle.lfs_lookup.specs.AtHand.{AreSmall}
-use Rattle.lfs_tree.specs.Reads.{HasOnHand}
+use Rattle.lfs_lookup.specs.CachedPairs.{AreSmall}
+use Rattle.lfs_tree.specs.Reads.{HasCached}
 use Rattle.lfs_fs.specs.Ending.{EndsWell}
-use Rattle.lfs_fs.specs.Held.{Answers, Held, moment_of}
+use Rattle.lfs_fs.specs.Held.{Answers, Held, system_state_of}
 use Rattle.lfs_fs.specs.LookUps.{ReadsNoneIn}
 
 -- where nothing was to be recovered, it left alone what it isn't about
-abbrev pub LeavesOthers : Moment → Operation → Moment → Type 0
+abbrev pub LeavesOthers : SystemState → Operation → SystemState → Type 0
 LeavesOthers from op to = (s : Session) → from.state ≡ Healthy s → (ps qs : List Pair) → IsAccepted from.disk ps → IsAccepted to.disk qs → gstate_of ps ≡ no_gstate
     → LeavesAlone from.disk ps s op to.disk qs
 
--- behind an accepted stat the directories that it searched are at hand, if they are small
-abbrev pub LeavesAtHand : Operation → Result Reply Error → Held → Type 0
-LeavesAtHand op r new = (path : List ℕ) (reply : Reply) → op ≡ ops.Stat path → r ≡ Ok reply → is_refusal reply ≡ false → (s : Session) → (moment_of new).state ≡ Healthy s → (ps : List Pair) → IsAccepted new.tree.disk ps
-    → AreSmall ps (searched op) → HasOnHand new.tree (searched op)
+-- behind an accepted stat the directories that it searched are cached, if they are small
+abbrev pub LeavesCached : Operation → Result Reply Error → Held → Type 0
+LeavesCached op r new = (path : List ℕ) (reply : Reply) → op ≡ ops.Stat path → r ≡ Ok reply → is_refusal reply ≡ false → (s : Session) → (system_state_of new).state ≡ Healthy s → (ps : List Pair) → IsAccepted new.tree.disk ps
+    → AreSmall ps (searched op) → HasCached new.tree (searched op)
 
 -- How a call asks the device: not at all where what is kept tells the answer, seldom in a look-up.
 pub record AsksSeldom (old : Held) (op : Operation) (r : Result Reply Error) (new : Held) : Type 0 where
   pub asked : is_kept op ≡ true → new ≡ old
-  pub few : AsksFew (moment_of old) op (moment_of new)
+  pub few : AsksFew (system_state_of old) op (system_state_of new)
   pub none : looks_up op ≡ true → ReadsNoneIn old.tree op new.tree
-  pub hand : LeavesAtHand op r new
+  pub hand : LeavesCached op r new
 
 -- A call that ends in that reply or error.
 pub record IsCall (old : Held) (op : Operation) (r : Result Reply Error) (new : Held) : Type 0 where
   pub answers : Answers old op r new
   pub ends : EndsWell old op r new
-  pub withstands : Withstands (moment_of old) op (moment_of new)
-  pub alone : is_err r ≡ false → LeavesOthers (moment_of old) op (moment_of new)
+  pub survives_loss : SurvivesLoss (system_state_of old) op (system_state_of new)
+  pub alone : is_err r ≡ false → LeavesOthers (system_state_of old) op (system_state_of new)
   pub asks : AsksSeldom old op r new

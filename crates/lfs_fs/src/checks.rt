@@ -4,17 +4,17 @@ ghost use Rattle.std.specs.Prelude.{if◌then◌else◌, nat_lt, ◌+◌, ◌≡
 ghost use Rattle.lfs_model.specs.Operations as ops;
 ghost use Rattle.lfs_model.specs.Session.{is_overcharged};
 ghost use Rattle.lfs_model.specs.Disk.{block_count};
-ghost use Rattle.lfs_fs.specs.FileSeen.{entry_of, files_seen, held_by_all, held_for, writer_in};
+ghost use Rattle.lfs_fs.specs.FileView.{entry_of, files_view, held_by_all, held_for, writer_in};
 ghost use Rattle.lfs_model.specs.Refusals.{as_path};
 ghost use Rattle.lfs_model.specs.Effects.{items_in, size_of};
-ghost use Rattle.lfs_fs.specs.FlagsSeen.{flags_seen};
+ghost use Rattle.lfs_fs.specs.FlagsView.{flags_view};
 ghost use Rattle.lfs_model.specs.TreeEdits.{attributes_of};
 ghost use Rattle.lfs_model.specs.Content.{attribute_of};
 ghost use Rattle.lfs_fs.specs.EntryPaths.{entry_path};
 ghost use Rattle.lfs_fs.specs.Held.{Checks, ChecksKept, IsOpening, IsReadableAs, IsReady, held_of};
-ghost use Rattle.lfs_fs.specs.LookUps.{AddsFew, AddsNone, LeavesOnHand};
-ghost use Rattle.lfs_lookup.specs.Finds.{list_item_seen};
-ghost use Rattle.lfs_tree.specs.Seen.{around_of, tree_seen};
+ghost use Rattle.lfs_fs.specs.LookUps.{AddsFew, AddsNone, LeavesCachedBeneath};
+ghost use Rattle.lfs_lookup.specs.Finds.{list_item_view};
+ghost use Rattle.lfs_tree.specs.TreeState.{around_of, tree_view};
 ghost use Rattle.lfs_model.specs.Slots.{Attributes, attributes_size};
 ghost use Rattle.lfs_fs.specs.Replacing.{CanReplace, replaced_size};
 
@@ -68,10 +68,10 @@ pub fn check_stat<D: BlockDevice>(
     files: &Files,
     bytes: &[u8],
 ) -> Result<Option<u32>, Error>
-    ensures checks { Checks (held_of tree.old files.now) (ops.Stat bytes.now) (λ size. size_of (tree_seen tree.old (as_path bytes.now)) ≡ size) result tree.new }
+    ensures checks { Checks (held_of tree.old files.now) (ops.Stat bytes.now) (λ size. size_of (tree_view tree.old (as_path bytes.now)) ≡ size) result tree.new }
     ensures few { AddsFew tree.old (ops.Stat bytes.now) tree.new }
     ensures kept { AddsNone tree.old (ops.Stat bytes.now) tree.new }
-    ensures hand { LeavesOnHand tree.old (ops.Stat bytes.now) result tree.new }
+    ensures hand { LeavesCachedBeneath tree.old (ops.Stat bytes.now) result tree.new }
 {
     if tree.has_failed() {
         return Err(Error::Failed);
@@ -149,8 +149,8 @@ pub fn check_open_reader<D: BlockDevice>(
     bytes: &[u8],
     flags: OpenFlags,
 ) -> Result<FileContents, Error>
-    requires { (flags_seen flags).write ≡ false }
-    ensures { Checks (held_of tree.old files.now) (ops.Open bytes.now (flags_seen flags)) (IsReadableAs tree.old (files_seen tree.old files.now) bytes.now) result tree.new }
+    requires { (flags_view flags).write ≡ false }
+    ensures { Checks (held_of tree.old files.now) (ops.Open bytes.now (flags_view flags)) (IsReadableAs tree.old (files_view tree.old files.now) bytes.now) result tree.new }
 {
     if tree.has_failed() {
         return Err(Error::Failed);
@@ -198,9 +198,9 @@ pub fn check_open_writer<'a, D: BlockDevice>(
     bytes: &'a [u8],
     flags: OpenFlags,
 ) -> Result<Opening<'a>, Error>
-    requires write { (flags_seen flags).write ≡ true }
+    requires write { (flags_view flags).write ≡ true }
     requires ready { tree.old.failed ≡ false → IsReady tree.old files.now }
-    ensures { Checks (held_of tree.old files.now) (ops.Open bytes.now (flags_seen flags)) (λ found. IsOpening (tree_seen tree.old) bytes.now found) result tree.new }
+    ensures { Checks (held_of tree.old files.now) (ops.Open bytes.now (flags_view flags)) (λ found. IsOpening (tree_view tree.old) bytes.now found) result tree.new }
 {
     if tree.has_failed() {
         return Err(Error::Failed);
@@ -261,7 +261,7 @@ pub fn check_list<D: BlockDevice>(
     files: &Files,
     bytes: &[u8],
 ) -> Result<Vec<ListItem>, Error>
-    ensures checks { Checks (held_of tree.old files.now) (ops.ListAll bytes.now) (λ items. items_in (tree_seen tree.old) (as_path bytes.now) ≡ map list_item_seen items.items) result tree.new }
+    ensures checks { Checks (held_of tree.old files.now) (ops.ListAll bytes.now) (λ items. items_in (tree_view tree.old) (as_path bytes.now) ≡ map list_item_view items.items) result tree.new }
     ensures few { AddsFew tree.old (ops.ListAll bytes.now) tree.new }
     ensures kept { AddsNone tree.old (ops.ListAll bytes.now) tree.new }
 {
@@ -289,7 +289,7 @@ pub fn check_get_attr<D: BlockDevice>(
     bytes: &[u8],
     kind: u8,
 ) -> Result<Vec<u8>, Error>
-    ensures checks { Checks (held_of tree.old files.now) (ops.GetAttr bytes.now kind) (λ v. unwrap_or (attribute_of kind (attributes_of (tree_seen tree.old (as_path bytes.now)))) [] ≡ v.items) result tree.new }
+    ensures checks { Checks (held_of tree.old files.now) (ops.GetAttr bytes.now kind) (λ v. unwrap_or (attribute_of kind (attributes_of (tree_view tree.old (as_path bytes.now)))) [] ≡ v.items) result tree.new }
     ensures few { AddsFew tree.old (ops.GetAttr bytes.now kind) tree.new }
     ensures kept { AddsNone tree.old (ops.GetAttr bytes.now kind) tree.new }
 {

@@ -9,8 +9,8 @@ ghost use Rattle.lfs_model.specs.Session.{is_open_at};
 ghost use Rattle.lfs_model.specs.Writers.{turns};
 ghost use Rattle.lfs_model.specs.Refusals.{as_path, bad_entry};
 ghost use Rattle.lfs_fs.specs.RenamePaths.{is_in_the_way};
-ghost use Rattle.lfs_tree.specs.Seen.{Seen};
-ghost use Rattle.lfs_fs.specs.FileSeen.{end_in, entry_of, files_seen, is_entry_at, is_unsaved_entry, free_entry, held_by_all, held_by_size, held_for, moved_entry, put_entry, reader_in, readers_in, turned_in, writer_in, writers_in};
+ghost use Rattle.lfs_tree.specs.TreeState.{TreeState};
+ghost use Rattle.lfs_fs.specs.FileView.{end_in, entry_of, files_view, is_entry_at, is_unsaved_entry, free_entry, held_by_all, held_by_size, held_for, moved_entry, put_entry, reader_in, readers_in, turned_in, writer_in, writers_in};
 
 use crate::owned_path::OwnedPath;
 use lfs_ctz::blocks_for;
@@ -140,7 +140,7 @@ pub struct Files {
 
 impl Model for Files {
     ghost use Rattle.std.specs.Prelude.{◌≤◌, length, vec_len};
-    ghost use Rattle.lfs_fs.specs.FileSeen.{OpenFiles, readers_in, writers_in};
+    ghost use Rattle.lfs_fs.specs.FileView.{OpenFiles, readers_in, writers_in};
 
     ghost Value = { OpenFiles };
 
@@ -230,7 +230,7 @@ impl Files {
     // Whether another writer, or a file that is open at that path, is in the way of a writer.
     pub(crate) fn is_busy_for_writing(&self, path: &[u8]) -> bool
         requires { is_some (path_of path.now) ≡ true }
-        ensures { (t : Seen) → result ≡ (nat_lt 0 (length (writers_in self.now)) || is_open_at (same_path (as_path path.now)) (files_seen t self.now)) }
+        ensures { (t : TreeState) → result ≡ (nat_lt 0 (length (writers_in self.now)) || is_open_at (same_path (as_path path.now)) (files_view t self.now)) }
     {
         self.is_writing() || self.is_open_at(path)
     }
@@ -299,7 +299,7 @@ impl Files {
     // Whether a file is open at the path of these bytes.
     pub(crate) fn is_open_at(&self, path: &[u8]) -> bool
         requires { is_some (path_of path.now) ≡ true }
-        ensures { (t : Seen) → result ≡ is_open_at (same_path (as_path path.now)) (files_seen t self.now) }
+        ensures { (t : TreeState) → result ≡ is_open_at (same_path (as_path path.now)) (files_view t self.now) }
     {
         is_open_among(&self.entries, path)
     }
@@ -308,7 +308,7 @@ impl Files {
     pub(crate) fn is_in_the_way(&self, from: &[u8], to: &[u8]) -> bool
         requires entry { bad_entry (path_of from.now) ≡ false }
         requires given { is_some (path_of to.now) ≡ true }
-        ensures { (t : Seen) → result ≡ is_open_at (is_in_the_way (as_path from.now) (as_path to.now)) (files_seen t self.now) }
+        ensures { (t : TreeState) → result ≡ is_open_at (is_in_the_way (as_path from.now) (as_path to.now)) (files_view t self.now) }
     {
         is_in_the_way_among(&self.entries, from, to)
     }

@@ -1,8 +1,8 @@
 // The global state, as it is answered.
 
 ghost use Rattle.std.specs.Prelude.{◌≡◌};
-ghost use Rattle.lfs_tag.specs.FieldsSeen.{move_seen};
-ghost use Rattle.lfs_fs.specs.GstateSeen.{gstate_reply, reply_of_gstate};
+ghost use Rattle.lfs_tag.specs.FieldsView.{move_view};
+ghost use Rattle.lfs_fs.specs.GstateView.{gstate_reply, reply_of_gstate};
 
 use lfs_tag::MoveState;
 use lfs_tag::kinds::DELETE;
@@ -17,7 +17,7 @@ pub struct Gstate {
 }
 
 pub(crate) fn gstate_of(state: &MoveState) -> Gstate
-    ensures { gstate_reply result ≡ reply_of_gstate (move_seen state.now) }
+    ensures { gstate_reply result ≡ reply_of_gstate (move_view state.now) }
 {
     let moving = if state.kind == DELETE {
         Some((state.pair, state.id))

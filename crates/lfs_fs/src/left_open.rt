@@ -4,8 +4,8 @@ ghost use Rattle.std.specs.Prelude.{◌≤◌};
 ghost use Rattle.lfs_model.specs.BlockSets.{in_flight_count};
 ghost use Rattle.lfs_model.specs.Operations.{Operation};
 ghost use Rattle.lfs_model.specs.Session.{held};
-ghost use Rattle.lfs_tree.specs.Seen.{IsCarried, Seen};
-ghost use Rattle.lfs_fs.specs.FileSeen.{OpenFiles, files_seen, writers_in};
+ghost use Rattle.lfs_tree.specs.TreeState.{IsAppliedOn, TreeState};
+ghost use Rattle.lfs_fs.specs.FileView.{OpenFiles, files_view, writers_in};
 ghost use Rattle.lfs_fs.specs.Held.{IsReady};
 ghost use Rattle.lfs_fs.specs.Staying.{AreLeft, KeepsWriters, SparesFiles};
 
@@ -15,8 +15,8 @@ use lfs_writer::held_blocks_are_room;
 // No more blocks are in flight than the session holds back, and what the tree carries out beside a
 // writer leaves its contents.
 pub(crate) fn open_files_stay()
-    ensures few { (t : Seen) (files : OpenFiles) → IsReady t files → in_flight_count t.map ≤ held t.disk.block_size (files_seen t files) }
-    ensures stay { (old new : Seen) (op : Operation) (files : OpenFiles) → IsReady old files → SparesFiles old op files → KeepsWriters old new (writers_in files) → IsCarried old op new → AreLeft old new files }
+    ensures few { (t : TreeState) (files : OpenFiles) → IsReady t files → in_flight_count t.map ≤ held t.disk.block_size (files_view t files) }
+    ensures stay { (old new : TreeState) (op : Operation) (files : OpenFiles) → IsReady old files → SparesFiles old op files → KeepsWriters old new (writers_in files) → IsAppliedOn old op new → AreLeft old new files }
 {
     contents_stay();
     carried_takes_few();

@@ -1,8 +1,8 @@
 //! Sessions over a littlefs image: open files, the checks of each operation in order, and runs.
 #![tactic(auto)]
 
-mod changing;
 mod checks;
+mod device_laws;
 mod files;
 mod flags;
 mod gstate;
@@ -13,7 +13,7 @@ mod reading;
 mod renaming;
 mod run;
 mod session;
-mod telling;
+mod writers;
 
 pub use flags::OpenFlags;
 pub use gstate::Gstate;

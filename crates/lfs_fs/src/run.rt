@@ -2,11 +2,11 @@
 
 ghost use Rattle.std.specs.Prelude.{◌≡◌, map, IfOk};
 ghost use Rattle.lfs_model.specs.Operations as operations;
-ghost use Rattle.lfs_lookup.specs.Finds.{list_item_seen};
+ghost use Rattle.lfs_lookup.specs.Finds.{list_item_view};
 ghost use Rattle.lfs_lookup.specs.Refusals.{is_refusal};
-ghost use Rattle.lfs_fs.specs.GstateSeen.{gstate_reply};
+ghost use Rattle.lfs_fs.specs.GstateView.{gstate_reply};
 ghost use Rattle.lfs_fs.specs.Replies.{reply_in};
-ghost use Rattle.lfs_fs.specs.OpSeen.{IsNamed, performed};
+ghost use Rattle.lfs_fs.specs.OpView.{IsNamed, performed};
 
 use crate::flags::OpenFlags;
 use crate::gstate::Gstate;
@@ -140,7 +140,7 @@ pub(crate) fn count(answer: Result<u32, Error>) -> Result<Reply, Error>
 }
 
 pub(crate) fn items(answer: Result<Vec<ListItem>, Error>) -> Result<Reply, Error>
-    ensures seen { performed result ≡ reply_in (λ items. operations.Items (map list_item_seen items.items)) answer }
+    ensures seen { performed result ≡ reply_in (λ items. operations.Items (map list_item_view items.items)) answer }
     ensures named { IfOk result IsNamed }
 {
     match answer {

@@ -8,33 +8,33 @@ ghost use Rattle.lfs_model.specs.Fresh.{empty_tree};
 ghost use Rattle.lfs_model.specs.Headline.{AgreesWithDisk, IsWhatItsDiskShows};
 ghost use Rattle.lfs_model.specs.History.{faults};
 ghost use Rattle.lfs_model.specs.State.{Healthy, mounted};
-ghost use Rattle.lfs_model.specs.Run.{AreTurns, Moment};
+ghost use Rattle.lfs_model.specs.Run.{AreSessionSteps, SystemState};
 ghost use Rattle.lfs_model.specs.Performed.{ArePerformed};
-ghost use Rattle.lfs_model.specs.Outages.{IsMounted, MayLosePower, SurvivesPowerLoss};
-ghost use Rattle.lfs_model.specs.PowerLoss.{Withstands};
+ghost use Rattle.lfs_model.specs.RepeatedPowerLoss.{IsMounted, MayLosePower, SurvivesPowerLoss};
+ghost use Rattle.lfs_model.specs.PowerLoss.{SurvivesLoss};
 ghost use Rattle.lfs_model.specs.declared.order.NameOrder.{NameOrder};
 ghost use Rattle.lfs_model.specs.declared.order.NameOrder.TheVariants.{LongerFirst, ShorterFirst};
 ghost use Rattle.lfs_device.specs.Shown.{ordered};
 ghost use Rattle.lfs_mount.specs.Either.{GivesDeviceBack};
 ghost use Rattle.lfs_thread.specs.Device.{two_of};
-ghost use Rattle.lfs_thread.specs.Kept.{disk_on, seen};
+ghost use Rattle.lfs_thread.specs.Kept.{disk_on, kept_view};
 ghost use Rattle.lfs_model.specs.Thread.{anchor};
 ghost use Rattle.lfs_model.specs.View.{IsAccepted};
-ghost use Rattle.lfs_lookup.specs.Finds.{list_item_seen};
+ghost use Rattle.lfs_lookup.specs.Finds.{list_item_view};
 ghost use Rattle.lfs_tree.specs.Formatting.{DeviceComesBack, IsFormatted, WritesFirstTwo};
-ghost use Rattle.lfs_tree.specs.Seen.{kept_of};
-ghost use Rattle.lfs_fs.specs.GstateSeen.{gstate_reply};
-ghost use Rattle.lfs_fs.specs.Held.{IsBegun, IsEndedBy, moment_of};
-ghost use Rattle.lfs_fs.specs.FlagsSeen.{flags_seen};
-ghost use Rattle.lfs_fs.specs.OpSeen.{IsNamed, op_seen, performed, reply_seen};
+ghost use Rattle.lfs_tree.specs.TreeState.{kept_of};
+ghost use Rattle.lfs_fs.specs.GstateView.{gstate_reply};
+ghost use Rattle.lfs_fs.specs.Held.{IsFreshSession, IsEndedBy, system_state_of};
+ghost use Rattle.lfs_fs.specs.FlagsView.{flags_view};
+ghost use Rattle.lfs_fs.specs.OpView.{IsNamed, op_view, performed, reply_view};
 ghost use Rattle.lfs_fs.specs.Sparing.{IsCall};
 
-use crate::changing::{begin_new, begin_there, save, truncate_by, write_by};
 use crate::checks::{
     check_get_attr, check_list, check_mkdir, check_open, check_open_reader, check_open_writer,
     check_remove, check_remove_attr, check_seek, check_set_attr, check_stat, check_sync,
     check_truncate, check_write,
 };
+use crate::device_laws::device_meets_laws;
 use crate::files::{Files, OpenFile};
 use crate::flags::OpenFlags;
 use crate::gstate::{Gstate, gstate_of};
@@ -43,7 +43,7 @@ use crate::owned_path::OwnedPath;
 use crate::reading::read_from;
 use crate::renaming::check_rename;
 use crate::run::{Op, Reply, bytes, count, done, fd, gstate, items, stat, yes};
-use crate::telling::device_tells;
+use crate::writers::{begin_new, begin_there, save, truncate_by, write_by};
 use bitflags::Flags;
 use lfs_device::{BlockDevice, Error, NameOrder, Ordered};
 use lfs_lookup::ListItem;
@@ -69,7 +69,7 @@ pub struct Session<D: BlockDevice> {
 
 impl<D: BlockDevice> Model for Session<D> {
     ghost use Rattle.lfs_fs.specs.Held.{Held, held_of};
-    ghost use Rattle.lfs_fs.specs.Told.{IsBetweenCalls};
+    ghost use Rattle.lfs_fs.specs.DeviceLaws.{IsBetweenCalls};
 
     ghost Value = { Held };
 
@@ -100,7 +100,7 @@ impl<D: BlockDevice> Session<D> {
     /// `Invalid` where the path isn't well formed; `NoEnt` or `NotDir` where a parent is missing or
     /// is a file; `NoEnt` where nothing stands there; `NotDir` where a file does.
     pub fn list(&mut self, alloc: Global, path: &[u8]) -> Result<Vec<ListItem>, Error>
-        ensures { IsCall self.old (ops.ListAll path.now) (reply_in (λ items. ops.Items (map list_item_seen items.items)) result) self.new }
+        ensures { IsCall self.old (ops.ListAll path.now) (reply_in (λ items. ops.Items (map list_item_view items.items)) result) self.new }
     {
         check_list(alloc, &mut self.tree, &self.files, path)
     }
@@ -172,7 +172,7 @@ impl<D: BlockDevice> Session<D> {
         open_files_stay();
         let path = check_mkdir(alloc, &mut self.tree, &self.files, path)?;
         let answer = self.tree.mkdir(alloc, &path);
-        device_tells(&self.tree);
+        device_meets_laws(&self.tree);
         answer
     }
 
@@ -190,7 +190,7 @@ impl<D: BlockDevice> Session<D> {
         open_files_stay();
         let path = check_remove(alloc, &mut self.tree, &self.files, path)?;
         let answer = self.tree.remove(alloc, &path);
-        device_tells(&self.tree);
+        device_meets_laws(&self.tree);
         answer
     }
 
@@ -217,7 +217,7 @@ impl<D: BlockDevice> Session<D> {
             return Ok(());
         }
         let answer = self.tree.rename(alloc, &renaming.from, &renaming.to);
-        device_tells(&self.tree);
+        device_meets_laws(&self.tree);
         answer
     }
 
@@ -243,7 +243,7 @@ impl<D: BlockDevice> Session<D> {
         open_files_stay();
         let path = check_set_attr(alloc, &mut self.tree, &self.files, path, kind, value)?;
         let answer = self.tree.set_attr(alloc, &path, kind, value);
-        device_tells(&self.tree);
+        device_meets_laws(&self.tree);
         answer
     }
 
@@ -260,7 +260,7 @@ impl<D: BlockDevice> Session<D> {
         open_files_stay();
         let path = check_remove_attr(alloc, &mut self.tree, &self.files, path, kind)?;
         let answer = self.tree.remove_attr(alloc, &path, kind);
-        device_tells(&self.tree);
+        device_meets_laws(&self.tree);
         answer
     }
 
@@ -281,14 +281,14 @@ impl<D: BlockDevice> Session<D> {
             return Err(Error::ReadOnly);
         }
         let answer = self.tree.recover(alloc);
-        device_tells(&self.tree);
+        device_meets_laws(&self.tree);
         answer
     }
 
     // Opens a file for reading.
     fn open_reader(&mut self, alloc: Global, path: &[u8], flags: OpenFlags) -> Result<u32, Error>
-        requires { (flags_seen flags).write ≡ false }
-        ensures { IsCall self.old (ops.Open path.now (flags_seen flags)) (reply_in ops.Opened result) self.new }
+        requires { (flags_view flags).write ≡ false }
+        ensures { IsCall self.old (ops.Open path.now (flags_view flags)) (reply_in ops.Opened result) self.new }
     {
         let contents = check_open_reader(alloc, &mut self.tree, &self.files, path, flags)?;
         let answer = self.files.add_reader(alloc, path, contents);
@@ -300,8 +300,8 @@ impl<D: BlockDevice> Session<D> {
 
     // Opens a file for writing.
     fn open_writer(&mut self, alloc: Global, path: &[u8], flags: OpenFlags) -> Result<u32, Error>
-        requires { (flags_seen flags).write ≡ true }
-        ensures { IsCall self.old (ops.Open path.now (flags_seen flags)) (reply_in ops.Opened result) self.new }
+        requires { (flags_view flags).write ≡ true }
+        ensures { IsCall self.old (ops.Open path.now (flags_view flags)) (reply_in ops.Opened result) self.new }
     {
         let found = check_open_writer(alloc, &mut self.tree, &self.files, path, flags)?;
         let Ok(owned) = OwnedPath::of(alloc, path) else {
@@ -315,12 +315,12 @@ impl<D: BlockDevice> Session<D> {
         let writer = match found.size {
             Some(size) => {
                 let answer = begin_there(alloc, &mut self.tree, owned, size, flags);
-                device_tells(&self.tree);
+                device_meets_laws(&self.tree);
                 answer?
             }
             None => {
                 let answer = begin_new(alloc, &mut self.tree, owned, flags);
-                device_tells(&self.tree);
+                device_meets_laws(&self.tree);
                 answer?
             }
         };
@@ -346,7 +346,7 @@ impl<D: BlockDevice> Session<D> {
     /// fewer than two blocks are free, or with [`TRUNCATE`](OpenFlags::TRUNCATE) too few for the
     /// file anew.
     pub fn open(&mut self, alloc: Global, path: &[u8], flags: OpenFlags) -> Result<u32, Error>
-        ensures { IsCall self.old (ops.Open path.now (flags_seen flags)) (reply_in ops.Opened result) self.new }
+        ensures { IsCall self.old (ops.Open path.now (flags_view flags)) (reply_in ops.Opened result) self.new }
     {
         if flags.contains(OpenFlags::WRITE) {
             self.open_writer(alloc, path, flags)
@@ -375,7 +375,7 @@ impl<D: BlockDevice> Session<D> {
             unreachable!()
         };
         let answer = write_by(alloc, &mut self.tree, writer, bytes);
-        device_tells(&self.tree);
+        device_meets_laws(&self.tree);
         let writer = answer?;
         self.files.put_back(fd, writer);
         Ok(bytes.len() as u32)
@@ -399,7 +399,7 @@ impl<D: BlockDevice> Session<D> {
             unreachable!()
         };
         let answer = truncate_by(alloc, &mut self.tree, writer, size);
-        device_tells(&self.tree);
+        device_meets_laws(&self.tree);
         let writer = answer?;
         self.files.put_back(fd, writer);
         Ok(())
@@ -422,7 +422,7 @@ impl<D: BlockDevice> Session<D> {
             unreachable!()
         };
         let answer = save(alloc, &mut self.tree, writer);
-        device_tells(&self.tree);
+        device_meets_laws(&self.tree);
         let writer = answer?;
         self.files.put_back(fd, writer);
         Ok(())
@@ -481,7 +481,7 @@ impl<D: BlockDevice> Session<D> {
             unreachable!()
         };
         let answer = save(alloc, &mut self.tree, writer);
-        device_tells(&self.tree);
+        device_meets_laws(&self.tree);
         answer?;
         Ok(())
     }
@@ -497,7 +497,7 @@ impl<D: BlockDevice> Session<D> {
     {
         self.files.clear();
         let answer = self.tree.remount(alloc);
-        device_tells(&self.tree);
+        device_meets_laws(&self.tree);
         answer
     }
 
@@ -527,7 +527,7 @@ impl<D: BlockDevice> Session<D> {
 
     // One operation. A refusal is a reply; an error leaves a failed session.
     fn perform(&mut self, alloc: Global, op: Op<'_>) -> Result<Reply, Error>
-        ensures call { IsCall self.old (op_seen op.entry) (performed result) self.new }
+        ensures call { IsCall self.old (op_view op.entry) (performed result) self.new }
         ensures named { IfOk result IsNamed }
     {
         match op {
@@ -556,7 +556,7 @@ impl<D: BlockDevice> Session<D> {
 
     fn fail(&mut self)
         ensures failed { self.new ≡ record self.old { tree = record self.old.tree { failed = true } } }
-        ensures withstands { (op : Operation) → Withstands (moment_of self.old) op (moment_of self.new) }
+        ensures survives_loss { (op : Operation) → SurvivesLoss (system_state_of self.old) op (system_state_of self.new) }
     {
         self.tree.fail();
     }
@@ -568,13 +568,13 @@ impl<D: BlockDevice> Session<D> {
     /// `Io`, `NoMemory` and, from a remount, `Corrupt`: the operations before it were carried out,
     /// and the session has failed.
     pub fn run(&mut self, alloc: Global, ops: &[Op<'_>]) -> Result<Vec<Reply>, Error>
-        ensures performed { IfOk result (λ replies. ArePerformed None (moment_of self.old) (map op_seen ops.now) (map reply_seen replies.items) (moment_of self.new)) }
+        ensures performed { IfOk result (λ replies. ArePerformed None (system_state_of self.old) (map op_view ops.now) (map reply_view replies.items) (system_state_of self.new)) }
         ensures named { IfOk result (λ replies. All IsNamed replies.items) }
         ensures no_fault { OnOk result (faults self.new.tree.history ≡ faults self.old.tree.history) }
-        ensures headline { IfOk result (λ replies. (from : Moment) (done : List Operation) (answers : List Answer) → AgreesWithDisk from → AreTurns from done answers (moment_of self.old)
-            → IsWhatItsDiskShows from (done ++ map op_seen ops.now) (answers ++ map reply_seen replies.items) (moment_of self.new)) }
-        ensures survives { MayLosePower (moment_of self.old) (moment_of self.new) → SurvivesPowerLoss (moment_of self.old) (map op_seen ops.now) (moment_of self.new) }
-        ensures ended { IfErr result (λ e. IsEndedBy e (moment_of self.old) (map op_seen ops.now) (moment_of self.new)) }
+        ensures headline { IfOk result (λ replies. (from : SystemState) (done : List Operation) (answers : List Answer) → AgreesWithDisk from → AreSessionSteps from done answers (system_state_of self.old)
+            → IsWhatItsDiskShows from (done ++ map op_view ops.now) (answers ++ map reply_view replies.items) (system_state_of self.new)) }
+        ensures survives { MayLosePower (system_state_of self.old) (system_state_of self.new) → SurvivesPowerLoss (system_state_of self.old) (map op_view ops.now) (system_state_of self.new) }
+        ensures ended { IfErr result (λ e. IsEndedBy e (system_state_of self.old) (map op_view ops.now) (system_state_of self.new)) }
     {
         let mut replies = Vec::new(alloc);
         for op in ops {
@@ -599,8 +599,8 @@ impl<D: BlockDevice> Session<D> {
 /// `Corrupt` exactly where no image is accepted there in either order. `Io` where a read failed, and
 /// `NoMemory` where memory isn't granted. The device comes back with an error.
 pub fn mount<D: BlockDevice>(alloc: Global, device: D) -> Result<Session<D>, (D, Error)>
-    ensures begun { IfOk result (λ s. IsBegun (ordered s.tree.disk.order (disk_on D.BlockDevice device)) (D.history device) s) }
-    ensures state { IfOk result (λ s. IsMounted (ordered s.tree.disk.order (disk_on D.BlockDevice device)) (moment_of s)) }
+    ensures begun { IfOk result (λ s. IsFreshSession (ordered s.tree.disk.order (disk_on D.BlockDevice device)) (D.history device) s) }
+    ensures state { IfOk result (λ s. IsMounted (ordered s.tree.disk.order (disk_on D.BlockDevice device)) (system_state_of s)) }
     ensures longer { IfOk result (λ s. s.tree.disk.order ≡ ShorterFirst → (ps : List Pair) → ¬ IsAccepted (ordered LongerFirst (disk_on D.BlockDevice device)) ps) }
     ensures corrupt { IfErr result (λ e. e.1 ≡ Error.Corrupt → (order : NameOrder) (ps : List Pair) → ¬ IsAccepted (ordered order (disk_on D.BlockDevice device)) ps) }
     ensures errors { IfErr result (λ e. (e.1 ≡ Error.Io) ⊎ (e.1 ≡ Error.Corrupt) ⊎ (e.1 ≡ Error.NoMemory)) }
@@ -608,7 +608,7 @@ pub fn mount<D: BlockDevice>(alloc: Global, device: D) -> Result<Session<D>, (D,
 {
     match mount_either(alloc, device) {
         Ok(tree) => {
-            device_tells(&tree);
+            device_meets_laws(&tree);
             Ok(Session {
                 tree,
                 files: Files::none(alloc),
@@ -626,9 +626,9 @@ pub fn mount<D: BlockDevice>(alloc: Global, device: D) -> Result<Session<D>, (D,
 /// Those of [`format_ordered`].
 pub fn format<D: BlockDevice>(alloc: Global, device: D) -> Result<Session<D>, (D, Error)>
     ensures formatted { IfOk result (λ s. IsFormatted (kept_of s.tree)) }
-    ensures state { IfOk result (λ s. (moment_of s).state ≡ Healthy (mounted empty_tree)) }
+    ensures state { IfOk result (λ s. (system_state_of s).state ≡ Healthy (mounted empty_tree)) }
     ensures geometry { IfOk result (λ s. SameGeometry (ordered LongerFirst (disk_on D.BlockDevice device)) s.tree.disk) }
-    ensures calls { IfOk result (λ s. WritesFirstTwo (seen (ordered LongerFirst (disk_on D.BlockDevice device)) (D.history device) [] []) (kept_of s.tree)) }
+    ensures calls { IfOk result (λ s. WritesFirstTwo (kept_view (ordered LongerFirst (disk_on D.BlockDevice device)) (D.history device) [] []) (kept_of s.tree)) }
     ensures back { IfErr result (λ e. DeviceComesBack D.BlockDevice (two_of anchor) device e.0 e.1) }
 {
     format_ordered(alloc, device, NameOrder::LongerFirst)
@@ -648,14 +648,14 @@ pub fn format_ordered<D: BlockDevice>(
     order: NameOrder,
 ) -> Result<Session<D>, (D, Error)>
     ensures formatted { IfOk result (λ s. IsFormatted (kept_of s.tree)) }
-    ensures state { IfOk result (λ s. (moment_of s).state ≡ Healthy (mounted empty_tree)) }
+    ensures state { IfOk result (λ s. (system_state_of s).state ≡ Healthy (mounted empty_tree)) }
     ensures geometry { IfOk result (λ s. SameGeometry (ordered order (disk_on D.BlockDevice device)) s.tree.disk) }
-    ensures calls { IfOk result (λ s. WritesFirstTwo (seen (ordered order (disk_on D.BlockDevice device)) (D.history device) [] []) (kept_of s.tree)) }
+    ensures calls { IfOk result (λ s. WritesFirstTwo (kept_view (ordered order (disk_on D.BlockDevice device)) (D.history device) [] []) (kept_of s.tree)) }
     ensures back { IfErr result (λ e. DeviceComesBack D.BlockDevice (two_of anchor) device e.0 e.1) }
 {
     match Tree::format(alloc, Ordered::new(device, order)) {
         Ok(tree) => {
-            device_tells(&tree);
+            device_meets_laws(&tree);
             Ok(Session {
                 tree,
                 files: Files::none(alloc),

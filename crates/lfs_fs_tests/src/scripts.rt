@@ -191,7 +191,7 @@ fn trees_at(script: &Script<'_>, done: usize) -> (usize, usize) {
 }
 
 /// Which tree is seen where so many operations were carried out, and the next one maybe.
-pub fn tree_seen<D: BlockDevice>(
+pub fn tree_view<D: BlockDevice>(
     alloc: Global,
     session: &mut Session<D>,
     script: &Script<'_>,

@@ -7,7 +7,7 @@ use crate::failing::{Faulty, has_failed};
 use crate::played::first_wrong;
 use crate::scenes::{RECOVERY, RENAMING, others, with_file_to_move};
 use crate::scripts::{
-    LENGTH, Script, carried_out, has_lost_nothing, long_rows, long_script, tree_seen,
+    LENGTH, Script, carried_out, has_lost_nothing, long_rows, long_script, tree_view,
 };
 use lfs_device::{Erased, Error, FaultDevice, RamDevice, Which};
 use lfs_fs::Op::Remount;
@@ -153,7 +153,7 @@ fn recovery_survived(
     done: usize,
 ) -> Result<Option<u64>, Error> {
     let mut session = mounted(alloc, copied(alloc, left)?)?;
-    let tree = tree_seen(alloc, &mut session, script, done)?;
+    let tree = tree_view(alloc, &mut session, script, done)?;
     let recovery = Script {
         rows: &RECOVERY,
         trees: script.trees,
@@ -210,7 +210,7 @@ fn failed_at(
 }
 
 // How many calls may fail, one at a time, and nothing is lost. None where something is.
-fn failures_told(alloc: Global) -> Result<Option<u64>, Error> {
+fn failures_reported(alloc: Global) -> Result<Option<u64>, Error> {
     let rows = long_rows(OpenFlags::WRITE | OpenFlags::CREATE);
     let script = long_script(&rows);
     let empty = small(alloc)?;
@@ -228,7 +228,7 @@ fn failures_told(alloc: Global) -> Result<Option<u64>, Error> {
 
 #[test]
 fn nothing_is_lost_where_a_call_fails(rt: HostRuntime) -> Result<(), Fail> {
-    let calls = failures_told(rt.alloc())?;
+    let calls = failures_reported(rt.alloc())?;
     assert!(rt; calls.is_some_and(|calls| calls > 20), "{calls:?}");
     Ok(())
 }

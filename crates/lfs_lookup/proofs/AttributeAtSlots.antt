@@ -16,10 +16,10 @@ use Rattle.lfs_model.specs.Thread.{Pair}
 use Rattle.lfs_model.specs.Tree.{Path, node_of}
 use Rattle.lfs_model.specs.Shown.{contents_in, entries_in, tree_in}
 use Rattle.lfs_thread.specs.Kept.{Kept, State}
-use Rattle.lfs_thread.specs.Lent.{at_hand}
+use Rattle.lfs_thread.specs.CachedLog.{cached_log}
 use Rattle.lfs_thread.specs.Steps.{no_pair}
 use Rattle.lfs_lookup.specs.AtPath.{ShowsAt}
-use Rattle.lfs_lookup.specs.AttributeAt.{AreHeld, IsAtHand, IsAttribute, IsShort, slot_shown}
+use Rattle.lfs_lookup.specs.AttributeAt.{AreHeld, IsPairCached, IsAttribute, IsShort, slot_shown}
 use Rattle.lfs_lookup.specs.BytesAt.{IsSlotAt}
 use Rattle.lfs_lookup.specs.Paths.{IsSlotOf}
 use Rattle.lfs_lookup.specs.declared.finding.FoundAttribute.{FoundAttribute}
@@ -133,8 +133,8 @@ pub slot_within : (t : Kept) (path : Path) (x : Shown) (slot : Option Spot) (now
 slot_within t path x None now s e same = tt
 slot_within t path x (Some spot) now s e same = subst (λ ps. spot.pair < length ps) (sym same) (slot_for t path x spot s (sym e)).below
 
-pub slot_at_hand : (t : State) (x : Shown) (slot : Option Spot) → IsAtHand t x → slot ≡ slot_shown x → IfSome slot (λ s. IsSome (at_hand t s.pair))
-slot_at_hand t x slot h e = subst (λ (o : Option Spot). IfSome o (λ s. IsSome (at_hand t s.pair))) (sym e) h
+pub slot_is_cached : (t : State) (x : Shown) (slot : Option Spot) → IsPairCached t x → slot ≡ slot_shown x → IfSome slot (λ s. IsSome (cached_log t s.pair))
+slot_is_cached t x slot h e = subst (λ (o : Option Spot). IfSome o (λ s. IsSome (cached_log t s.pair))) (sym e) h
 
 pub attribute_same : (kind : ℕ) (old new : Attributes) (r : Result (Option (Vec ℕ Global)) Error) → old ≡ new → IfOk r (IsAttribute kind old) → IfOk r (IsAttribute kind new)
 attribute_same kind old new r e h = subst (λ a. IfOk r (IsAttribute kind a)) e h

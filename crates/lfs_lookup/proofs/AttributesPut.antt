@@ -7,7 +7,7 @@ use Rattle.std.proofs.lemmas.List.Sums.{sum_by-cons}
 use Rattle.lfs_model.specs.Content.{attribute_of, put_attribute}
 use Rattle.lfs_model.specs.LoggedContent.{Ascend}
 use Rattle.lfs_model.specs.Slots.{Attributes, attributes_size}
-use Rattle.lfs_tag.specs.ContentSeen.{attribute_seen}
+use Rattle.lfs_tag.specs.ContentView.{attribute_view}
 use Rattle.lfs_tag.specs.declared.content.Attribute.{Attribute}
 use Rattle.lfs_lookup.specs.AttributeAt.{IsAttributesSize, TakesPlace}
 
@@ -64,15 +64,15 @@ sized xs size h e = record { is = e; small = (let b = size_bound 0 xs (omega ari
 
 -- the sizes from one of them on
 size_on : (xs : List Attribute) (i : ℕ) (d : Attribute) → i < length xs
-    → attributes_size (map attribute_seen (drop i xs)) ≡ (4 + length (get_or xs i d).bytes.now) + attributes_size (map attribute_seen (drop (suc i) xs))
+    → attributes_size (map attribute_view (drop i xs)) ≡ (4 + length (get_or xs i d).bytes.now) + attributes_size (map attribute_view (drop (suc i) xs))
 size_on [] i d l = absurd (omega arith)
-size_on (x ∷ xs) zero d l = sum_by-cons (λ (a : ℕ × List ℕ). 4 + length a.1) (attribute_seen x) (map attribute_seen xs)
+size_on (x ∷ xs) zero d l = sum_by-cons (λ (a : ℕ × List ℕ). 4 + length a.1) (attribute_view x) (map attribute_view xs)
 size_on (x ∷ xs) (suc i) d l = size_on xs i d (omega arith)
 
 -- one more size is no overflow
-pub size_fits : (xs : List Attribute) (i : ℕ) (d : Attribute) (size : ℕ) → i < length xs → Ascend 0 (map attribute_seen xs) → size + attributes_size (map attribute_seen (drop i xs)) ≡ attributes_size (map attribute_seen xs)
+pub size_fits : (xs : List Attribute) (i : ℕ) (d : Attribute) (size : ℕ) → i < length xs → Ascend 0 (map attribute_view xs) → size + attributes_size (map attribute_view (drop i xs)) ≡ attributes_size (map attribute_view xs)
     → Fits w64 (size + (4 + length (get_or xs i d).bytes.now))
 size_fits xs i d size l h so_far =
     let on = size_on xs i d l in
-    let bound = size_bound 0 (map attribute_seen xs) (omega arith) h in
+    let bound = size_bound 0 (map attribute_view xs) (omega arith) h in
     omega arith

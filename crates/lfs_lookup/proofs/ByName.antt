@@ -18,7 +18,7 @@ use Rattle.lfs_model.specs.Slots.{Slot}
 use Rattle.lfs_model.proofs.Counts.{Each}
 use Rattle.lfs_model.proofs.Orders.{Stand, below, same, above, stand, put_both}
 use Rattle.lfs_lookup.specs.ByName.{AreByName, comes_before}
-use Rattle.lfs_lookup.specs.Items.{Shape, item_seen, items_seen, shape_of}
+use Rattle.lfs_lookup.specs.Items.{Shape, item_view, items_view, shape_of}
 use Rattle.lfs_lookup.specs.declared.items.Item.{Item}
 
 -- one of some
@@ -82,13 +82,13 @@ less_is Greater = refl
 abbrev pub is_named_before : Item → Item → Bool
 is_named_before a b = is_lt (slice_cmp nat_cmp a.name.items b.name.items)
 
-pub seen_by_name : (old new : List Item) → IsPermutation old new → IsSortedBy is_named_before new → AreByName (items_seen old) (items_seen new)
+pub seen_by_name : (old new : List Item) → IsPermutation old new → IsSortedBy is_named_before new → AreByName (items_view old) (items_view new)
 seen_by_name old new same_items rise = record {
-  permutation = IsPermutation-map item_seen old new same_items;
+  permutation = IsPermutation-map item_view old new same_items;
   sorted = λ k d l m.
-      let long = length-map new item_seen in
+      let long = length-map new item_view in
       let e : Item = some_in new (omega (arith, m, long)) in
-      ap₂ comes_before (get_or-map item_seen new (k + 1) e d (omega (arith, m, long))) (get_or-map item_seen new k e d (omega (arith, m, long)))
+      ap₂ comes_before (get_or-map item_view new (k + 1) e d (omega (arith, m, long))) (get_or-map item_view new k e d (omega (arith, m, long)))
       ∙ less_is (slice_cmp nat_cmp (get_or new (k + 1) e).name.items (get_or new k e).name.items) ∙ rise k e l (omega (arith, m, long));
 }
 

@@ -6,7 +6,7 @@ use Rattle.std.proofs.lemmas.List.{map-append}
 use Rattle.std.proofs.lemmas.List.Sums.{sum_by-append, sum_by-cons}
 use Rattle.lfs_device.specs.declared.error.Error.{Error}
 use Rattle.lfs_model.specs.Disk.{Disk}
-use Rattle.lfs_model.specs.Discipline.{pairs_of_path, parents}
+use Rattle.lfs_model.specs.Frame.{pairs_of_path, parents}
 use Rattle.lfs_model.specs.History.{reads}
 use Rattle.lfs_model.specs.InDirectory.{run_length}
 use Rattle.lfs_model.specs.Names.{Name}

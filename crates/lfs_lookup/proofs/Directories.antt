@@ -6,7 +6,7 @@ use Rattle.std.proofs.lemmas.Bool.{lt-ltb}
 use Rattle.std.proofs.lemmas.List.{map-append}
 use Rattle.std.proofs.Math.Seq.{drop-append_seam}
 use Rattle.std.proofs.lemmas.Option.{same_Some, slice_get_within}
-use Rattle.lfs_model.specs.Discipline.{pairs_at}
+use Rattle.lfs_model.specs.Frame.{pairs_at}
 use Rattle.lfs_model.specs.Disk.{Disk}
 use Rattle.lfs_model.specs.Slots.{Gstate, same_pair}
 use Rattle.lfs_model.specs.Thread.{Pair, blocks_of, directories_of, directory_pairs, entries_of, gstate_of, is_hard, superblocks_before, visible}
@@ -42,7 +42,7 @@ run_hard_on ps index next d l hard e =
 pub run_some_on : (ps : List Pair) (index : ℕ) (d : Pair) → index < length ps → 1 ≤ length (joined_run (drop index ps))
 run_some_on ps index d l = let e = ap length (run_on ps index d l) in omega (arith, e)
 
--- the one of that number, and those that follow; qs are the pairs at hand then
+-- the one of that number, and those that follow; qs are the cached pairs then
 pub run_next : (ps qs : List Pair) (index : ℕ) (d : Pair) (from next : Option ℕ) → qs ≡ ps → from ≡ Some index → index < length ps → next ≡ cond (is_hard (get_or qs index d).content.tail) (Some (index + 1)) None →
     run_from ps from ≡ get_or qs index d ∷ run_from ps next
 run_next ps qs index d from next same at l e =
@@ -66,7 +66,7 @@ shapes_on ps index d next l e =
     go true = refl
     go false = refl
 
--- one pair more was listed; qs are the pairs at hand then
+-- one pair more was listed; qs are the cached pairs then
 pub list_on : (ps qs : List Pair) (first index : ℕ) (d : Pair) (from next : Option ℕ) (olds more news : List Shape) → qs ≡ ps → from ≡ Some index → index < length ps →
     more ≡ map shape_of (visible (gstate_of qs) (get_or qs index d)) → next ≡ cond (is_hard (get_or qs index d).content.tail) (Some (index + 1)) None → news ≡ olds ++ more →
     olds ++ shapes_from ps from ≡ shapes_from ps (Some first) → news ++ shapes_from ps next ≡ shapes_from ps (Some first)

@@ -22,13 +22,13 @@ use Rattle.lfs_thread.specs.Kept.{Kept}
 use Rattle.lfs_lookup.specs.Entry.{ShowsContents}
 use Rattle.lfs_lookup.specs.declared.entry.Contents.{Contents}
 use Rattle.lfs_lookup.specs.declared.entry.Contents.TheVariants as contents
-use Rattle.lfs_lookup.specs.Paths.{BeginsOnPath, IsHiding, IsSettled}
+use Rattle.lfs_lookup.specs.Paths.{BeginsOnPath, IsHiding, HasNothingSet}
 use Rattle.lfs_lookup.specs.Search.{HidesFrom, IsAbsentAlong, IsShown}
 use Rattle.lfs_lookup.specs.declared.entry.Entry.{Entry}
 use Rattle.lfs_lookup.specs.declared.search.Spot.{Spot}
 use Rattle.lfs_lookup.proofs.ShownSlots.{shown_is, absent_is_shown}
 
-module _ (t : Kept) (ok : IsSettled t) (path : Path) (first : ℕ) (on : BeginsOnPath t.pairs path first) where
+module _ (t : Kept) (ok : HasNothingSet t) (path : Path) (first : ℕ) (on : BeginsOnPath t.pairs path first) where
   pub plain_on : HaveNoSuperblock (drop (first + 1) t.pairs)
   plain_on =
       let i = begins_directory t.disk t.pairs path on.at first ok.accepted on.leads on.begins in
@@ -93,5 +93,5 @@ hides_none : (index : ℕ) (ps : List Pair) → HidesFrom no_gstate None index p
 hides_none index [] = tt
 hides_none index (p ∷ ps) = (refl, hides_none (index + 1) ps)
 
-pub hiding_none : (t : Kept) → IsSettled t → IsHiding t None
+pub hiding_none : (t : Kept) → HasNothingSet t → IsHiding t None
 hiding_none t ok = record { accepted = ok.accepted; hides = subst (λ g. HidesFrom g None 0 t.pairs) (sym ok.settled) (hides_none 0 t.pairs) }

@@ -8,8 +8,8 @@ use Rattle.lfs_model.specs.Thread.{Pair}
 use Rattle.lfs_model.specs.Tree.{Path}
 use Rattle.std.specs.Prelude.{IsSome}
 use Rattle.lfs_thread.specs.Kept.{State}
-use Rattle.lfs_thread.specs.Lent.{at_hand}
-use Rattle.lfs_lookup.specs.AttributeAt.{IsAtHand}
+use Rattle.lfs_thread.specs.CachedLog.{cached_log}
+use Rattle.lfs_lookup.specs.AttributeAt.{IsPairCached}
 use Rattle.lfs_lookup.specs.BytesAt.{file_shown}
 use Rattle.lfs_lookup.specs.FileContents.{AreContentsAt, AreContentsOf}
 use Rattle.lfs_lookup.specs.declared.entry.Contents.{Contents}
@@ -25,6 +25,6 @@ whole bytes len e = take_all len bytes (omega (arith, e))
 pub contents_at : (ps : List Pair) (path : Path) (held : Slot) (contents : FileContents) → slot_of_path ps path ≡ Some held → AreContentsOf held.struct contents → AreContentsAt ps path contents
 contents_at ps path held contents at is = record { struct = ap (option_map (λ (u : Slot). u.struct)) at ∙ ap Some (sym is.struct); fits = is.fits }
 
--- the block of a file that is shown is at hand
-pub file_at_hand : (t : State) (x : Shown) (slot : Spot) (contents : Contents) → IsAtHand t x → file_shown x ≡ Some (slot, contents) → IsSome (at_hand t slot.pair)
-file_at_hand t x slot contents h e = subst (λ z. IsAtHand t z) (is_file_of x slot contents e) h
+-- the block of a file that is shown is cached
+pub file_at_hand : (t : State) (x : Shown) (slot : Spot) (contents : Contents) → IsPairCached t x → file_shown x ≡ Some (slot, contents) → IsSome (cached_log t slot.pair)
+file_at_hand t x slot contents h e = subst (λ z. IsPairCached t z) (is_file_of x slot contents e) h

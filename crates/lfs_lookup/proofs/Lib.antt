@@ -8,7 +8,7 @@ mod ShownSlots
 mod HiddenSlots
 mod Entered
 pub mod Descended
-pub mod BroughtDown
+pub mod LoadedDown
 pub mod ItemsShown
 pub mod Reading
 pub mod Directories

@@ -21,7 +21,7 @@ use Rattle.lfs_model.proofs.Paths.{name_from_same, same_itself}
 use Rattle.lfs_model.proofs.FirstEntries.{superblock_type}
 use Rattle.lfs_model.specs.InDirectory.{entries_only, StandsAt, BeginsAbove, PlaceAt}
 use Rattle.lfs_lookup.specs.Search.{IsAbsentBut}
-use Rattle.lfs_tag.specs.ContentSeen.{part_seen}
+use Rattle.lfs_tag.specs.ContentView.{part_view}
 use Rattle.lfs_tag.specs.declared.content.Part.{Part}
 
 -- ---- one slot
@@ -255,9 +255,9 @@ module _ (by : NameOrder) (content : Content) (name : Name) (skip : Option ℕ) 
 
 -- ---- a part that is read
 
-pub some_part : (o : Option Part) (held : Option (ℕ × List ℕ)) (part : ℕ × List ℕ) → option_map part_seen o ≡ held → held ≡ Some part → IsSome o
+pub some_part : (o : Option Part) (held : Option (ℕ × List ℕ)) (part : ℕ × List ℕ) → option_map part_view o ≡ held → held ≡ Some part → IsSome o
 some_part None held part e f = absurd (let k = e ∙ f in cc)
 some_part (Some p) held part e f = search rules
 
-pub part_is : (o : Option Part) (p : Part) (held : Option (ℕ × List ℕ)) (part : ℕ × List ℕ) → o ≡ Some p → option_map part_seen o ≡ held → held ≡ Some part → part_seen p ≡ part
-part_is o p held part is e f = same_Some (part_seen p) part (sym (ap (option_map part_seen) is) ∙ e ∙ f)
+pub part_is : (o : Option Part) (p : Part) (held : Option (ℕ × List ℕ)) (part : ℕ × List ℕ) → o ≡ Some p → option_map part_view o ≡ held → held ≡ Some part → part_view p ≡ part
+part_is o p held part is e f = same_Some (part_view p) part (sym (ap (option_map part_view) is) ∙ e ∙ f)

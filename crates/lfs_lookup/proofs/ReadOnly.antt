@@ -7,7 +7,7 @@ use Rattle.lfs_model.specs.Disk.{Disk}
 use Rattle.lfs_model.specs.History.{faults}
 use Rattle.lfs_model.proofs.Histories.{OnlyReads-trans}
 use Rattle.lfs_thread.specs.Kept.{Kept}
-use Rattle.lfs_thread.specs.Steps.{HasTold, IsOnlyRead}
+use Rattle.lfs_thread.specs.Steps.{HasReported, IsOnlyRead}
 
 pub only_read : (a b c : Kept) → IsOnlyRead a b → IsOnlyRead b c → IsOnlyRead a c
 only_read a b c r s = record {
@@ -21,9 +21,9 @@ same_error : (X : Type 0) (e f : Error) → (let r : Result X Error = Err e in r
 same_error X e f h = cc
 
 -- the error of the last of them is passed on
-pub told_on : {X Y : Type 0} (a b c : Kept) (first : Result X Error) (second : Result Y Error) (e f : Error) → IsOnlyRead a c → faults b.history ≡ faults a.history → HasTold b c first
-    → first ≡ Err e → second ≡ Err f → f ≡ e → HasTold a c second
-told_on {X = X} {Y = Y} a b c first second e f r same t is now passed = record {
+pub reported_on : {X Y : Type 0} (a b c : Kept) (first : Result X Error) (second : Result Y Error) (e f : Error) → IsOnlyRead a c → faults b.history ≡ faults a.history → HasReported b c first
+    → first ≡ Err e → second ≡ Err f → f ≡ e → HasReported a c second
+reported_on {X = X} {Y = Y} a b c first second e f r same t is now passed = record {
   errors = subst (λ (r : Result Y Error). IfErr r (λ e. (e ≡ Io) ⊎ (e ≡ NoMemory))) (sym (now ∙ ap Err passed)) (subst (λ (r : Result X Error). IfErr r (λ e. (e ≡ Io) ⊎ (e ≡ NoMemory))) is t.errors);
   fault = λ gives. let k = t.fault (is ∙ ap Err (same_error Y e Io (sym (now ∙ ap Err passed) ∙ gives))) in omega (arith, k, same);
   no_fault = λ other. t.no_fault (λ gives. other (now ∙ ap Err (passed ∙ same_error X e Io (sym is ∙ gives)))) ∙ same;
@@ -31,8 +31,8 @@ told_on {X = X} {Y = Y} a b c first second e f r same t is now passed = record {
 }
 
 -- the last of them tells the same of all
-pub told_behind : {X : Type 0} (a b c : Kept) (result : Result X Error) → IsOnlyRead a b → faults b.history ≡ faults a.history → IsOnlyRead b c → HasTold b c result → HasTold a c result
-told_behind a b c result r same s t = record {
+pub reported_behind : {X : Type 0} (a b c : Kept) (result : Result X Error) → IsOnlyRead a b → faults b.history ≡ faults a.history → IsOnlyRead b c → HasReported b c result → HasReported a c result
+reported_behind a b c result r same s t = record {
   errors = t.errors;
   fault = λ gives. let k = t.fault gives in omega (arith, k, same);
   no_fault = λ other. t.no_fault other ∙ same;

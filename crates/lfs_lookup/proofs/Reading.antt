@@ -16,7 +16,7 @@ pub record HasRead (old new : State) : Type 0 where
   pub same : faults new.kept.history ≡ faults old.kept.history
 
 pub answered : {X : Type 0} (a b : State) (r : Result X Error) (x : X) → r ≡ Ok x → IsReading a b r → HasRead a b
-answered a b r x e h = record { only = h.only; works = h.works; same = h.told.no_fault (λ k. let z = sym e ∙ k in absurd (cc)) }
+answered a b r x e h = record { only = h.only; works = h.works; same = h.reported.no_fault (λ k. let z = sym e ∙ k in absurd (cc)) }
 
 pub has_read_nothing : (a : State) → a.failed ≡ false → HasRead a a
 has_read_nothing a works = record { only = only_itself a.kept; works = works; same = refl }
@@ -30,10 +30,10 @@ further a b c r h s =
     record {
       only = only_read a.kept b.kept c.kept h.only s.only;
       works = s.works;
-      told = record {
-        errors = s.told.errors;
-        fault = λ e. let k = s.told.fault e in omega (arith, k, same);
-        no_fault = λ e. s.told.no_fault e ∙ same;
+      reported = record {
+        errors = s.reported.errors;
+        fault = λ e. let k = s.reported.fault e in omega (arith, k, same);
+        no_fault = λ e. s.reported.no_fault e ∙ same;
         unwritten = λ e. (let o = only_read a.kept b.kept c.kept h.only s.only in record { disk = o.disk; reads = o.reads });
       };
     }
@@ -42,7 +42,7 @@ pub answers : {X : Type 0} (a b : State) (r : Result X Error) (x : X) → r ≡ 
 answers {X = X} a b r x e h = record {
   only = h.only;
   works = h.works;
-  told = record {
+  reported = record {
     errors = subst (λ (z : Result X Error). IfErr z (λ f. (f ≡ Io) ⊎ (f ≡ NoMemory))) (sym e) tt;
     fault = λ k. let z = sym e ∙ k in absurd (cc);
     no_fault = λ k. h.same;
@@ -54,7 +54,7 @@ pub lacks_memory : {X : Type 0} (a b : State) (r : Result X Error) → r ≡ Err
 lacks_memory {X = X} a b r e h = record {
   only = h.only;
   works = h.works;
-  told = record {
+  reported = record {
     errors = subst (λ (z : Result X Error). IfErr z (λ f. (f ≡ Io) ⊎ (f ≡ NoMemory))) (sym e) (inr refl);
     fault = λ k. let z = sym e ∙ k in absurd (cc);
     no_fault = λ k. h.same;
@@ -70,10 +70,10 @@ pub passed : {X Y : Type 0} (a b : State) (r : Result X Error) (s : Result Y Err
 passed {X = X} {Y = Y} a b r s e f is now same h = record {
   only = h.only;
   works = h.works;
-  told = record {
-    errors = subst (λ (z : Result Y Error). IfErr z (λ g. (g ≡ Io) ⊎ (g ≡ NoMemory))) (sym (now ∙ ap Err same)) (subst (λ (z : Result X Error). IfErr z (λ g. (g ≡ Io) ⊎ (g ≡ NoMemory))) is h.told.errors);
-    fault = λ k. h.told.fault (is ∙ ap Err (same_error Y e Io (sym (now ∙ ap Err same) ∙ k)));
-    no_fault = λ k. h.told.no_fault (λ z. k (now ∙ ap Err (same ∙ same_error X e Io (sym is ∙ z))));
+  reported = record {
+    errors = subst (λ (z : Result Y Error). IfErr z (λ g. (g ≡ Io) ⊎ (g ≡ NoMemory))) (sym (now ∙ ap Err same)) (subst (λ (z : Result X Error). IfErr z (λ g. (g ≡ Io) ⊎ (g ≡ NoMemory))) is h.reported.errors);
+    fault = λ k. h.reported.fault (is ∙ ap Err (same_error Y e Io (sym (now ∙ ap Err same) ∙ k)));
+    no_fault = λ k. h.reported.no_fault (λ z. k (now ∙ ap Err (same ∙ same_error X e Io (sym is ∙ z))));
     unwritten = λ k. record { disk = h.only.disk; reads = h.only.reads };
   };
 }

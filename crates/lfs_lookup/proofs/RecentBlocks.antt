@@ -10,9 +10,9 @@ use Rattle.lfs_model.specs.History.{reads}
 use Rattle.lfs_model.specs.Thread.{Pair}
 use Rattle.lfs_pair.specs.Pair.{active_at}
 use Rattle.lfs_thread.specs.Kept.{Kept, State}
-use Rattle.lfs_thread.specs.Lent.{at_hand, brought as brought_in}
+use Rattle.lfs_thread.specs.CachedLog.{cached_log, cache_after_load as loaded_in}
 use Rattle.lfs_thread.specs.Steps.{pair_in}
-use Rattle.lfs_lookup.specs.AtHand.{AreAtHand, BringsAlong, IsBrought, IsRecent, StayAtHand}
+use Rattle.lfs_lookup.specs.CachedPairs.{AreCached, LoadsAlong, IsLoaded, IsRecent, StayCached}
 
 same : (b : ℕ) → nat_eq b b ≡ true
 same b = search arith
@@ -42,7 +42,7 @@ wider (suc m) (suc n) c (e ∷ es) l h = go (nat_eq c e.0) (wider m n c es (omeg
     go true next k = refl
     go false next k = next k
 
--- and is at hand
+-- and is cached
 pub is_cached : (n c : ℕ) (cache : CachedBlocks) → IsRecent n cache c → IsSome (cached cache c)
 is_cached zero c cache h = absurd (in_none c h)
 is_cached (suc n) c [] h = absurd (in_none c h)
@@ -97,14 +97,14 @@ module _ (cache : CachedBlocks) (b : ℕ) (bytes : List ℕ) where
       go true is = refl
       go false is = subst (λ es. IsSome (cached es c)) (sym (take-take n 7 (without cache b) (omega (arith, few)))) (h is)
 
-  pub brought : IsBrought b cache (put_first cache b bytes)
+  pub brought : IsLoaded b cache (put_first cache b bytes)
   brought = record {
     first = here (nat_eq b b) bytes None (same b);
     others = λ n c few h. front n c few (λ other. past b c other n cache h);
   }
 
-  pub stay_brought : IsRecent cache_limit cache b → StayAtHand cache (put_first cache b bytes)
-  stay_brought there c h = front 7 c (omega arith) (λ other. closer b c other cache 7 there h)
+  pub stay_loaded : IsRecent cache_limit cache b → StayCached cache (put_first cache b bytes)
+  stay_loaded there c h = front 7 c (omega arith) (λ other. closer b c other cache 7 there h)
 
 -- ---- along the pairs of a directory
 
@@ -129,27 +129,27 @@ Passes r s = (P : Type 0) → OnOk r P → OnOk s P
 pub passes_none : {X Y : Type 0} (r : Result X Error) (s : Result Y Error) (e : Error) → s ≡ Err e → Passes r s
 passes_none r s e is = λ P p. on_err s e P is
 
-pub along_as : {X Y : Type 0} (ps : List Pair) (old new : State) (r : Result X Error) (s : Result Y Error) → Passes r s → BringsAlong ps old new r → BringsAlong ps old new s
+pub along_as : {X Y : Type 0} (ps : List Pair) (old new : State) (r : Result X Error) (s : Result Y Error) → Passes r s → LoadsAlong ps old new r → LoadsAlong ps old new s
 along_as ps old new r s pass b = record { none = b.none; stay = λ there. pass _ (b.stay there); one = λ e. pass _ (b.one e) }
 
--- a pair is brought without a call where it is at hand
-pub brings_one : {X : Type 0} (old new : State) (index : ℕ) (s : Result X Error) → (IsSome (at_hand old index) → new.kept ≡ old.kept)
-    → OnOk s (new.cache ≡ brought_in old index) → BringsAlong (pair_in old.kept index ∷ []) old new s
-brings_one old new index s no_call was = record {
+-- a pair is brought without a call where it is cached
+pub loads_one : {X : Type 0} (old new : State) (index : ℕ) (s : Result X Error) → (IsSome (cached_log old index) → new.kept ≡ old.kept)
+    → OnOk s (new.cache ≡ loaded_in old index) → LoadsAlong (pair_in old.kept index ∷ []) old new s
+loads_one old new index s no_call was = record {
   none = λ there. ap (λ (t : Kept). reads t.history) (no_call (is_cached cache_limit b old.cache there.0));
-  stay = λ there. after s (λ e. subst (StayAtHand old.cache) (sym e) (stay_brought old.cache b (block_at old.kept.disk b) there.0)) was;
-  one = λ e. after s (λ e. (subst (IsBrought b old.cache) (sym e) (brought old.cache b (block_at old.kept.disk b)), tt)) was;
+  stay = λ there. after s (λ e. subst (StayCached old.cache) (sym e) (stay_loaded old.cache b (block_at old.kept.disk b) there.0)) was;
+  one = λ e. after s (λ e. (subst (IsLoaded b old.cache) (sym e) (brought old.cache b (block_at old.kept.disk b)), tt)) was;
 }
   where
     b : ℕ
     b = active_at old.kept.disk (pair_in old.kept index).at
 
--- The pairs of a run up to the rest were brought: where all are at hand nothing was read.
+-- The pairs of a run up to the rest were brought: where all are cached nothing was read.
 pub record HasKept (run rest : List Pair) (old now : State) : Type 0 where
   pub disk : now.kept.disk ≡ old.kept.disk
-  pub none : AreAtHand old run → reads now.kept.history ≡ reads old.kept.history
-  pub stay : AreAtHand old run → StayAtHand old.cache now.cache
-  pub left : AreAtHand old run → AreAtHand old rest
+  pub none : AreCached old run → reads now.kept.history ≡ reads old.kept.history
+  pub stay : AreCached old run → StayCached old.cache now.cache
+  pub left : AreCached old run → AreCached old rest
 
 -- and where there is one alone it is still to be brought
 pub record HasBrought (run rest : List Pair) (old now : State) : Type 0 where
@@ -159,41 +159,41 @@ pub record HasBrought (run rest : List Pair) (old now : State) : Type 0 where
 pub kept_none : (run : List Pair) (old : State) → HasKept run run old old
 kept_none run old = record { disk = refl; none = λ there. refl; stay = λ there b h. h; left = λ there. there }
 
-pub brought_none : (run : List Pair) (old : State) → HasBrought run run old old
-brought_none run old = record { kept = kept_none run old; begun = λ e. (refl, refl) }
+pub loaded_none : (run : List Pair) (old : State) → HasBrought run run old old
+loaded_none run old = record { kept = kept_none run old; begun = λ e. (refl, refl) }
 
 module _ {X : Type 0} (run rest more : List Pair) (p : Pair) (old now new : State) (r : Result X Error) (h : HasKept run rest old now) (is : rest ≡ p ∷ more)
-    (b : BringsAlong (p ∷ []) now new r) where
-  here_at_hand : AreAtHand old run → AreAtHand now (p ∷ [])
-  here_at_hand there =
-      let k = subst (AreAtHand old) is (h.left there) in
+    (b : LoadsAlong (p ∷ []) now new r) where
+  here_is_cached : AreCached old run → AreCached now (p ∷ [])
+  here_is_cached there =
+      let k = subst (AreCached old) is (h.left there) in
       (subst (λ d. IsRecent cache_limit now.cache (active_at d p.at)) (sym h.disk) (h.stay there _ k.0), tt)
 
-  pub none_on : AreAtHand old run → reads new.kept.history ≡ reads old.kept.history
-  none_on there = b.none (here_at_hand there) ∙ h.none there
+  pub none_on : AreCached old run → reads new.kept.history ≡ reads old.kept.history
+  none_on there = b.none (here_is_cached there) ∙ h.none there
 
-  pub stay_on : AreAtHand old run → OnOk r (StayAtHand old.cache new.cache)
-  stay_on there = after r (λ st x k. st x (h.stay there x k)) (b.stay (here_at_hand there))
+  pub stay_on : AreCached old run → OnOk r (StayCached old.cache new.cache)
+  stay_on there = after r (λ st x k. st x (h.stay there x k)) (b.stay (here_is_cached there))
 
   pub keeps_on : (x : X) → r ≡ Ok x → new.kept.disk ≡ now.kept.disk → HasKept run more old new
   keeps_on x ok same = record {
     disk = same ∙ h.disk;
     none = none_on;
-    stay = λ there. on_ok r x (StayAtHand old.cache new.cache) ok (stay_on there);
-    left = λ there. (subst (AreAtHand old) is (h.left there)).1;
+    stay = λ there. on_ok r x (StayCached old.cache new.cache) ok (stay_on there);
+    left = λ there. (subst (AreCached old) is (h.left there)).1;
   }
 
 module _ {X : Type 0} (run rest more : List Pair) (p : Pair) (old now new : State) (r : Result X Error) (h : HasBrought run rest old now) (is : rest ≡ p ∷ more)
-    (b : BringsAlong (p ∷ []) now new r) where
+    (b : LoadsAlong (p ∷ []) now new r) where
   -- the walk ends here
-  pub brings_to_here : {Y : Type 0} (s : Result Y Error) → Passes r s → BringsAlong run old new s
-  brings_to_here s pass = record {
+  pub loads_to_here : {Y : Type 0} (s : Result Y Error) → Passes r s → LoadsAlong run old new s
+  loads_to_here s pass = record {
     none = none_on run rest more p old now new r h.kept is b;
     stay = λ there. pass _ (stay_on run rest more p old now new r h.kept is b there);
     one = λ e. let g = h.begun e in let are = sym g.1 ∙ is in let one = ap length are in
-        pass _ (subst (λ qs. OnOk r (AllByRecursion (λ q. IsBrought (active_at old.kept.disk q.at) old.cache new.cache) qs)) (sym (are ∙ ap (λ qs. p ∷ qs) (no_more more (omega (arith, one, e)))))
-        (subst (λ c. OnOk r (AllByRecursion (λ q. IsBrought (active_at old.kept.disk q.at) c new.cache) (p ∷ []))) g.0
-        (subst (λ d. OnOk r (AllByRecursion (λ q. IsBrought (active_at d q.at) now.cache new.cache) (p ∷ []))) h.kept.disk (b.one refl))));
+        pass _ (subst (λ qs. OnOk r (AllByRecursion (λ q. IsLoaded (active_at old.kept.disk q.at) old.cache new.cache) qs)) (sym (are ∙ ap (λ qs. p ∷ qs) (no_more more (omega (arith, one, e)))))
+        (subst (λ c. OnOk r (AllByRecursion (λ q. IsLoaded (active_at old.kept.disk q.at) c new.cache) (p ∷ []))) g.0
+        (subst (λ d. OnOk r (AllByRecursion (λ q. IsLoaded (active_at d q.at) now.cache new.cache) (p ∷ []))) h.kept.disk (b.one refl))));
   }
     where
       no_more : (qs : List Pair) → length qs ≡ 0 → qs ≡ []
@@ -201,8 +201,8 @@ module _ {X : Type 0} (run rest more : List Pair) (p : Pair) (old now new : Stat
       no_more (q ∷ qs) e = absurd (omega (arith, e))
 
   -- or goes on
-  pub brings_on : (x : X) → r ≡ Ok x → new.kept.disk ≡ now.kept.disk → 1 ≤ length more → HasBrought run more old new
-  brings_on x ok same some = record {
+  pub loads_on : (x : X) → r ≡ Ok x → new.kept.disk ≡ now.kept.disk → 1 ≤ length more → HasBrought run more old new
+  loads_on x ok same some = record {
     kept = keeps_on run rest more p old now new r h.kept is b x ok same;
     begun = λ e. absurd (let g = h.begun e in let k = ap length (sym g.1 ∙ is) in omega (arith, e, k, some));
   }

@@ -8,7 +8,7 @@ use Rattle.lfs_device.specs.declared.error.Error.{Error}
 use Rattle.lfs_model.proofs.Orders.{length_in_order}
 use Rattle.lfs_model.specs.Names.{in_order}
 use Rattle.lfs_model.specs.declared.order.NameOrder.TheVariants.{ShorterFirst}
-use Rattle.lfs_model.specs.Discipline.{pairs_of_path, parents}
+use Rattle.lfs_model.specs.Frame.{pairs_of_path, parents}
 use Rattle.lfs_model.specs.Effects.{items_in, size_of}
 use Rattle.lfs_model.specs.InDirectory.{run_length}
 use Rattle.lfs_model.specs.Names.{Name}

@@ -21,7 +21,7 @@ use Rattle.lfs_model.proofs.OneCommit.{slot_there}
 use Rattle.lfs_lookup.specs.ByName.{AreByName}
 use Rattle.lfs_lookup.specs.Items.{Shape, shape_of}
 use Rattle.lfs_lookup.specs.Listed.{joined_run, shapes_from}
-use Rattle.lfs_lookup.specs.Walk.{AllShow, ArePushed, ArePushedFrom, BeginsIfBranch, IsWalked, Place, Shows, ShowsNode, places_beneath}
+use Rattle.lfs_lookup.specs.Walk.{AllShow, ArePushed, ArePushedFrom, BeginsIfBranch, IsWalked, Place, PlaceShows, ShowsNode, places_beneath}
 use Rattle.lfs_lookup.proofs.ByName.{AreRows, each_row, names_in, no_rows, rows_by_name}
 use Rattle.lfs_lookup.proofs.Directories.{begins_with, own_run, own_shapes}
 
@@ -91,7 +91,7 @@ shows_node disk E s list = go s.struct list
     go (Ctz head size) l = (s.attributes, (refl, l))
     go (Branch to) l = (s.attributes, (in_order ShorterFirst (map (λ t. t.name) (E to)), refl))
 
-pub visit_shows : (disk : Disk) (ps : List Pair) (v : Visit) → IsVisit disk ps v → Shows disk (place_at v) (entry_in disk ps v)
+pub visit_shows : (disk : Disk) (ps : List Pair) (v : Visit) → IsVisit disk ps v → PlaceShows disk (place_at v) (entry_in disk ps v)
 visit_shows disk ps v h = record { path = refl; node = shows_node disk (entries_in ps) v.slot h.list }
 
 -- ---- children
@@ -255,7 +255,7 @@ took disk ps done old new next e u = go u.visits refl
         others_of : (x y : Place) (xs ys : List Place) → x ∷ xs ≡ y ∷ ys → xs ≡ ys
         others_of x y xs ys h = cc
 
-shown_more : (disk : Disk) (done : List Place) (entries : List Entry) (place : Place) (entry : Entry) → AllShow disk done entries → Shows disk place entry → AllShow disk (done ++ place ∷ []) (entries ++ entry ∷ [])
+shown_more : (disk : Disk) (done : List Place) (entries : List Entry) (place : Place) (entry : Entry) → AllShow disk done entries → PlaceShows disk place entry → AllShow disk (done ++ place ∷ []) (entries ++ entry ∷ [])
 shown_more disk [] [] place entry h s = (s, tt)
 shown_more disk [] (e ∷ es) place entry h s = absurd h
 shown_more disk (p ∷ ps) [] place entry h s = absurd h
@@ -270,7 +270,7 @@ moved_on disk ps done old new next ok n pushed =
       are = r.1.1 ∙ ap (λ z. map place_at now ++ z) n.are ∙ sym (map-append place_at now n.visits);
       each = each_append (IsVisit disk ps) now n.visits (rows_visited disk ps n.visit r.0 ok n.is_visit.leads r.1.0) n.each;
       entries = n.entries ++ entry_in disk ps n.visit ∷ [];
-      shown = shown_more disk done n.entries next (entry_in disk ps n.visit) n.shown (subst (λ p. Shows disk p (entry_in disk ps n.visit)) (sym n.is) (visit_shows disk ps n.visit n.is_visit));
+      shown = shown_more disk done n.entries next (entry_in disk ps n.visit) n.shown (subst (λ p. PlaceShows disk p (entry_in disk ps n.visit)) (sym n.is) (visit_shows disk ps n.visit n.is_visit));
       goes_on = λ es w.
           subst (IsWalkOf (tree_in disk ps)) (sym (append_assoc n.entries (entry_in disk ps n.visit ∷ []) es))
           (n.goes_on (entry_in disk ps n.visit ∷ es) (

@@ -9,7 +9,7 @@ use Rattle.lfs_model.specs.Names.{Name, name_cmp}
 use Rattle.lfs_model.specs.Slots.{Slot, is_superblock}
 use Rattle.lfs_model.specs.Thread.{Pair, is_hard}
 use Rattle.lfs_model.proofs.Counts.{each_append, each_left, each_right}
-use Rattle.lfs_lookup.specs.Entry.{Shows}
+use Rattle.lfs_lookup.specs.Entry.{EntryShows}
 use Rattle.lfs_lookup.specs.declared.entry.Entry.{Entry}
 use Rattle.lfs_model.specs.InDirectory.{entries_only, slots_in, StandsAt, BeginsAbove, PlaceAt, IsJoined, HaveNoSuperblock, run_length, Runs, last_is_joined, IsBehind, Stands, Belongs}
 
@@ -153,10 +153,10 @@ module _ {by : NameOrder} (ps : List Pair) (first : ℕ) (name : Name) (at old i
   abbrev q : Pair
   q = get_or ps index d
 
-  pub stands_here : (entry : Entry) (s : StandsAt q.content.slots name id) → Shows entry s.slot.struct → (t : Stands ps first name index id) × Shows entry t.stands.slot.struct
+  pub stands_here : (entry : Entry) (s : StandsAt q.content.slots name id) → EntryShows entry s.slot.struct → (t : Stands ps first name index id) × EntryShows entry t.stands.slot.struct
   stands_here entry s shows = go walked
     where
-      go : IsWalked by ps first name at old index → (t : Stands ps first name index id) × Shows entry t.stands.slot.struct
+      go : IsWalked by ps first name at old index → (t : Stands ps first name index id) × EntryShows entry t.stands.slot.struct
       go (begun e) = let a = at_index ps index d below in (record { pair = q; rest = a.rest; place = begun_here ps first index q a e; stands = s }, shows)
       go (passed h l) = let r = passed_here ps first name at old index h d below in (record { pair = q; rest = r.0; place = r.1.1; stands = s }, shows)
 

@@ -5,7 +5,7 @@ use Rattle.std.specs.declared.alloc.Global.{Global}
 use Rattle.lfs_model.specs.Content.{attribute_of, put_attribute}
 use Rattle.lfs_model.specs.Slots.{Attributes, Slot, attributes_size}
 use Rattle.lfs_thread.specs.Kept.{Kept, State}
-use Rattle.lfs_thread.specs.Lent.{at_hand}
+use Rattle.lfs_thread.specs.CachedLog.{cached_log}
 use Rattle.lfs_lookup.specs.BytesAt.{IsSlotAt}
 use Rattle.lfs_lookup.specs.declared.paths.Shown.{Shown}
 use Rattle.lfs_lookup.specs.declared.paths.Shown.TheVariants as shown
@@ -24,9 +24,9 @@ slot_shown (shown.File slot contents) = Some slot
 slot_shown (shown.Directory slot first) = Some slot
 slot_shown _ = None
 
--- the block of that slot's pair is at hand
-abbrev pub IsAtHand : State → Shown → Type 0
-IsAtHand t s = IfSome (slot_shown s) (λ slot. IsSome (at_hand t slot.pair))
+-- the block of that slot's pair is cached
+abbrev pub IsPairCached : State → Shown → Type 0
+IsPairCached t s = IfSome (slot_shown s) (λ slot. IsSome (cached_log t slot.pair))
 
 -- the attributes of the slot, if there is one
 abbrev pub AreHeld : Kept → Option Spot → Attributes → Type 0

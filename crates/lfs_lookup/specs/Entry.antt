@@ -10,6 +10,6 @@ abbrev pub ShowsContents : Contents → Struct → Type 0
 ShowsContents (contents.Inline len) t = (bytes : List ℕ) × ((t ≡ Inline bytes) × ((length bytes ≡ len) × (len < 0x3ff)))
 ShowsContents (contents.List head size) t = t ≡ Ctz head size
 
-abbrev pub Shows : Entry → Struct → Type 0
-Shows (entry.File contents) t = ShowsContents contents t
-Shows (entry.Directory at) t = t ≡ Branch (address_of at)
+abbrev pub EntryShows : Entry → Struct → Type 0
+EntryShows (entry.File contents) t = ShowsContents contents t
+EntryShows (entry.Directory at) t = t ≡ Branch (address_of at)

@@ -42,5 +42,5 @@ pub record Finds (t : Tree) (p : Path) (found : Finding) : Type 0 where
 abbrev pub has_names : Tree → Path → Bool
 has_names t p = nat_lt 0 (length (names_of (t p)))
 
-abbrev pub list_item_seen : ListItem → ops.Item
-list_item_seen item = record { name = item.name.items; size = item.size }
+abbrev pub list_item_view : ListItem → ops.Item
+list_item_view item = record { name = item.name.items; size = item.size }

@@ -18,16 +18,16 @@ pub record Shape : Type 0 where
 abbrev pub shape_of : Slot → Shape
 shape_of s = record { name = s.name; struct = s.struct }
 
-abbrev pub structure_seen : Structure → Struct
-structure_seen (variant.Inline bytes) = slots.Inline bytes.items
-structure_seen (variant.Ctz head size) = slots.Ctz head size
-structure_seen (variant.Branch to) = slots.Branch (address_of to)
+abbrev pub structure_view : Structure → Struct
+structure_view (variant.Inline bytes) = slots.Inline bytes.items
+structure_view (variant.Ctz head size) = slots.Ctz head size
+structure_view (variant.Branch to) = slots.Branch (address_of to)
 
-abbrev pub item_seen : Item → Shape
-item_seen i = record { name = i.name.items; struct = structure_seen i.structure }
+abbrev pub item_view : Item → Shape
+item_view i = record { name = i.name.items; struct = structure_view i.structure }
 
-abbrev pub items_seen : List Item → List Shape
-items_seen items = map item_seen items
+abbrev pub items_view : List Item → List Shape
+items_view items = map item_view items
 
 -- what a slot shows, if it isn't the superblock's
 abbrev pub shown_of : Slot → Option Shape

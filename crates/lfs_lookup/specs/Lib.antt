@@ -17,4 +17,4 @@ pub mod ListAt
 pub mod BytesAt
 pub mod FileContents
 pub mod AttributeAt
-pub mod AtHand
+pub mod CachedPairs

@@ -23,7 +23,7 @@ use Rattle.lfs_lookup.specs.declared.paths.Parent.{Parent}
 use Rattle.lfs_lookup.specs.declared.paths.Parent.TheVariants as parent
 
 -- the image is accepted, and nothing of it is to be recovered
-pub record IsSettled (t : Kept) : Type 0 where
+pub record HasNothingSet (t : Kept) : Type 0 where
   pub accepted : IsAccepted t.disk t.pairs
   pub settled : gstate_of t.pairs ≡ no_gstate
 

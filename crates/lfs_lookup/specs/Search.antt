@@ -5,14 +5,14 @@ use Rattle.lfs_model.specs.Names.{Name}
 use Rattle.lfs_model.specs.Slots.{Slot, Content, Gstate, is_superblock, same_pair}
 use Rattle.lfs_model.specs.Thread.{Pair, is_hard}
 use Rattle.lfs_model.specs.InDirectory.{StandsAt, PlaceAt, Stands, Belongs}
-use Rattle.lfs_thread.specs.Lent.{IsBlockOf}
+use Rattle.lfs_thread.specs.CachedLog.{IsBlockOf}
 use Rattle.lfs_lookup.specs.declared.entry.Entry.{Entry}
 use Rattle.lfs_lookup.specs.declared.search.Spot.{Spot}
 use Rattle.lfs_lookup.specs.declared.search.Sought.{Sought}
 use Rattle.lfs_lookup.specs.declared.search.Sought.TheVariants.{Found, Place}
 use Rattle.lfs_lookup.specs.declared.search.SoughtInPair.{SoughtInPair}
 use Rattle.lfs_lookup.specs.declared.search.SoughtInPair.TheVariants as in_pair
-use Rattle.lfs_lookup.specs.Entry.{Shows}
+use Rattle.lfs_lookup.specs.Entry.{EntryShows}
 
 -- a block's log comes to a content in which each slot has a name and a struct
 abbrev pub HoldsContent : List ℕ → Type 0
@@ -25,7 +25,7 @@ IsAbsentBut skip slots name = (id : ℕ) (s : Slot) → slice_get slots id ≡ S
 -- the name stands at the id, which isn't passed over, with that struct
 pub record StandsShown (skip : Option ℕ) (slots : List Slot) (name : Name) (id : ℕ) (entry : Entry) : Type 0 where
   pub stands : StandsAt slots name id
-  pub shows : Shows entry stands.slot.struct
+  pub shows : EntryShows entry stands.slot.struct
   pub kept : skip ≡ Some id → ⊥
 
 -- the name isn't there, and belongs there if nothing is passed over
@@ -39,9 +39,9 @@ AnswersIn order skip slots name (in_pair.Found id entry) = StandsShown skip slot
 AnswersIn order skip slots name (in_pair.Place id) = BelongsShown order skip slots name id
 
 -- in the directory that begins with the pair of number `first`
-abbrev pub Answers : NameOrder → List Pair → ℕ → Name → Sought → Type 0
-Answers order ps first name (Found spot entry) = (s : Stands ps first name spot.pair spot.id) × Shows entry s.stands.slot.struct
-Answers order ps first name (Place spot) = Belongs order ps first name spot.pair spot.id
+abbrev pub SearchFinds : NameOrder → List Pair → ℕ → Name → Sought → Type 0
+SearchFinds order ps first name (Found spot entry) = (s : Stands ps first name spot.pair spot.id) × EntryShows entry s.stands.slot.struct
+SearchFinds order ps first name (Place spot) = Belongs order ps first name spot.pair spot.id
 
 -- ---- where a slot counts as deleted
 
@@ -58,7 +58,7 @@ IsAbsentAlong moved index (p ∷ ps) name = IsAbsentBut (passed_in moved index) 
 -- the name stands there, not in the slot that counts as deleted
 pub record IsShown (ps : List Pair) (moved : Option Spot) (first : ℕ) (name : Name) (spot : Spot) (entry : Entry) : Type 0 where
   pub stands : Stands ps first name spot.pair spot.id
-  pub shows : Shows entry stands.stands.slot.struct
+  pub shows : EntryShows entry stands.stands.slot.struct
   pub kept : passed_in moved spot.pair ≡ Some spot.id → ⊥
 
 abbrev pub AnswersShown : List Pair → Option Spot → ℕ → Name → Option (Spot × Entry) → Type 0

@@ -12,7 +12,7 @@ use Rattle.lfs_model.specs.InDirectory.{BeginsAt}
 use Rattle.lfs_model.specs.Shown.{contents_in, tree_in}
 use Rattle.lfs_lookup.specs.declared.walking.TreeItem.{TreeItem}
 use Rattle.lfs_lookup.specs.ByName.{AreByName}
-use Rattle.lfs_lookup.specs.Items.{Shape, structure_seen}
+use Rattle.lfs_lookup.specs.Items.{Shape, structure_view}
 use Rattle.lfs_lookup.specs.Listed.{shapes_from}
 
 -- a path's bytes, and what stands there
@@ -20,11 +20,11 @@ pub record Place : Type 0 where
   pub path : List ℕ
   pub struct : Struct
 
-abbrev pub found_seen : TreeItem → Place
-found_seen f = record { path = f.path.items; struct = structure_seen f.structure }
+abbrev pub found_view : TreeItem → Place
+found_view f = record { path = f.path.items; struct = structure_view f.structure }
 
-abbrev pub founds_seen : List TreeItem → List Place
-founds_seen founds = map found_seen founds
+abbrev pub founds_view : List TreeItem → List Place
+founds_view founds = map found_view founds
 
 abbrev pub beneath : List ℕ → Shape → Place
 beneath path shape = record { path = path ++ slash ∷ shape.name; struct = shape.struct }
@@ -67,7 +67,7 @@ ShowsNode disk (Inline bytes) node = (attributes : Attributes) × (node ≡ File
 ShowsNode disk (Ctz head size) node = (attributes : Attributes) × ((node ≡ FileNode attributes (contents_in disk head size)) × IsList disk.blocks disk.block_size head size)
 ShowsNode disk (Branch to) node = (attributes : Attributes) × ((names : List Name) × (node ≡ DirectoryNode attributes names))
 
-pub record Shows (disk : Disk) (place : Place) (entry : Entry) : Type 0 where
+pub record PlaceShows (disk : Disk) (place : Place) (entry : Entry) : Type 0 where
   pub path : place.path ≡ path_bytes entry.path
   pub node : ShowsNode disk place.struct entry.node
 
@@ -75,7 +75,7 @@ abbrev pub AllShow : Disk → List Place → List Entry → Type 0
 AllShow disk [] [] = Unit {0}
 AllShow disk [] (e ∷ es) = ⊥
 AllShow disk (p ∷ ps) [] = ⊥
-AllShow disk (p ∷ ps) (e ∷ es) = Shows disk p e × AllShow disk ps es
+AllShow disk (p ∷ ps) (e ∷ es) = PlaceShows disk p e × AllShow disk ps es
 
 -- these places are those of the walk of the tree, in turn
 abbrev pub IsWalked : Disk → List Pair → List Place → Type 0

@@ -3,16 +3,16 @@
 ghost use Rattle.std.specs.Prelude.{◌≡◌, ◌≤◌, ◌<◌, ◌+◌, IfErr, IfOk, IsSome, Some, false, length, map, slice_get, sum_by};
 ghost use Rattle.lfs_model.specs.TreeEdits.{attributes_of};
 ghost use Rattle.lfs_model.specs.Content.{slot_of_id};
-ghost use Rattle.lfs_model.specs.Discipline.{pairs_of_path, parents};
+ghost use Rattle.lfs_model.specs.Frame.{pairs_of_path, parents};
 ghost use Rattle.lfs_model.specs.History.{reads};
 ghost use Rattle.lfs_model.specs.LoggedContent.{Ascend, HaveParts};
 ghost use Rattle.lfs_model.specs.Slots.{Content as ModelContent, Slot as ModelSlot, attributes_size};
 ghost use Rattle.lfs_model.specs.Thread.{superblocks_before};
 ghost use Rattle.lfs_model.specs.View.{IsAccepted};
 ghost use Rattle.lfs_model.specs.Shown.{tree_in};
-ghost use Rattle.lfs_tag.specs.ContentSeen.{attribute_seen, slot_seen};
-ghost use Rattle.lfs_thread.specs.Lent.{IsBlockOf, at_hand};
-ghost use Rattle.lfs_lookup.specs.AtHand.{AreOnHand};
+ghost use Rattle.lfs_tag.specs.ContentView.{attribute_view, slot_view};
+ghost use Rattle.lfs_thread.specs.CachedLog.{IsBlockOf, cached_log};
+ghost use Rattle.lfs_lookup.specs.CachedPairs.{AreCachedBeneath};
 ghost use Rattle.lfs_lookup.specs.AttributeAt.{IsAttributesSize};
 ghost use Rattle.lfs_lookup.specs.BytesAt.{IsSlotAt};
 ghost use Rattle.lfs_lookup.specs.Reading.{IsReading};
@@ -29,8 +29,8 @@ use std::alloc::Global;
 
 // The sizes of attributes together: each takes its tag and its bytes.
 fn size_of_all(attributes: &[Attribute<'_>]) -> usize
-    requires { Ascend 0 (map attribute_seen attributes.now) }
-    ensures { result ≡ attributes_size (map attribute_seen attributes.now) }
+    requires { Ascend 0 (map attribute_view attributes.now) }
+    ensures { result ≡ attributes_size (map attribute_view attributes.now) }
 {
     let mut size = 0;
     for attribute in attributes {
@@ -41,8 +41,8 @@ fn size_of_all(attributes: &[Attribute<'_>]) -> usize
 
 // The same of the slot at an id. None stands past the last.
 fn size_in_slot(slots: &[Slot<'_>], id: u16) -> usize
-    requires { HaveParts (map slot_seen slots.now) }
-    ensures { result ≡ attributes_size (slot_of_id (map slot_seen slots.now) id).attributes }
+    requires { HaveParts (map slot_view slots.now) }
+    ensures { result ≡ attributes_size (slot_of_id (map slot_view slots.now) id).attributes }
 {
     match slots.get(usize::from(id)) {
         Some(slot) => size_of_all(&slot.attributes),
@@ -60,7 +60,7 @@ fn size_in_log(alloc: Global, log: &Log<'_>, id: u16) -> Result<usize, Error>
     Ok(size_in_slot(&content.slots, id))
 }
 
-// The same of a slot whose block is at hand.
+// The same of a slot whose block is cached.
 fn size_of_slot<D: BlockDevice>(
     alloc: Global,
     thread: &mut Thread<D>,
@@ -68,18 +68,18 @@ fn size_of_slot<D: BlockDevice>(
 ) -> Result<usize, Error>
     requires works { thread.old.failed ≡ false }
     requires below { slot.pair < length thread.old.kept.pairs }
-    requires at_hand { IsSome (at_hand thread.old slot.pair) }
+    requires cached_log { IsSome (cached_log thread.old slot.pair) }
     ensures is { (held : ModelSlot) → IsSlotAt thread.old.kept slot held → IfOk result (IsAttributesSize held.attributes) }
     ensures no_call { thread.new.kept ≡ thread.old.kept }
     ensures reading { IsReading thread.old thread.new result }
 {
-    thread.bring(slot.pair)?;
+    thread.load_pair(slot.pair)?;
     size_in_log(alloc, &thread.lend(slot.pair).unwrap(), slot.id)
 }
 
 /// How many bytes the attributes of what stands at a path take in its pair, the tag of each included:
 /// 0 where nothing stands there, and for the root. No more reads than the directories above the path
-/// have pairs, and none where all these pairs are at hand.
+/// have pairs, and none where all these pairs are cached.
 ///
 /// `root` is the number of the root directory's first pair. `Io` where a read failed, and `NoMemory`
 /// where room isn't granted.
@@ -94,7 +94,7 @@ pub fn attributes_size_at<D: BlockDevice>(
     requires root { root ≡ superblocks_before thread.old.kept.pairs }
     ensures is { IfOk result (IsAttributesSize (attributes_of (tree_in thread.old.kept.disk thread.old.kept.pairs path.now))) }
     ensures few { reads thread.new.kept.history ≤ reads thread.old.kept.history + sum_by (pairs_of_path thread.old.kept.pairs) (parents path.now) }
-    ensures kept { AreOnHand thread.old (parents path.now) → reads thread.new.kept.history ≡ reads thread.old.kept.history }
+    ensures kept { AreCachedBeneath thread.old (parents path.now) → reads thread.new.kept.history ≡ reads thread.old.kept.history }
     ensures reading { IsReading thread.old thread.new result }
 {
     let shown = shown_at(alloc, thread, root, path)?;

@@ -4,14 +4,14 @@ ghost use Rattle.std.specs.Prelude.{◌≡◌, ◌<◌, ◌≤◌, ◌+◌, IfEr
 ghost use Rattle.std.specs.Option.{option_copied, option_map};
 ghost use Rattle.lfs_model.specs.TreeEdits.{attributes_of};
 ghost use Rattle.lfs_model.specs.Content.{attribute_of};
-ghost use Rattle.lfs_model.specs.Discipline.{pairs_of_path, parents};
+ghost use Rattle.lfs_model.specs.Frame.{pairs_of_path, parents};
 ghost use Rattle.lfs_model.specs.History.{reads};
 ghost use Rattle.lfs_model.specs.Slots.{Attributes, Content as ModelContent, Slot};
 ghost use Rattle.lfs_model.specs.Thread.{superblocks_before};
 ghost use Rattle.lfs_model.specs.View.{IsAccepted};
 ghost use Rattle.lfs_model.specs.Shown.{tree_in};
-ghost use Rattle.lfs_thread.specs.Lent.{IsBlockOf, at_hand};
-ghost use Rattle.lfs_lookup.specs.AtHand.{AreOnHand};
+ghost use Rattle.lfs_thread.specs.CachedLog.{IsBlockOf, cached_log};
+ghost use Rattle.lfs_lookup.specs.CachedPairs.{AreCachedBeneath};
 ghost use Rattle.lfs_lookup.specs.AttributeAt.{AreHeld, IsAttribute, IsShort, slot_shown};
 ghost use Rattle.lfs_lookup.specs.BytesAt.{IsSlotAt};
 ghost use Rattle.lfs_lookup.specs.Finds.{Finds};
@@ -67,7 +67,7 @@ fn attribute_copied(
     Ok(found)
 }
 
-// An attribute of a slot whose block is at hand.
+// An attribute of a slot whose block is cached.
 fn attribute_of_slot<D: BlockDevice>(
     alloc: Global,
     thread: &mut Thread<D>,
@@ -76,13 +76,13 @@ fn attribute_of_slot<D: BlockDevice>(
 ) -> Result<Option<Vec<u8>>, Error>
     requires works { thread.old.failed ≡ false }
     requires below { slot.pair < length thread.old.kept.pairs }
-    requires at_hand { IsSome (at_hand thread.old slot.pair) }
+    requires cached_log { IsSome (cached_log thread.old slot.pair) }
     ensures short { IfOk result IsShort }
     ensures is { (held : Slot) → IsSlotAt thread.old.kept slot held → IfOk result (IsAttribute kind held.attributes) }
     ensures no_call { thread.new.kept ≡ thread.old.kept }
     ensures reading { IsReading thread.old thread.new result }
 {
-    thread.bring(slot.pair)?;
+    thread.load_pair(slot.pair)?;
     attribute_copied(alloc, &thread.lend(slot.pair).unwrap(), kind, slot.id)
 }
 
@@ -106,7 +106,7 @@ fn attribute_held<D: BlockDevice>(
 ) -> Result<Option<Vec<u8>>, Error>
     requires works { thread.old.failed ≡ false }
     requires below { IfSome slot (λ s. s.pair < length thread.old.kept.pairs) }
-    requires at_hand { IfSome slot (λ s. IsSome (at_hand thread.old s.pair)) }
+    requires cached_log { IfSome slot (λ s. IsSome (cached_log thread.old s.pair)) }
     ensures short { IfOk result IsShort }
     ensures is { (attributes : Attributes) → AreHeld thread.old.kept slot attributes → IfOk result (IsAttribute kind attributes) }
     ensures no_call { thread.new.kept ≡ thread.old.kept }
@@ -120,7 +120,7 @@ fn attribute_held<D: BlockDevice>(
 
 /// What a path leads to, and its attribute of a kind, if it has one, of 1,022 bytes at most; the root
 /// has none. No more reads than the directories above the path have pairs, and none where all these
-/// pairs are at hand.
+/// pairs are cached.
 ///
 /// `root` is the number of the root directory's first pair. `Io` where a read failed, and `NoMemory`
 /// where room isn't granted.
@@ -138,7 +138,7 @@ pub fn attribute_at<D: BlockDevice>(
     ensures short { IfOk result (λ found. IsShort found.bytes) }
     ensures is { IfOk result (λ found. IsAttribute kind (attributes_of (tree_in thread.old.kept.disk thread.old.kept.pairs path.now)) found.bytes) }
     ensures few { reads thread.new.kept.history ≤ reads thread.old.kept.history + sum_by (pairs_of_path thread.old.kept.pairs) (parents path.now) }
-    ensures kept { AreOnHand thread.old (parents path.now) → reads thread.new.kept.history ≡ reads thread.old.kept.history }
+    ensures kept { AreCachedBeneath thread.old (parents path.now) → reads thread.new.kept.history ≡ reads thread.old.kept.history }
     ensures reading { IsReading thread.old thread.new result }
 {
     let shown = shown_at(alloc, thread, root, path)?;

@@ -1,14 +1,14 @@
 // What paths lead to, in a thread.
 
 ghost use Rattle.std.specs.Prelude.{◌≡◌, ◌≤◌, ◌+◌, ◌++◌, [], ◌∷◌, IfOk, None, false, sum_by};
-ghost use Rattle.lfs_model.specs.Discipline.{pairs_of_path, parents};
+ghost use Rattle.lfs_model.specs.Frame.{pairs_of_path, parents};
 ghost use Rattle.lfs_model.specs.History.{reads};
 ghost use Rattle.lfs_model.specs.Thread.{superblocks_before};
 ghost use Rattle.lfs_model.specs.View.{IsAccepted};
 ghost use Rattle.lfs_model.specs.Shown.{tree_in};
-ghost use Rattle.lfs_lookup.specs.AtHand.{BringsDown};
+ghost use Rattle.lfs_lookup.specs.CachedPairs.{LoadsDown};
 ghost use Rattle.lfs_lookup.specs.AtPath.{IsInEntry, IsInEntryIfFile, IsThrough, ShowsAt, finding_of, first_shown, size_shown};
-ghost use Rattle.lfs_lookup.specs.AttributeAt.{IsAtHand};
+ghost use Rattle.lfs_lookup.specs.AttributeAt.{IsPairCached};
 ghost use Rattle.lfs_lookup.specs.Finds.{Finds, has_names};
 ghost use Rattle.lfs_lookup.specs.declared.finding.Node.TheVariants.{Directory, File, Nothing};
 ghost use Rattle.lfs_lookup.specs.Reading.{IsReading};
@@ -25,7 +25,7 @@ use std::alloc::Global;
 
 /// What a path leads to, where the slot that a set move names counts as deleted, and no other
 /// (DESIGN.md of littlefs, "The move problem"). No more reads than the directories above the path have
-/// pairs, and none where all these pairs are at hand; the pair of a slot that is found is at hand
+/// pairs, and none where all these pairs are cached; the pair of a slot that is found is cached
 /// then.
 ///
 /// `root` is the number of the root directory's first pair. `Io` where a read failed, and `NoMemory`
@@ -40,9 +40,9 @@ pub fn shown_at<D: BlockDevice>(
     requires accepted { IsAccepted thread.old.kept.disk thread.old.kept.pairs }
     requires root { root ≡ superblocks_before thread.old.kept.pairs }
     ensures shown { IfOk result (ShowsAt thread.old.kept path.now) }
-    ensures at_hand { IfOk result (IsAtHand thread.new) }
+    ensures cached_log { IfOk result (IsPairCached thread.new) }
     ensures few { reads thread.new.kept.history ≤ reads thread.old.kept.history + sum_by (pairs_of_path thread.old.kept.pairs) (parents path.now) }
-    ensures brings { BringsDown IsThrough (parents path.now) thread.old thread.new result }
+    ensures loads { LoadsDown IsThrough (parents path.now) thread.old thread.new result }
     ensures reading { IsReading thread.old thread.new result }
 {
     let names = path.names(alloc)?;
@@ -123,7 +123,7 @@ pub(crate) fn first_of(root: usize, shown: Shown) -> Option<usize>
 
 /// What a path leads to: a file with its size, a directory, or nothing; and by what it is refused, if
 /// one of the directories above it isn't there or isn't one. No more reads than these directories
-/// have pairs, and none where all these pairs are at hand.
+/// have pairs, and none where all these pairs are cached.
 ///
 /// `root` is the number of the root directory's first pair. `Io` where a read failed, and `NoMemory`
 /// where room isn't granted.
@@ -138,7 +138,7 @@ pub fn find_at<D: BlockDevice>(
     requires root { root ≡ superblocks_before thread.old.kept.pairs }
     ensures found { IfOk result (Finds (tree_in thread.old.kept.disk thread.old.kept.pairs) path.now) }
     ensures few { reads thread.new.kept.history ≤ reads thread.old.kept.history + sum_by (pairs_of_path thread.old.kept.pairs) (parents path.now) }
-    ensures brings { BringsDown (λ found. found.fault ≡ None) (parents path.now) thread.old thread.new result }
+    ensures loads { LoadsDown (λ found. found.fault ≡ None) (parents path.now) thread.old thread.new result }
     ensures reading { IsReading thread.old thread.new result }
 {
     let shown = shown_at(alloc, thread, root, path)?;

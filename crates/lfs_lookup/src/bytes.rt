@@ -9,7 +9,7 @@ ghost use Rattle.lfs_model.specs.Slots.{Content as ModelContent, Inline, Slot};
 ghost use Rattle.lfs_model.specs.Thread.{superblocks_before};
 ghost use Rattle.lfs_model.specs.View.{IsAccepted};
 ghost use Rattle.lfs_model.specs.Shown.{contents_in, tree_in};
-ghost use Rattle.lfs_thread.specs.Lent.{IsBlockOf, at_hand};
+ghost use Rattle.lfs_thread.specs.CachedLog.{IsBlockOf, cached_log};
 ghost use Rattle.lfs_lookup.specs.BytesAt.{IsFileAt, IsSlotAt, file_shown};
 ghost use Rattle.lfs_lookup.specs.FileBytes.{bytes_shown};
 ghost use Rattle.lfs_lookup.specs.Reading.{IsReading};
@@ -66,7 +66,7 @@ fn copied_in_log(
 }
 
 /// Some of the bytes that stand in a slot whose struct is an inline one: so many from a position on,
-/// or up to their end. One read at most, and none where the slot's block is at hand.
+/// or up to their end. One read at most, and none where the slot's block is cached.
 ///
 /// `Io` where a read failed, and `NoMemory` where room isn't granted.
 pub fn inline_at<D: BlockDevice>(
@@ -79,11 +79,11 @@ pub fn inline_at<D: BlockDevice>(
     requires works { thread.old.failed ≡ false }
     requires below { slot.pair < length thread.old.kept.pairs }
     ensures bytes { (held : Slot) (bytes : List ℕ) → IsSlotAt thread.old.kept slot held → held.struct ≡ Inline bytes → IfOk result (λ v. v.items ≡ take count (drop position bytes)) }
-    ensures no_call { IsSome (at_hand thread.old slot.pair) → thread.new.kept ≡ thread.old.kept }
+    ensures no_call { IsSome (cached_log thread.old slot.pair) → thread.new.kept ≡ thread.old.kept }
     ensures few { reads thread.new.kept.history ≤ reads thread.old.kept.history + 1 }
     ensures reading { IsReading thread.old thread.new result }
 {
-    thread.bring(slot.pair)?;
+    thread.load_pair(slot.pair)?;
     copied_in_log(
         alloc,
         &thread.lend(slot.pair).unwrap(),

@@ -5,11 +5,11 @@ ghost use Rattle.lfs_model.specs.Slots.{address_of, same_pair};
 ghost use Rattle.lfs_model.specs.Thread.{gstate_of, visible};
 ghost use Rattle.lfs_model.specs.History.{reads};
 ghost use Rattle.lfs_model.specs.InDirectory.{BeginsAt};
-ghost use Rattle.lfs_tag.specs.FieldsSeen.{move_seen};
+ghost use Rattle.lfs_tag.specs.FieldsView.{move_view};
 ghost use Rattle.lfs_thread.specs.Steps.{pair_in};
-ghost use Rattle.lfs_lookup.specs.AtHand.{AreAtHand, BringsAlong};
+ghost use Rattle.lfs_lookup.specs.CachedPairs.{AreCached, LoadsAlong};
 ghost use Rattle.lfs_lookup.specs.AtPath.{has_entries_from};
-ghost use Rattle.lfs_lookup.specs.Items.{items_seen, shape_of};
+ghost use Rattle.lfs_lookup.specs.Items.{items_view, shape_of};
 ghost use Rattle.lfs_lookup.specs.Listed.{AreEntries, joined_run, length_from, moved_in, run_from, shapes_from};
 ghost use Rattle.lfs_lookup.specs.Reading.{IsReading};
 
@@ -23,7 +23,7 @@ use std::alloc::Global;
 
 // The id of the slot that a set move names in the pair at an address, if it names one there.
 fn moved_in(state: &MoveState, at: [u32; 2]) -> Option<usize>
-    ensures { result ≡ moved_in (move_seen state.now) (address_of at) }
+    ensures { result ≡ moved_in (move_view state.now) (address_of at) }
 {
     if state.kind == DELETE && is_same_pair(state.pair, at) {
         Some(usize::from(state.id))
@@ -41,13 +41,13 @@ fn items_under<D: BlockDevice>(
 ) -> Result<Vec<Item>, Error>
     requires works { thread.old.failed ≡ false }
     requires below { index < length thread.old.kept.pairs }
-    requires state { move_seen state.now ≡ gstate_of thread.old.kept.pairs }
-    ensures items { IfOk result (λ items. items_seen items.items ≡ map shape_of (visible (gstate_of thread.old.kept.pairs) (pair_in thread.old.kept index))) }
+    requires state { move_view state.now ≡ gstate_of thread.old.kept.pairs }
+    ensures items { IfOk result (λ items. items_view items.items ≡ map shape_of (visible (gstate_of thread.old.kept.pairs) (pair_in thread.old.kept index))) }
     ensures few { reads thread.new.kept.history ≤ reads thread.old.kept.history + 1 }
-    ensures brings { BringsAlong (pair_in thread.old.kept index ∷ []) thread.old thread.new result }
+    ensures loads { LoadsAlong (pair_in thread.old.kept index ∷ []) thread.old thread.new result }
     ensures reading { IsReading thread.old thread.new result }
 {
-    thread.bring(index)?;
+    thread.load_pair(index)?;
     let moved = moved_in(state, thread.address(index));
     items_in(alloc, &thread.lend(index).unwrap(), moved)
 }
@@ -64,7 +64,7 @@ pub fn items_of<D: BlockDevice>(
 ) -> Result<Vec<Item>, Error>
     requires works { thread.old.failed ≡ false }
     requires below { index < length thread.old.kept.pairs }
-    ensures items { IfOk result (λ items. items_seen items.items ≡ map shape_of (visible (gstate_of thread.old.kept.pairs) (pair_in thread.old.kept index))) }
+    ensures items { IfOk result (λ items. items_view items.items ≡ map shape_of (visible (gstate_of thread.old.kept.pairs) (pair_in thread.old.kept index))) }
     ensures few { reads thread.new.kept.history ≤ reads thread.old.kept.history + 1 }
     ensures reading { IsReading thread.old thread.new result }
 {
@@ -85,10 +85,10 @@ pub fn entries_under<D: BlockDevice>(
 ) -> Result<Vec<Item>, Error>
     requires works { thread.old.failed ≡ false }
     requires below { first < length thread.old.kept.pairs }
-    requires state { move_seen state.now ≡ gstate_of thread.old.kept.pairs }
-    ensures items { IfOk result (λ items. items_seen items.items ≡ shapes_from thread.old.kept.pairs (Some first)) }
+    requires state { move_view state.now ≡ gstate_of thread.old.kept.pairs }
+    ensures items { IfOk result (λ items. items_view items.items ≡ shapes_from thread.old.kept.pairs (Some first)) }
     ensures few { reads thread.new.kept.history ≤ reads thread.old.kept.history + length_from thread.old.kept.pairs (Some first) }
-    ensures kept { AreAtHand thread.old (joined_run (drop first thread.old.kept.pairs)) → reads thread.new.kept.history ≡ reads thread.old.kept.history }
+    ensures kept { AreCached thread.old (joined_run (drop first thread.old.kept.pairs)) → reads thread.new.kept.history ≡ reads thread.old.kept.history }
     ensures reading { IsReading thread.old thread.new result }
 {
     let mut items = Vec::new(alloc);
@@ -104,7 +104,7 @@ pub fn entries_under<D: BlockDevice>(
 /// The entries of the directory that begins with the pair of number `first`: those of its pairs in
 /// turn, which hard tails join (SPEC.md of littlefs, "0x601 LFS_TYPE_HARDTAIL"), so in the
 /// disk's order of names where the image is accepted. No more reads than these pairs are, and none
-/// where all of them are at hand.
+/// where all of them are cached.
 ///
 /// Errors as those of [`items_of`].
 pub fn entries<D: BlockDevice>(
@@ -114,10 +114,10 @@ pub fn entries<D: BlockDevice>(
 ) -> Result<Vec<Item>, Error>
     requires works { thread.old.failed ≡ false }
     requires below { first < length thread.old.kept.pairs }
-    ensures items { IfOk result (λ items. items_seen items.items ≡ shapes_from thread.old.kept.pairs (Some first)) }
-    ensures entries { IfOk result (λ items. AreEntries thread.old.kept.disk thread.old.kept.pairs first (items_seen items.items)) }
+    ensures items { IfOk result (λ items. items_view items.items ≡ shapes_from thread.old.kept.pairs (Some first)) }
+    ensures entries { IfOk result (λ items. AreEntries thread.old.kept.disk thread.old.kept.pairs first (items_view items.items)) }
     ensures few { reads thread.new.kept.history ≤ reads thread.old.kept.history + length_from thread.old.kept.pairs (Some first) }
-    ensures kept { AreAtHand thread.old (joined_run (drop first thread.old.kept.pairs)) → reads thread.new.kept.history ≡ reads thread.old.kept.history }
+    ensures kept { AreCached thread.old (joined_run (drop first thread.old.kept.pairs)) → reads thread.new.kept.history ≡ reads thread.old.kept.history }
     ensures reading { IsReading thread.old thread.new result }
 {
     let state = thread.state();
@@ -133,9 +133,9 @@ pub(crate) fn entries_from<D: BlockDevice>(
 ) -> Result<Vec<Item>, Error>
     requires works { thread.old.failed ≡ false }
     requires below { IfSome from (λ first. first < length thread.old.kept.pairs) }
-    ensures items { IfOk result (λ items. items_seen items.items ≡ shapes_from thread.old.kept.pairs from) }
+    ensures items { IfOk result (λ items. items_view items.items ≡ shapes_from thread.old.kept.pairs from) }
     ensures few { reads thread.new.kept.history ≤ reads thread.old.kept.history + length_from thread.old.kept.pairs from }
-    ensures kept { AreAtHand thread.old (run_from thread.old.kept.pairs from) → reads thread.new.kept.history ≡ reads thread.old.kept.history }
+    ensures kept { AreCached thread.old (run_from thread.old.kept.pairs from) → reads thread.new.kept.history ≡ reads thread.old.kept.history }
     ensures reading { IsReading thread.old thread.new result }
 {
     match from {

@@ -3,8 +3,8 @@
 ghost use Rattle.std.specs.Prelude.{◌≡◌, length};
 ghost use Rattle.lfs_model.specs.Content.{struct_typed};
 ghost use Rattle.lfs_model.specs.LoggedContent.{IsPart};
-ghost use Rattle.lfs_tag.specs.ContentSeen.{part_seen};
-ghost use Rattle.lfs_lookup.specs.Entry.{Shows};
+ghost use Rattle.lfs_tag.specs.ContentView.{part_view};
+ghost use Rattle.lfs_lookup.specs.Entry.{EntryShows};
 
 use lfs_tag::kinds::{DIRECTORY_STRUCT, INLINE_STRUCT};
 use lfs_tag::{Part, ctz_of, pair_of};
@@ -30,8 +30,8 @@ pub enum Entry {
 /// What a slot's struct says: where a file's bytes stand, or where a directory's first pair does
 /// (SPEC.md of littlefs, "0x2xx LFS_TYPE_STRUCT").
 pub fn entry_of(structure: &Part<'_>) -> Entry
-    requires { IsPart 2 (part_seen structure.now) }
-    ensures { Shows result (struct_typed structure.now.kind structure.now.bytes.now) }
+    requires { IsPart 2 (part_view structure.now) }
+    ensures { EntryShows result (struct_typed structure.now.kind structure.now.bytes.now) }
 {
     let bytes = structure.bytes;
     if structure.kind == INLINE_STRUCT {

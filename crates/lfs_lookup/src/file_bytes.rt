@@ -4,7 +4,7 @@ ghost use Rattle.std.specs.Prelude.{◌≡◌, IfOk, OnOk, false, length};
 ghost use Rattle.lfs_model.specs.View.{IsListIfCtz};
 ghost use Rattle.lfs_model.specs.Shown.{contents_in};
 ghost use Rattle.lfs_lookup.specs.FileBytes.{bytes_shown};
-ghost use Rattle.lfs_lookup.specs.Items.{structure_seen};
+ghost use Rattle.lfs_lookup.specs.Items.{structure_view};
 ghost use Rattle.lfs_lookup.specs.Reading.{IsReading};
 
 use crate::items::Structure;
@@ -30,8 +30,8 @@ pub fn contents_of<D: BlockDevice>(
     structure: &Structure,
 ) -> Result<Vec<u8>, Error>
     requires works { thread.old.failed ≡ false }
-    requires list { IsListIfCtz thread.old.kept.disk (structure_seen structure.now) }
-    ensures bytes { IfOk result (λ bytes. bytes.items ≡ bytes_shown thread.old.kept.disk (structure_seen structure.now)) }
+    requires list { IsListIfCtz thread.old.kept.disk (structure_view structure.now) }
+    ensures bytes { IfOk result (λ bytes. bytes.items ≡ bytes_shown thread.old.kept.disk (structure_view structure.now)) }
     ensures reading { IsReading thread.old thread.new result }
 {
     match structure {

@@ -1,7 +1,7 @@
 // The contents of a file, as they are kept beside its entry.
 
 ghost use Rattle.std.specs.Prelude.{◌≡◌, ◌≤◌, ◌<◌, ◌+◌, ◌^◌, IfOk, IsSome, List, ℕ, drop, false, length, sum_by, take};
-ghost use Rattle.lfs_model.specs.Discipline.{pairs_of_path, parents};
+ghost use Rattle.lfs_model.specs.Frame.{pairs_of_path, parents};
 ghost use Rattle.lfs_model.specs.History.{reads};
 ghost use Rattle.lfs_model.specs.Shown.{tree_in};
 ghost use Rattle.lfs_model.specs.Slots.{Inline, Slot};
@@ -9,8 +9,8 @@ ghost use Rattle.lfs_model.specs.Thread.{superblocks_before};
 ghost use Rattle.lfs_model.specs.Tree.{Path as ModelPath};
 ghost use Rattle.lfs_model.specs.TreeEdits.{bytes_at};
 ghost use Rattle.lfs_model.specs.View.{IsAccepted, IsListIfCtz};
-ghost use Rattle.lfs_thread.specs.Lent.{at_hand};
-ghost use Rattle.lfs_lookup.specs.AtHand.{AreOnHand};
+ghost use Rattle.lfs_thread.specs.CachedLog.{cached_log};
+ghost use Rattle.lfs_lookup.specs.CachedPairs.{AreCachedBeneath};
 ghost use Rattle.lfs_lookup.specs.BytesAt.{IsFileAt};
 ghost use Rattle.lfs_lookup.specs.FileContents.{AreContentsAt, AreContentsOf, AreFoundAt, FitsEntry, struct_of};
 ghost use Rattle.lfs_lookup.specs.Finds.{Finds};
@@ -43,7 +43,7 @@ pub struct FoundFile {
     pub contents: Option<FileContents>,
 }
 
-// The contents of a file whose slot stands there, in a block at hand.
+// The contents of a file whose slot stands there, in a cached block.
 fn contents_of_slot<D: BlockDevice>(
     alloc: Global,
     thread: &mut Thread<D>,
@@ -51,7 +51,7 @@ fn contents_of_slot<D: BlockDevice>(
     contents: Contents,
 ) -> Result<FileContents, Error>
     requires works { thread.old.failed ≡ false }
-    requires at_hand { IsSome (at_hand thread.old slot.pair) }
+    requires cached_log { IsSome (cached_log thread.old slot.pair) }
     requires file { (held : Slot) × IsFileAt thread.old.kept slot contents held }
     ensures is { (held : Slot) → IsFileAt thread.old.kept slot contents held → IfOk result (AreContentsOf held.struct) }
     ensures no_call { thread.new.kept ≡ thread.old.kept }
@@ -67,7 +67,7 @@ fn contents_of_slot<D: BlockDevice>(
 }
 
 /// What a path leads to, and the contents of a file there. No more reads than the directories above
-/// the path have pairs, and none where all these pairs are at hand.
+/// the path have pairs, and none where all these pairs are cached.
 ///
 /// `root` is the number of the root directory's first pair. `Io` where a read failed, and `NoMemory`
 /// where room isn't granted.
@@ -83,7 +83,7 @@ pub fn file_at<D: BlockDevice>(
     ensures found { IfOk result (λ found. Finds (tree_in thread.old.kept.disk thread.old.kept.pairs) path.now found.finding) }
     ensures contents { IfOk result (λ found. AreFoundAt thread.old.kept path.now found.contents) }
     ensures few { reads thread.new.kept.history ≤ reads thread.old.kept.history + sum_by (pairs_of_path thread.old.kept.pairs) (parents path.now) }
-    ensures kept { AreOnHand thread.old (parents path.now) → reads thread.new.kept.history ≡ reads thread.old.kept.history }
+    ensures kept { AreCachedBeneath thread.old (parents path.now) → reads thread.new.kept.history ≡ reads thread.old.kept.history }
     ensures reading { IsReading thread.old thread.new result }
 {
     let shown = shown_at(alloc, thread, root, path)?;

@@ -5,10 +5,10 @@ ghost use Rattle.std.specs.Option.{option_map};
 ghost use Rattle.lfs_model.specs.Slots.{Content as ModelContent};
 ghost use Rattle.lfs_model.specs.Content.{struct_typed};
 ghost use Rattle.lfs_model.specs.LoggedContent.{HasParts, HaveParts, IsPart};
-ghost use Rattle.lfs_thread.specs.Lent.{IsBlockOf};
-ghost use Rattle.lfs_tag.specs.ContentSeen.{part_seen, slot_seen};
+ghost use Rattle.lfs_thread.specs.CachedLog.{IsBlockOf};
+ghost use Rattle.lfs_tag.specs.ContentView.{part_view, slot_view};
 ghost use Rattle.lfs_lookup.specs.ByName.{AreByName};
-ghost use Rattle.lfs_lookup.specs.Items.{item_seen, items_seen, listed, shapes_in, shown_among, shown_raw, structure_seen, without};
+ghost use Rattle.lfs_lookup.specs.Items.{item_view, items_view, listed, shapes_in, shown_among, shown_raw, structure_view, without};
 
 use lfs_device::Error;
 use lfs_tag::kinds::{CTZ_STRUCT, DIRECTORY_NAME, DIRECTORY_STRUCT, FILE_NAME};
@@ -38,8 +38,8 @@ pub struct Item {
 
 // What a struct's part of a slot says.
 fn structure_of(alloc: Global, part: &Part<'_>) -> Result<Structure, AllocError>
-    requires { IsPart 2 (part_seen part.now) }
-    ensures { IfOk result (λ s. structure_seen s ≡ struct_typed part.now.kind part.now.bytes.now) }
+    requires { IsPart 2 (part_view part.now) }
+    ensures { IfOk result (λ s. structure_view s ≡ struct_typed part.now.kind part.now.bytes.now) }
 {
     match (part.kind, <&[u8; 8]>::try_from(part.bytes)) {
         (DIRECTORY_STRUCT, Ok(bytes)) => Ok(Structure::Branch(pair_of(bytes))),
@@ -56,8 +56,8 @@ fn structure_of(alloc: Global, part: &Part<'_>) -> Result<Structure, AllocError>
 
 // What a slot shows. Nothing where it is the superblock's, or has no name or no struct.
 fn item_of(alloc: Global, slot: &Slot<'_>) -> Result<Option<Item>, AllocError>
-    requires { HasParts (slot_seen slot.now) }
-    ensures { IfOk result (λ item. option_map item_seen item ≡ shown_raw (slot_seen slot.now)) }
+    requires { HasParts (slot_view slot.now) }
+    ensures { IfOk result (λ item. option_map item_view item ≡ shown_raw (slot_view slot.now)) }
 {
     let (Some(name), Some(part)) = (slot.name, slot.structure) else {
         return Ok(None);
@@ -72,8 +72,8 @@ fn item_of(alloc: Global, slot: &Slot<'_>) -> Result<Option<Item>, AllocError>
 
 // Adds what a slot shows.
 fn push_shown(alloc: Global, items: &mut Vec<Item>, slot: &Slot<'_>) -> Result<(), AllocError>
-    requires { HasParts (slot_seen slot.now) }
-    ensures { OnOk result (items_seen items.new.items ≡ items_seen items.old.items ++ listed (shown_raw (slot_seen slot.now))) }
+    requires { HasParts (slot_view slot.now) }
+    ensures { OnOk result (items_view items.new.items ≡ items_view items.old.items ++ listed (shown_raw (slot_view slot.now))) }
 {
     if let Some(item) = item_of(alloc, slot)? {
         items.push(item)?;
@@ -83,8 +83,8 @@ fn push_shown(alloc: Global, items: &mut Vec<Item>, slot: &Slot<'_>) -> Result<(
 
 // What slots show.
 fn items_among(alloc: Global, slots: &[Slot<'_>]) -> Result<Vec<Item>, AllocError>
-    requires { HaveParts (map slot_seen slots.now) }
-    ensures { IfOk result (λ items. items_seen items.items ≡ shown_among (map slot_seen slots.now)) }
+    requires { HaveParts (map slot_view slots.now) }
+    ensures { IfOk result (λ items. items_view items.items ≡ shown_among (map slot_view slots.now)) }
 {
     let mut items = Vec::new(alloc);
     for slot in slots {
@@ -95,7 +95,7 @@ fn items_among(alloc: Global, slots: &[Slot<'_>]) -> Result<Vec<Item>, AllocErro
 
 // Removes the slot of an id, if there is one.
 fn remove_moved(slots: &mut Vec<Slot<'_>>, moved: Option<usize>)
-    ensures { map slot_seen slots.new.items ≡ without moved (map slot_seen slots.old.items) }
+    ensures { map slot_view slots.new.items ≡ without moved (map slot_view slots.old.items) }
 {
     if let Some(id) = moved {
         if id < slots.len() {
@@ -111,7 +111,7 @@ pub(crate) fn items_in(
     moved: Option<usize>,
 ) -> Result<Vec<Item>, Error>
     requires { (content : ModelContent) × IsBlockOf log.now content }
-    ensures items { (content : ModelContent) → IsBlockOf log.now content → IfOk result (λ items. items_seen items.items ≡ shapes_in moved content.slots) }
+    ensures items { (content : ModelContent) → IsBlockOf log.now content → IfOk result (λ items. items_view items.items ≡ shapes_in moved content.slots) }
     ensures errors { IfErr result (λ e. e ≡ Error.NoMemory) }
 {
     let mut content = Content::read(alloc, log)?;
@@ -122,7 +122,7 @@ pub(crate) fn items_in(
 
 // Puts entries in the order of their names, the shorter names first.
 pub(crate) fn sort_by_name(items: &mut Vec<Item>)
-    ensures { AreByName (items_seen items.old.items) (items_seen items.new.items) }
+    ensures { AreByName (items_view items.old.items) (items_view items.new.items) }
 {
     items.sort_unstable_by(|a, b| a.name.cmp(&b.name));
 }

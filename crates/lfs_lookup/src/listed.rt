@@ -1,15 +1,15 @@
 // What stands in the directory at a path, by name and size.
 
 ghost use Rattle.std.specs.Prelude.{◌≡◌, ◌≤◌, ◌+◌, ◌++◌, ◌∷◌, [], IfOk, false, map, sum_by};
-ghost use Rattle.lfs_model.specs.Discipline.{pairs_of_path, parents};
+ghost use Rattle.lfs_model.specs.Frame.{pairs_of_path, parents};
 ghost use Rattle.lfs_model.specs.History.{reads};
 ghost use Rattle.lfs_model.specs.Effects.{items_in};
 ghost use Rattle.lfs_model.specs.Thread.{superblocks_before};
 ghost use Rattle.lfs_model.specs.View.{IsAccepted};
 ghost use Rattle.lfs_model.specs.Shown.{tree_in};
-ghost use Rattle.lfs_lookup.specs.AtHand.{AreOnHand};
-ghost use Rattle.lfs_lookup.specs.Finds.{Finds, list_item_seen};
-ghost use Rattle.lfs_lookup.specs.Items.{item_seen, items_seen, structure_seen};
+ghost use Rattle.lfs_lookup.specs.CachedPairs.{AreCachedBeneath};
+ghost use Rattle.lfs_lookup.specs.Finds.{Finds, list_item_view};
+ghost use Rattle.lfs_lookup.specs.Items.{item_view, items_view, structure_view};
 ghost use Rattle.lfs_lookup.specs.ListAt.{AreShort, IsShort, item_listed, size_listed};
 ghost use Rattle.lfs_lookup.specs.Reading.{IsReading};
 
@@ -24,8 +24,8 @@ use std::alloc::{AllocError, Global};
 
 // How many bytes a file has. None for a directory.
 fn listed_size(structure: &Structure) -> Option<u32>
-    requires { IsShort (structure_seen structure.now) }
-    ensures { result ≡ size_listed (structure_seen structure.now) }
+    requires { IsShort (structure_view structure.now) }
+    ensures { result ≡ size_listed (structure_view structure.now) }
 {
     match structure {
         Structure::Inline(bytes) => Some(bytes.len() as u32),
@@ -36,8 +36,8 @@ fn listed_size(structure: &Structure) -> Option<u32>
 
 // An entry by name and size.
 fn listed_item(item: Item) -> ListItem
-    requires { IsShort (structure_seen item.structure) }
-    ensures { list_item_seen result ≡ item_listed (item_seen item) }
+    requires { IsShort (structure_view item.structure) }
+    ensures { list_item_view result ≡ item_listed (item_view item) }
 {
     let size = listed_size(&item.structure);
     ListItem {
@@ -48,8 +48,8 @@ fn listed_item(item: Item) -> ListItem
 
 // Entries by name and size.
 fn listed_items(alloc: Global, items: Vec<Item>) -> Result<Vec<ListItem>, AllocError>
-    requires { AreShort (items_seen items.items) }
-    ensures { IfOk result (λ listed. map list_item_seen listed.items ≡ map item_listed (items_seen items.items)) }
+    requires { AreShort (items_view items.items) }
+    ensures { IfOk result (λ listed. map list_item_view listed.items ≡ map item_listed (items_view items.items)) }
 {
     let mut listed = Vec::new(alloc);
     for item in items {
@@ -60,7 +60,7 @@ fn listed_items(alloc: Global, items: Vec<Item>) -> Result<Vec<ListItem>, AllocE
 
 /// What a path leads to, and what stands in the directory at it, in name order, the shorter names
 /// first; no items where none is there. No more reads than the directories above the path and the one at it have pairs, and
-/// none where all these pairs are at hand.
+/// none where all these pairs are cached.
 ///
 /// `root` is the number of the root directory's first pair. `Io` where a read failed, and `NoMemory`
 /// where room isn't granted.
@@ -74,9 +74,9 @@ pub fn list_at<D: BlockDevice>(
     requires accepted { IsAccepted thread.old.kept.disk thread.old.kept.pairs }
     requires root { root ≡ superblocks_before thread.old.kept.pairs }
     ensures found { IfOk result (λ listing. Finds (tree_in thread.old.kept.disk thread.old.kept.pairs) path.now listing.finding) }
-    ensures items { IfOk result (λ listing. map list_item_seen listing.items.items ≡ items_in (tree_in thread.old.kept.disk thread.old.kept.pairs) path.now) }
+    ensures items { IfOk result (λ listing. map list_item_view listing.items.items ≡ items_in (tree_in thread.old.kept.disk thread.old.kept.pairs) path.now) }
     ensures few { reads thread.new.kept.history ≤ reads thread.old.kept.history + sum_by (pairs_of_path thread.old.kept.pairs) (parents path.now ++ path.now ∷ []) }
-    ensures kept { AreOnHand thread.old (parents path.now ++ path.now ∷ []) → reads thread.new.kept.history ≡ reads thread.old.kept.history }
+    ensures kept { AreCachedBeneath thread.old (parents path.now ++ path.now ∷ []) → reads thread.new.kept.history ≡ reads thread.old.kept.history }
     ensures reading { IsReading thread.old thread.new result }
 {
     let shown = shown_at(alloc, thread, root, path)?;

@@ -1,21 +1,21 @@
 // Paths, from the root down.
 
 ghost use Rattle.std.specs.Prelude.{◌≡◌, None, ◌<◌, ◌≤◌, ◌+◌, false, length, IfOk, map, sum_by, ◌++◌, ◌∷◌, [], drop};
-ghost use Rattle.lfs_model.specs.Discipline.{pairs_of_path, parents};
+ghost use Rattle.lfs_model.specs.Frame.{pairs_of_path, parents};
 ghost use Rattle.lfs_model.specs.History.{reads};
 ghost use Rattle.lfs_model.specs.InDirectory.{run_length};
 ghost use Rattle.lfs_model.specs.Thread.{gstate_of};
 ghost use Rattle.lfs_model.specs.Tree.{Path};
 ghost use Rattle.lfs_model.specs.View.{IsAccepted};
-ghost use Rattle.lfs_thread.specs.Steps.{HasTold, IsOnlyRead};
-ghost use Rattle.lfs_tag.specs.FieldsSeen.{move_seen};
-ghost use Rattle.lfs_lookup.specs.AtHand.{BringsAlong, BringsDown};
+ghost use Rattle.lfs_thread.specs.Steps.{HasReported, IsOnlyRead};
+ghost use Rattle.lfs_tag.specs.FieldsView.{move_view};
+ghost use Rattle.lfs_lookup.specs.CachedPairs.{LoadsAlong, LoadsDown};
 ghost use Rattle.lfs_lookup.specs.AtPath.{IsThrough};
-ghost use Rattle.lfs_lookup.specs.AttributeAt.{IsAtHand};
+ghost use Rattle.lfs_lookup.specs.AttributeAt.{IsPairCached};
 ghost use Rattle.lfs_lookup.specs.Listed.{joined_run};
 ghost use Rattle.lfs_lookup.specs.Reading.{IsReading};
 ghost use Rattle.lfs_lookup.specs.Search.{HidesFrom};
-ghost use Rattle.lfs_lookup.specs.Paths.{BeginsOnPath, Descends, Enters, IsHiding, IsSettled, IsShownAt, IsThere, LeadsTo, ShowsTo, fault_of};
+ghost use Rattle.lfs_lookup.specs.Paths.{BeginsOnPath, Descends, Enters, IsHiding, HasNothingSet, IsShownAt, IsThere, LeadsTo, ShowsTo, fault_of};
 
 use crate::entry::{Contents, Entry};
 use crate::search::{Sought, Spot, find_name, find_shown};
@@ -87,7 +87,7 @@ pub enum Shown {
 // (DESIGN.md of littlefs, "The move problem"). None where no move is set.
 pub(crate) fn moved_slot<D: BlockDevice>(thread: &Thread<D>, state: &MoveState) -> Option<Spot>
     requires { IsAccepted thread.now.kept.disk thread.now.kept.pairs }
-    ensures { HidesFrom (move_seen state.now) result 0 thread.now.kept.pairs }
+    ensures { HidesFrom (move_view state.now) result 0 thread.now.kept.pairs }
 {
     if state.kind != DELETE {
         return None;
@@ -111,10 +111,10 @@ fn enter<D: BlockDevice>(
     requires reached { (path : Path) × BeginsOnPath thread.old.kept.pairs path first }
     ensures answer { IfOk result (λ parent. (path : Path) → BeginsOnPath thread.old.kept.pairs path first → Enters thread.old.kept (path ++ name.now ∷ []) parent) }
     ensures few { reads thread.new.kept.history ≤ reads thread.old.kept.history + run_length (drop first thread.old.kept.pairs) }
-    ensures brings { BringsAlong (joined_run (drop first thread.old.kept.pairs)) thread.old thread.new result }
+    ensures loads { LoadsAlong (joined_run (drop first thread.old.kept.pairs)) thread.old thread.new result }
     ensures only { IsOnlyRead thread.old.kept thread.new.kept }
     ensures works { thread.new.failed ≡ false }
-    ensures errors { HasTold thread.old.kept thread.new.kept result }
+    ensures errors { HasReported thread.old.kept thread.new.kept result }
 {
     match find_shown(alloc, thread, first, name, moved)? {
         Some((_, Entry::Directory(at))) => {
@@ -143,10 +143,10 @@ pub(crate) fn find_directory<D: BlockDevice>(
     requires root { BeginsOnPath thread.old.kept.pairs [] root }
     ensures answer { IfOk result (Descends thread.old.kept (map (λ name. name.now) path.now)) }
     ensures few { reads thread.new.kept.history ≤ reads thread.old.kept.history + sum_by (pairs_of_path thread.old.kept.pairs) (parents (map (λ name. name.now) path.now)) }
-    ensures brings { BringsDown (λ parent. fault_of parent ≡ None) (parents (map (λ name. name.now) path.now)) thread.old thread.new result }
+    ensures loads { LoadsDown (λ parent. fault_of parent ≡ None) (parents (map (λ name. name.now) path.now)) thread.old thread.new result }
     ensures only { IsOnlyRead thread.old.kept thread.new.kept }
     ensures works { thread.new.failed ≡ false }
-    ensures errors { HasTold thread.old.kept thread.new.kept result }
+    ensures errors { HasReported thread.old.kept thread.new.kept result }
 {
     let mut first = root;
     for name in path {
@@ -167,13 +167,13 @@ fn look_in<D: BlockDevice>(
     name: &[u8],
 ) -> Result<Found, Error>
     requires works { thread.old.failed ≡ false }
-    requires settled { IsSettled thread.old.kept }
+    requires settled { HasNothingSet thread.old.kept }
     requires reached { (above : Path) × BeginsOnPath thread.old.kept.pairs above parent }
     ensures answer { IfOk result (λ found. (above : Path) → BeginsOnPath thread.old.kept.pairs above parent → IsThere thread.old.kept.disk.order thread.old.kept.pairs above name.now found) }
     ensures few { reads thread.new.kept.history ≤ reads thread.old.kept.history + run_length (drop parent thread.old.kept.pairs) }
     ensures only { IsOnlyRead thread.old.kept thread.new.kept }
     ensures works { thread.new.failed ≡ false }
-    ensures errors { HasTold thread.old.kept thread.new.kept result }
+    ensures errors { HasReported thread.old.kept thread.new.kept result }
 {
     match find_name(alloc, thread, parent, name)? {
         Sought::Found(slot, Entry::Directory(at)) => {
@@ -205,13 +205,13 @@ pub fn look_up<D: BlockDevice>(
     path: &[&[u8]],
 ) -> Result<Found, Error>
     requires works { thread.old.failed ≡ false }
-    requires settled { IsSettled thread.old.kept }
+    requires settled { HasNothingSet thread.old.kept }
     requires root { BeginsOnPath thread.old.kept.pairs [] root }
     ensures answer { IfOk result (LeadsTo thread.old.kept (map (λ name. name.now) path.now)) }
     ensures few { reads thread.new.kept.history ≤ reads thread.old.kept.history + sum_by (pairs_of_path thread.old.kept.pairs) (parents (map (λ name. name.now) path.now)) }
     ensures only { IsOnlyRead thread.old.kept thread.new.kept }
     ensures works { thread.new.failed ≡ false }
-    ensures errors { HasTold thread.old.kept thread.new.kept result }
+    ensures errors { HasReported thread.old.kept thread.new.kept result }
 {
     let Some((name, above)) = path.split_last() else {
         return Ok(Found::Root);
@@ -235,9 +235,9 @@ fn show_in<D: BlockDevice>(
     requires hiding { IsHiding thread.old.kept moved }
     requires reached { (above : Path) × BeginsOnPath thread.old.kept.pairs above parent }
     ensures answer { IfOk result (λ shown. (above : Path) → BeginsOnPath thread.old.kept.pairs above parent → IsShownAt thread.old.kept.pairs moved (above ++ name.now ∷ []) shown) }
-    ensures at_hand { IfOk result (IsAtHand thread.new) }
+    ensures cached_log { IfOk result (IsPairCached thread.new) }
     ensures few { reads thread.new.kept.history ≤ reads thread.old.kept.history + run_length (drop parent thread.old.kept.pairs) }
-    ensures brings { BringsAlong (joined_run (drop parent thread.old.kept.pairs)) thread.old thread.new result }
+    ensures loads { LoadsAlong (joined_run (drop parent thread.old.kept.pairs)) thread.old thread.new result }
     ensures reading { IsReading thread.old thread.new result }
 {
     match find_shown(alloc, thread, parent, name, moved)? {
@@ -266,9 +266,9 @@ pub(crate) fn look_up_shown<D: BlockDevice>(
     requires hiding { IsHiding thread.old.kept moved }
     requires root { BeginsOnPath thread.old.kept.pairs [] root }
     ensures answer { IfOk result (ShowsTo thread.old.kept moved (map (λ name. name.now) path.now)) }
-    ensures at_hand { IfOk result (IsAtHand thread.new) }
+    ensures cached_log { IfOk result (IsPairCached thread.new) }
     ensures few { reads thread.new.kept.history ≤ reads thread.old.kept.history + sum_by (pairs_of_path thread.old.kept.pairs) (parents (map (λ name. name.now) path.now)) }
-    ensures brings { BringsDown IsThrough (parents (map (λ name. name.now) path.now)) thread.old thread.new result }
+    ensures loads { LoadsDown IsThrough (parents (map (λ name. name.now) path.now)) thread.old thread.new result }
     ensures reading { IsReading thread.old thread.new result }
 {
     let Some((name, above)) = path.split_last() else {

@@ -8,8 +8,8 @@ ghost use Rattle.lfs_model.specs.Slots.{Content as ModelContent, File, Slot as M
 ghost use Rattle.lfs_model.specs.Thread.{superblocks_before};
 ghost use Rattle.lfs_model.specs.Profile.{FitsEntry, FitsSlot, IsWritable};
 ghost use Rattle.lfs_model.specs.View.{IsAccepted};
-ghost use Rattle.lfs_tag.specs.ContentSeen.{attribute_seen, slot_seen};
-ghost use Rattle.lfs_thread.specs.Lent.{IsBlockOf};
+ghost use Rattle.lfs_tag.specs.ContentView.{attribute_view, slot_view};
+ghost use Rattle.lfs_thread.specs.CachedLog.{IsBlockOf};
 ghost use Rattle.lfs_thread.specs.Steps.{pair_in};
 ghost use Rattle.lfs_lookup.specs.Profile.{IsPairWritable, IsShaped, follows_at};
 ghost use Rattle.lfs_lookup.specs.Reading.{IsReading};
@@ -30,7 +30,7 @@ fn fits_entry(
     attributes: &[Attribute<'_>],
 ) -> bool
     ensures { IsTrue result ↔ FitsEntry geometry.now.block_size geometry.now.page
-        (record { kind = File; name = name.now.bytes.now; struct = struct_typed structure.now.kind structure.now.bytes.now; attributes = map attribute_seen attributes.now }) }
+        (record { kind = File; name = name.now.bytes.now; struct = struct_typed structure.now.kind structure.now.bytes.now; attributes = map attribute_view attributes.now }) }
 {
     let limit = geometry.inline_limit();
     let charge = attributes_size(attributes)
@@ -56,8 +56,8 @@ fn has_written_limits(structure: &Part<'_>) -> bool
 
 // Whether a slot keeps within what is written.
 fn fits_slot(geometry: &Geometry, slot: &Slot<'_>) -> bool
-    requires { (s : ModelSlot) × ((complete (slot_seen slot.now) ≡ Some s) × IsShaped s) }
-    ensures { (s : ModelSlot) → complete (slot_seen slot.now) ≡ Some s → IsShaped s → IsTrue result ↔ FitsSlot geometry.now.block_size geometry.now.page s }
+    requires { (s : ModelSlot) × ((complete (slot_view slot.now) ≡ Some s) × IsShaped s) }
+    ensures { (s : ModelSlot) → complete (slot_view slot.now) ≡ Some s → IsShaped s → IsTrue result ↔ FitsSlot geometry.now.block_size geometry.now.page s }
 {
     let (Some(name), Some(structure)) = (slot.name, slot.structure) else {
         return false;
@@ -70,8 +70,8 @@ fn fits_slot(geometry: &Geometry, slot: &Slot<'_>) -> bool
 
 // Whether all slots do.
 fn fit_all(geometry: &Geometry, slots: &[Slot<'_>]) -> bool
-    requires { (all : List ModelSlot) × ((complete_all (map slot_seen slots.now) ≡ Some all) × All IsShaped all) }
-    ensures { (all : List ModelSlot) → complete_all (map slot_seen slots.now) ≡ Some all → All IsShaped all → IsTrue result ↔ All (FitsSlot geometry.now.block_size geometry.now.page) all }
+    requires { (all : List ModelSlot) × ((complete_all (map slot_view slots.now) ≡ Some all) × All IsShaped all) }
+    ensures { (all : List ModelSlot) → complete_all (map slot_view slots.now) ≡ Some all → All IsShaped all → IsTrue result ↔ All (FitsSlot geometry.now.block_size geometry.now.page) all }
 {
     for slot in slots {
         if !fits_slot(geometry, slot) {
@@ -124,7 +124,7 @@ fn fits_at<D: BlockDevice>(
     ensures is { IfOk result (λ b. IsTrue b ↔ IsPairWritable geometry.now.block_size geometry.now.page follows (pair_in thread.old.kept index).content) }
     ensures reading { IsReading thread.old thread.new result }
 {
-    thread.bring(index)?;
+    thread.load_pair(index)?;
     fits_in_log(alloc, geometry, &thread.lend(index).unwrap(), follows)
 }
 

@@ -6,8 +6,8 @@ ghost use Rattle.lfs_model.specs.History.{reads};
 ghost use Rattle.lfs_model.specs.Slots.{Content as ModelContent, Slot as ModelSlot, is_superblock};
 ghost use Rattle.lfs_model.specs.Thread.{starts_with_superblock, superblocks_before};
 ghost use Rattle.lfs_model.specs.View.{IsAccepted};
-ghost use Rattle.lfs_tag.specs.ContentSeen.{slot_seen};
-ghost use Rattle.lfs_thread.specs.Lent.{IsBlockOf};
+ghost use Rattle.lfs_tag.specs.ContentView.{slot_view};
+ghost use Rattle.lfs_thread.specs.CachedLog.{IsBlockOf};
 ghost use Rattle.lfs_thread.specs.Steps.{pair_in};
 ghost use Rattle.lfs_lookup.specs.Reading.{IsReading};
 ghost use Rattle.lfs_lookup.specs.Root.{IsInChain, IsNext, next_in_chain};
@@ -20,7 +20,7 @@ use std::alloc::Global;
 
 // Whether a slot is a superblock's.
 fn is_superblock(slot: &Slot<'_>) -> bool
-    ensures { (s : ModelSlot) → complete (slot_seen slot.now) ≡ Some s → result ≡ is_superblock s }
+    ensures { (s : ModelSlot) → complete (slot_view slot.now) ≡ Some s → result ≡ is_superblock s }
 {
     match slot.name {
         Some(name) => name.kind != FILE_NAME && name.kind != DIRECTORY_NAME,
@@ -53,7 +53,7 @@ fn begins_with_superblock<D: BlockDevice>(
     ensures few { reads thread.new.kept.history ≤ reads thread.old.kept.history + 1 }
     ensures reading { IsReading thread.old thread.new result }
 {
-    thread.bring(index)?;
+    thread.load_pair(index)?;
     starts_with_superblock(alloc, &thread.lend(index).unwrap())
 }
 

@@ -4,12 +4,12 @@ ghost use Rattle.std.specs.Prelude.{◌≡◌, ◌<◌, ◌≤◌, ◌+◌, ◌�
 ghost use Rattle.lfs_model.specs.History.{reads};
 ghost use Rattle.lfs_model.specs.InDirectory.{HaveNoSuperblock, run_length};
 ghost use Rattle.lfs_model.specs.Slots.{Content};
-ghost use Rattle.lfs_thread.specs.Lent.{IsBlockOf, at_hand};
-ghost use Rattle.lfs_thread.specs.Steps.{HasTold, IsOnlyRead, pair_in};
-ghost use Rattle.lfs_lookup.specs.AtHand.{BringsAlong};
+ghost use Rattle.lfs_thread.specs.CachedLog.{IsBlockOf, cached_log};
+ghost use Rattle.lfs_thread.specs.Steps.{HasReported, IsOnlyRead, pair_in};
+ghost use Rattle.lfs_lookup.specs.CachedPairs.{LoadsAlong};
 ghost use Rattle.lfs_lookup.specs.Listed.{joined_run};
 ghost use Rattle.lfs_lookup.specs.Reading.{IsReading};
-ghost use Rattle.lfs_lookup.specs.Search.{Answers, AnswersIn, AnswersShown, HoldsContent, passed_in};
+ghost use Rattle.lfs_lookup.specs.Search.{SearchFinds, AnswersIn, AnswersShown, HoldsContent, passed_in};
 
 use crate::entry::{Entry, entry_of};
 use lfs_device::{BlockDevice, Error, NameOrder};
@@ -72,12 +72,12 @@ fn find_in_pair<D: BlockDevice>(
     requires works { thread.old.failed ≡ false }
     requires below { pair < length thread.old.kept.pairs }
     ensures answer { IfOk result (AnswersIn thread.old.kept.disk.order skip (pair_in thread.old.kept pair).content.slots name.now) }
-    ensures at_hand { OnOk result (IsSome (at_hand thread.new pair)) }
+    ensures cached_log { OnOk result (IsSome (cached_log thread.new pair)) }
     ensures few { reads thread.new.kept.history ≤ reads thread.old.kept.history + 1 }
-    ensures brings { BringsAlong (pair_in thread.old.kept pair ∷ []) thread.old thread.new result }
+    ensures loads { LoadsAlong (pair_in thread.old.kept pair ∷ []) thread.old thread.new result }
     ensures reading { IsReading thread.old thread.new result }
 {
-    thread.bring(pair)?;
+    thread.load_pair(pair)?;
     let order = thread.geometry().order;
     let log = thread.lend(pair).unwrap();
     let found = find_in_log(alloc, &log, order, name, skip)?;
@@ -100,11 +100,11 @@ pub(crate) fn find_name<D: BlockDevice>(
     requires works { thread.old.failed ≡ false }
     requires below { first < length thread.old.kept.pairs }
     requires entries { HaveNoSuperblock (drop (first + 1) thread.old.kept.pairs) }
-    ensures answer { IfOk result (Answers thread.old.kept.disk.order thread.old.kept.pairs first name.now) }
+    ensures answer { IfOk result (SearchFinds thread.old.kept.disk.order thread.old.kept.pairs first name.now) }
     ensures only { IsOnlyRead thread.old.kept thread.new.kept }
     ensures few { reads thread.new.kept.history ≤ reads thread.old.kept.history + run_length (drop first thread.old.kept.pairs) }
     ensures works { thread.new.failed ≡ false }
-    ensures errors { HasTold thread.old.kept thread.new.kept result }
+    ensures errors { HasReported thread.old.kept thread.new.kept result }
 {
     let mut spot = Spot { pair: first, id: 0 };
     let mut pair = first;
@@ -129,7 +129,7 @@ pub(crate) fn find_name<D: BlockDevice>(
 /// What a name stands for among the entries of the directory that begins with the pair of number
 /// `first`, where the slot `moved` counts as deleted: the one that a set move names (DESIGN.md of
 /// littlefs, "The move problem"). None where nothing has the name. No more reads than the directory
-/// has pairs, and none where all of them are at hand; the one that has the name is at hand then.
+/// has pairs, and none where all of them are cached; the one that has the name is cached then.
 ///
 /// `Io` where a read failed, and `NoMemory` where the room for a block isn't granted. The thread
 /// works on after either.
@@ -143,9 +143,9 @@ pub fn find_shown<D: BlockDevice>(
     requires works { thread.old.failed ≡ false }
     requires below { first < length thread.old.kept.pairs }
     ensures answer { IfOk result (AnswersShown thread.old.kept.pairs moved first name.now) }
-    ensures at_hand { IfOk result (λ found. IfSome found (λ f. IsSome (at_hand thread.new f.0.pair))) }
+    ensures cached_log { IfOk result (λ found. IfSome found (λ f. IsSome (cached_log thread.new f.0.pair))) }
     ensures few { reads thread.new.kept.history ≤ reads thread.old.kept.history + run_length (drop first thread.old.kept.pairs) }
-    ensures brings { BringsAlong (joined_run (drop first thread.old.kept.pairs)) thread.old thread.new result }
+    ensures loads { LoadsAlong (joined_run (drop first thread.old.kept.pairs)) thread.old thread.new result }
     ensures reading { IsReading thread.old thread.new result }
 {
     let mut pair = first;

@@ -12,7 +12,7 @@ use Rattle.lfs_pair.specs.Pair.{Fetches, IsPair, address_in, second_holds}
 use Rattle.lfs_pair.specs.Commit.{IsAddressOn, NowHolds}
 use Rattle.lfs_model.specs.Changes.{Change}
 use Rattle.lfs_pair.specs.Fresh.{IsFresh}
-use Rattle.lfs_metadata_tests.specs.Kept.{IsKept}
+use Rattle.lfs_metadata_tests.specs.Kept.{IsPairKept}
 
 -- the active block is one of the device
 pub active_within : (disk : Disk) (history : List Event) (pair : Pair) (held : RawContent) (count : ℕ) → IsAddressOn disk (address_in pair) → IsPair disk history pair held → length disk.blocks ≡ count → pair.active < count
@@ -23,9 +23,9 @@ active_within disk history pair held count on is size = go (second_holds (block_
     go false e = omega (arith, e, on.first, size)
 
 -- after reads alone
-pub kept_by_reads : (disk : Disk) (before after : List Event) (blocks : Blocks) (pair : Pair) → IsKept disk before pair → blocks ≡ disk.blocks → OnlyReads disk.blocks before after
-    → IsKept (record disk { blocks = blocks }) after pair
-kept_by_reads disk before after blocks pair kept same reads = subst (λ (d : Blocks). IsKept (record disk { blocks = d }) after pair) (sym same) (record {
+pub kept_by_reads : (disk : Disk) (before after : List Event) (blocks : Blocks) (pair : Pair) → IsPairKept disk before pair → blocks ≡ disk.blocks → OnlyReads disk.blocks before after
+    → IsPairKept (record disk { blocks = blocks }) after pair
+kept_by_reads disk before after blocks pair kept same reads = subst (λ (d : Blocks). IsPairKept (record disk { blocks = d }) after pair) (sym same) (record {
   address = kept.address;
   held = kept.held;
   is_pair = record {
@@ -39,7 +39,7 @@ kept_by_reads disk before after blocks pair kept same reads = subst (λ (d : Blo
 
 -- after writes, on a device of as many blocks
 pub kept_by_writes : (disk new : Disk) (was pair : Pair) (history : List Event) (held : RawContent) → IsAddressOn disk (address_in was) → length new.blocks ≡ length disk.blocks
-    → NowHolds new history (address_in was) pair held → IsKept new history pair
+    → NowHolds new history (address_in was) pair held → IsPairKept new history pair
 kept_by_writes disk new was pair history held on same holds = record {
   address = subst (IsAddressOn new) (sym holds.same) (record {
     apart = on.apart;
@@ -52,9 +52,9 @@ kept_by_writes disk new was pair history held on same holds = record {
 
 -- after a fetch
 pub kept_by_fetch : (geometry after : Geometry) (blocks left : Blocks) (history : List Event) (at : ℕ × ℕ) (pair : Pair) → after ≡ geometry → left ≡ blocks → length blocks ≡ geometry.block_count
-    → at.0 ≢ at.1 → at.0 < geometry.block_count → at.1 < geometry.block_count → Fetches (disk_of geometry blocks) history at pair → IsKept (disk_of after left) history pair
+    → at.0 ≢ at.1 → at.0 < geometry.block_count → at.1 < geometry.block_count → Fetches (disk_of geometry blocks) history at pair → IsPairKept (disk_of after left) history pair
 kept_by_fetch geometry after blocks left history at pair same_geometry same count apart first second found =
-    subst (λ g. IsKept (disk_of g left) history pair) (sym same_geometry) (subst (λ b. IsKept (disk_of geometry b) history pair) (sym same) (record {
+    subst (λ g. IsPairKept (disk_of g left) history pair) (sym same_geometry) (subst (λ b. IsPairKept (disk_of geometry b) history pair) (sym same) (record {
       address = subst (IsAddressOn (disk_of geometry blocks)) (sym found.at) (record {
         apart = apart;
         first = subst (λ n. at.0 < n) (sym count) first;
@@ -66,7 +66,7 @@ kept_by_fetch geometry after blocks left history at pair same_geometry same coun
 
 -- of two blocks that a pair was made of
 pub kept_by_fresh : (geometry after : Geometry) (blocks left : Blocks) (before history : List Event) (changes : List Change) (at : ℕ × ℕ) (pair : Pair) → after ≡ geometry → length left ≡ length blocks → length blocks ≡ geometry.block_count
-    → at.0 ≢ at.1 → at.0 < geometry.block_count → at.1 < geometry.block_count → IsFresh before changes (disk_of after left) history at pair → IsKept (disk_of after left) history pair
+    → at.0 ≢ at.1 → at.0 < geometry.block_count → at.1 < geometry.block_count → IsFresh before changes (disk_of after left) history at pair → IsPairKept (disk_of after left) history pair
 kept_by_fresh geometry after blocks left before history changes at pair same_geometry same count apart first second fresh = record {
   address = subst (IsAddressOn (disk_of after left)) (sym fresh.holds.same) (record {
     apart = apart;

@@ -11,11 +11,11 @@ use Rattle.lfs_model.specs.Cut.{CanBeCut, FitSlots}
 use Rattle.lfs_model.specs.Thread.{next_of}
 use Rattle.lfs_model.specs.WrittenContent.{FitsRaw}
 use Rattle.lfs_model.proofs.Completed.{completed_parts}
-use Rattle.lfs_tag.specs.ContentSeen.{slot_seen}
+use Rattle.lfs_tag.specs.ContentView.{slot_view}
 use Rattle.lfs_tag.specs.declared.content.Slot.{Slot}
 use Rattle.lfs_pair.specs.Commit.{made_of}
 use Rattle.lfs_thread.specs.Kept.{Kept}
-use Rattle.lfs_thread.specs.Lent.{IsBlockOf}
+use Rattle.lfs_thread.specs.CachedLog.{IsBlockOf}
 use Rattle.lfs_thread.specs.Steps.{pair_in}
 use Rattle.lfs_metadata_tests.specs.Look.{IsLookIn, IsLookAt}
 
@@ -24,13 +24,13 @@ fits_part : (block_size page : ℕ) (c : RawContent) (slots : List RawSlot) → 
 fits_part block_size page c slots same fits = subst (FitSlots block_size page) same (record { size = fits.size; count = fits.count })
 
 pub halved : (block_size page half : ℕ) (all front back : List Slot) (a b : RawContent) → half ≤ length all → front ≡ take half all → back ≡ drop half all
-    → a.slots ≡ map slot_seen front → b.slots ≡ map slot_seen back → FitsRaw block_size page a → FitsRaw block_size page b → CanBeCut block_size page (map slot_seen all)
+    → a.slots ≡ map slot_view front → b.slots ≡ map slot_view back → FitsRaw block_size page a → FitsRaw block_size page b → CanBeCut block_size page (map slot_view all)
 halved block_size page half all front back a b within is_front is_back first second fits fits_back = record {
   cut = half;
   is_cut = record {
-    within = let e = length-map all slot_seen in omega (arith, e, within);
-    front = fits_part block_size page a _ (first ∙ ap (map slot_seen) is_front ∙ sym (take-map slot_seen half all)) fits;
-    back = fits_part block_size page b _ (second ∙ ap (map slot_seen) is_back ∙ sym (drop-map slot_seen half all)) fits_back;
+    within = let e = length-map all slot_view in omega (arith, e, within);
+    front = fits_part block_size page a _ (first ∙ ap (map slot_view) is_front ∙ sym (take-map slot_view half all)) fits;
+    back = fits_part block_size page b _ (second ∙ ap (map slot_view) is_back ∙ sym (drop-map slot_view half all)) fits_back;
   };
 }
 

@@ -10,7 +10,7 @@ use Rattle.lfs_pair.specs.Pair.{IsPair, address_in}
 use Rattle.lfs_pair.specs.Commit.{IsAddressOn, made_in}
 
 -- the disk has the pair as the pair says
-pub record IsKept (disk : Disk) (history : List Event) (pair : Pair) : Type 0 where
+pub record IsPairKept (disk : Disk) (history : List Event) (pair : Pair) : Type 0 where
   pub address : IsAddressOn disk (address_in pair)
   pub held : RawContent
   pub is_pair : IsPair disk history pair held

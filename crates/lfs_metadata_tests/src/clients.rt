@@ -8,8 +8,8 @@ ghost use Rattle.lfs_model.specs.FailedCalls.{FailAsStopped, HasFailedWith};
 ghost use Rattle.lfs_model.specs.History.{EachSince};
 ghost use Rattle.lfs_model.specs.Slots.{address_of};
 ghost use Rattle.lfs_model.specs.Stops.{ErasesCleanly};
-ghost use Rattle.lfs_tag.specs.ContentSeen.{tail_seen};
-ghost use Rattle.lfs_pair.specs.ChangeSeen.{changes_seen};
+ghost use Rattle.lfs_tag.specs.ContentView.{tail_view};
+ghost use Rattle.lfs_pair.specs.ChangeView.{changes_view};
 ghost use Rattle.lfs_pair.specs.Commit.{CanCommit, Commits, LeftByChange};
 ghost use Rattle.lfs_pair.specs.Pair.{address_in};
 ghost use Rattle.lfs_pair.specs.Split.{CanSplit};
@@ -28,12 +28,12 @@ pub fn commit_or_stop<D: BlockDevice>(
     pair: &mut Pair,
     changes: &[Change<'_>],
 ) -> Result<(), Error>
-    requires { CanCommit (disk_of (D.geometry dev.old) (D.blocks dev.old)) (D.history dev.old) pair.old (changes_seen changes.now) }
-    ensures done { OnOk result (Commits (disk_of (D.geometry dev.old) (D.blocks dev.old)) (D.history dev.old) (changes_seen changes.now) pair.old
+    requires { CanCommit (disk_of (D.geometry dev.old) (D.blocks dev.old)) (D.history dev.old) pair.old (changes_view changes.now) }
+    ensures done { OnOk result (Commits (disk_of (D.geometry dev.old) (D.blocks dev.old)) (D.history dev.old) (changes_view changes.now) pair.old
         (disk_of (D.geometry dev.new) (D.blocks dev.new)) (D.history dev.new) pair.new) }
     ensures left { result ≡ Err Error.Io → EachSince ErasesCleanly (D.history dev.old) (D.history dev.new) → FailAsStopped (D.history dev.old) (D.history dev.new)
         → HasFailedWith (D.history dev.new) (D.blocks dev.new)
-        → LeftByChange (disk_of (D.geometry dev.old) (D.blocks dev.old)) (address_in pair.old) (changes_seen changes.now) (D.blocks dev.new) }
+        → LeftByChange (disk_of (D.geometry dev.old) (D.blocks dev.old)) (address_in pair.old) (changes_view changes.now) (D.blocks dev.new) }
 {
     match commit(alloc, dev, pair, changes) {
         Ok(Outcome::Done) => Ok(()),
@@ -56,8 +56,8 @@ pub fn split_before<D: BlockDevice>(
     requires can { CanSplit (disk_of (D.geometry dev.old) (D.blocks dev.old)) (D.history dev.old) pair.old (address_of fresh) (PutTail false (Some (address_of next)) ∷ []) }
     requires first { (address_of next).0 < (D.geometry dev.old).block_count }
     requires second { (address_of next).1 < (D.geometry dev.old).block_count }
-    ensures front { OnOk result (option_map tail_seen pair.new.tail ≡ Some (record { hard = true; to = address_of fresh })) }
-    ensures back { IfOk result (λ fresh_pair. option_map tail_seen fresh_pair.tail ≡ Some (record { hard = false; to = address_of next })) }
+    ensures front { OnOk result (option_map tail_view pair.new.tail ≡ Some (record { hard = true; to = address_of fresh })) }
+    ensures back { IfOk result (λ fresh_pair. option_map tail_view fresh_pair.tail ≡ Some (record { hard = false; to = address_of next })) }
 {
     let changes = [Change::Tail {
         hard: false,

@@ -2,7 +2,7 @@
 
 ghost use Rattle.std.specs.Prelude.{IfOk};
 ghost use Rattle.lfs_device.specs.Shown.{disk_of};
-ghost use Rattle.lfs_metadata_tests.specs.Kept.{IsKept};
+ghost use Rattle.lfs_metadata_tests.specs.Kept.{IsPairKept};
 
 use crate::pair_images::{Entries, block, seen, sevens};
 use crate::trial::fetch_first;
@@ -76,7 +76,7 @@ const SUPERBLOCK: [Change<'static>; 2] = [
 
 // The pair of a superblock, in the blocks 0 and 1.
 fn superblock_pair<D: BlockDevice>(alloc: Global, device: &mut D) -> Result<Pair, Error>
-    ensures { IfOk result (λ pair. IsKept (disk_of (D.geometry device.new) (D.blocks device.new)) (D.history device.new) pair) }
+    ensures { IfOk result (λ pair. IsPairKept (disk_of (D.geometry device.new) (D.blocks device.new)) (D.history device.new) pair) }
 {
     let pair = Pair::fresh(alloc, device, [0, 1], &SUPERBLOCK)?;
     Ok(pair)

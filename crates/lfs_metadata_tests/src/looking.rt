@@ -7,8 +7,8 @@ ghost use Rattle.lfs_model.specs.Content.{complete_all};
 ghost use Rattle.lfs_model.specs.Cut.{CanBeCut};
 ghost use Rattle.lfs_model.specs.Slots.{address_of};
 ghost use Rattle.lfs_model.specs.Thread.{next_of};
-ghost use Rattle.lfs_tag.specs.ContentSeen.{content_seen, slot_seen, tail_seen};
-ghost use Rattle.lfs_pair.specs.ChangeSeen.{changes_seen};
+ghost use Rattle.lfs_tag.specs.ContentView.{content_view, slot_view, tail_view};
+ghost use Rattle.lfs_pair.specs.ChangeView.{changes_view};
 ghost use Rattle.lfs_thread.specs.Steps.{IsOnlyRead};
 ghost use Rattle.lfs_metadata_tests.specs.Look.{IsMadeIn, IsLookIn, IsLookAt};
 
@@ -32,7 +32,7 @@ pub struct Look {
 
 // Whether each of these slots has a name and a struct.
 fn are_complete(slots: &[Slot<'_>]) -> bool
-    ensures { result ≡ is_some (complete_all (map slot_seen slots.now)) }
+    ensures { result ≡ is_some (complete_all (map slot_view slots.now)) }
 {
     for slot in slots {
         if slot.name.is_none() || slot.structure.is_none() {
@@ -49,7 +49,7 @@ fn made<'a, 'b: 'a>(
     log: &Log<'a>,
     changes: &[Change<'b>],
 ) -> Result<Content<'a>, Error>
-    ensures { IfOk result (λ content. IsMadeIn log.now (changes_seen changes.now) (content_seen content)) }
+    ensures { IfOk result (λ content. IsMadeIn log.now (changes_view changes.now) (content_view content)) }
 {
     if !are_storable(changes) {
         return Err(Error::Invalid);
@@ -64,7 +64,7 @@ fn made<'a, 'b: 'a>(
 
 // The address that a tail names.
 fn named(tail: &Option<Tail>) -> Option<[u32; 2]>
-    ensures { option_map address_of result ≡ next_of (option_map tail_seen tail.now) }
+    ensures { option_map address_of result ≡ next_of (option_map tail_view tail.now) }
 {
     match tail {
         None => None,
@@ -74,7 +74,7 @@ fn named(tail: &Option<Tail>) -> Option<[u32; 2]>
 
 // Whether both halves of the slots fit a pair.
 fn can_be_halved(mut content: Content<'_>, geometry: Geometry) -> Result<bool, Error>
-    ensures { result ≡ Ok true → CanBeCut geometry.block_size geometry.page (content_seen content.entry).slots }
+    ensures { result ≡ Ok true → CanBeCut geometry.block_size geometry.page (content_view content.entry).slots }
 {
     let half = content.slots.len() / 2;
     let back = Content {
@@ -97,7 +97,7 @@ fn look_in<'a, 'b: 'a>(
     changes: &[Change<'b>],
     geometry: Geometry,
 ) -> Result<Look, Error>
-    ensures { IfOk result (λ look. IsLookIn log.now (changes_seen changes.now) geometry.block_size geometry.page look.now look.next look.can_be_cut) }
+    ensures { IfOk result (λ look. IsLookIn log.now (changes_view changes.now) geometry.block_size geometry.page look.now look.next look.can_be_cut) }
 {
     let was = made(alloc, log, &[])?;
     let content = made(alloc, log, changes)?;
@@ -120,14 +120,14 @@ pub fn look_at<D: BlockDevice>(
     changes: &[Change<'_>],
 ) -> Result<Look, Error>
     requires { thread.old.failed ≡ false }
-    ensures look { IfOk result (λ look. IsLookAt thread.new.kept index (changes_seen changes.now) look.now look.next look.can_be_cut) }
+    ensures look { IfOk result (λ look. IsLookAt thread.new.kept index (changes_view changes.now) look.now look.next look.can_be_cut) }
     ensures only { IsOnlyRead thread.old.kept thread.new.kept }
     ensures works { thread.new.failed ≡ false }
 {
     if index >= thread.len() {
         return Err(Error::Invalid);
     }
-    thread.bring(index)?;
+    thread.load_pair(index)?;
     let geometry = thread.device().geometry();
     match thread.lend(index) {
         None => Err(Error::Invalid),

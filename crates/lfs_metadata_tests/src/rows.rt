@@ -29,7 +29,7 @@ const COMMITS: [Line; 17] = [(Step::Change(0, &ATTRIBUTE), Outcome::Done, &[]); 
 
 // The first commit behind a mount erases the other block. 15 fill its other pages, and the next one
 // erases again. Both blocks are read once for the thread. Before each commit the pair's block is
-// brought, by one read at most, and the commit takes one read beside: what is at hand isn't read again.
+// brought, by one read at most, and the commit takes one read beside: what is cached isn't read again.
 #[test]
 fn every_sixteenth_commit_erases(rt: HostRuntime) -> Result<(), Fail> {
     for (times, erases, revisions, most) in [

@@ -6,9 +6,9 @@ ghost use Rattle.lfs_device.specs.Shown.{disk_of};
 ghost use Rattle.lfs_model.specs.Slots.{address_of};
 ghost use Rattle.lfs_model.specs.Changes.{is_storable};
 ghost use Rattle.lfs_model.specs.LoggedContent.{HaveNames};
-ghost use Rattle.lfs_tag.specs.ContentSeen.{slot_seen};
-ghost use Rattle.lfs_pair.specs.ChangeSeen.{change_seen, changes_seen};
-ghost use Rattle.lfs_metadata_tests.specs.Kept.{CanMake, IsKept};
+ghost use Rattle.lfs_tag.specs.ContentView.{slot_view};
+ghost use Rattle.lfs_pair.specs.ChangeView.{change_view, changes_view};
+ghost use Rattle.lfs_metadata_tests.specs.Kept.{CanMake, IsPairKept};
 
 use lfs_device::{BlockDevice, Error, read_block};
 use lfs_pair::{Change, Outcome, Pair, apply_all, commit, fetch};
@@ -17,7 +17,7 @@ use std::alloc::Global;
 
 // Whether an id, types and a length fit into a tag.
 fn is_storable(change: Change<'_>) -> bool
-    ensures { IsTrue result → is_storable (change_seen change.entry) ≡ true }
+    ensures { IsTrue result → is_storable (change_view change.entry) ≡ true }
 {
     match change {
         Change::Create { id, kind, name } => id < 0x3ff && kind < 0x100 && name.len() <= 1022,
@@ -34,7 +34,7 @@ fn is_storable(change: Change<'_>) -> bool
 
 // Whether each of these changes fits into a tag.
 fn are_storable(changes: &[Change<'_>]) -> bool
-    ensures { IsTrue result → list_all is_storable (changes_seen changes.now) ≡ true }
+    ensures { IsTrue result → list_all is_storable (changes_view changes.now) ≡ true }
 {
     for change in changes {
         if !is_storable(*change) {
@@ -46,7 +46,7 @@ fn are_storable(changes: &[Change<'_>]) -> bool
 
 // Whether each slot has a name.
 fn have_names(slots: &[Slot<'_>]) -> bool
-    ensures { IsTrue result → HaveNames (map slot_seen slots.now) }
+    ensures { IsTrue result → HaveNames (map slot_view slots.now) }
 {
     for slot in slots {
         if slot.name.is_none() {
@@ -62,8 +62,8 @@ fn can_make<'a, 'b: 'a>(
     block: &'a [u8],
     changes: &[Change<'b>],
 ) -> Result<bool, Error>
-    requires { list_all is_storable (changes_seen changes.now) ≡ true }
-    ensures { result ≡ Ok true → CanMake block.now (changes_seen changes.now) }
+    requires { list_all is_storable (changes_view changes.now) ≡ true }
+    ensures { result ≡ Ok true → CanMake block.now (changes_view changes.now) }
 {
     let log = Log::read(block);
     let mut content = match Content::read(alloc, &log) {
@@ -85,8 +85,8 @@ pub fn try_commit<D: BlockDevice>(
     pair: &mut Pair,
     changes: &[Change<'_>],
 ) -> Result<Outcome, Error>
-    requires kept { IsKept (disk_of (D.geometry dev.old) (D.blocks dev.old)) (D.history dev.old) pair.old }
-    ensures kept { IfOk result (λ _. IsKept (disk_of (D.geometry dev.new) (D.blocks dev.new)) (D.history dev.new) pair.new) }
+    requires kept { IsPairKept (disk_of (D.geometry dev.old) (D.blocks dev.old)) (D.history dev.old) pair.old }
+    ensures kept { IfOk result (λ _. IsPairKept (disk_of (D.geometry dev.new) (D.blocks dev.new)) (D.history dev.new) pair.new) }
 {
     if !are_storable(changes) {
         return Err(Error::Invalid);
@@ -108,7 +108,7 @@ pub fn fetch_kept<D: BlockDevice>(
     requires apart { (address_of blocks).0 ≢ (address_of blocks).1 }
     requires first { (address_of blocks).0 < (D.geometry dev.old).block_count }
     requires second { (address_of blocks).1 < (D.geometry dev.old).block_count }
-    ensures { IfOk result (λ pair. IsKept (disk_of (D.geometry dev.new) (D.blocks dev.new)) (D.history dev.new) pair) }
+    ensures { IfOk result (λ pair. IsPairKept (disk_of (D.geometry dev.new) (D.blocks dev.new)) (D.history dev.new) pair) }
 {
     let pair = fetch(alloc, dev, blocks)?;
     Ok(pair)
@@ -116,7 +116,7 @@ pub fn fetch_kept<D: BlockDevice>(
 
 // Fetches the pair of the first two blocks, which each device has.
 pub fn fetch_first<D: BlockDevice>(alloc: Global, dev: &mut D) -> Result<Pair, Error>
-    ensures { IfOk result (λ pair. IsKept (disk_of (D.geometry dev.new) (D.blocks dev.new)) (D.history dev.new) pair) }
+    ensures { IfOk result (λ pair. IsPairKept (disk_of (D.geometry dev.new) (D.blocks dev.new)) (D.history dev.new) pair) }
 {
     let pair = fetch_kept(alloc, dev, [0, 1])?;
     Ok(pair)

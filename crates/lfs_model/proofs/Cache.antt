@@ -1,4 +1,4 @@
--- Laws of the blocks at hand.
+-- Laws of the cached blocks.
 use Rattle.std.proofs.Common.{ℕ, zero, suc, ◌≡◌, ◌≢◌, ◌≤◌, Bool, true, false, cond, not, nat_eq, List, [], ◌∷◌, length, take, All, Some, None, refl, sym, ap, ◌∙◌, arith, eqb-true, eq-eqb}
 use Rattle.std.specs.List.{filter}
 use Rattle.std.specs.Map.{keys_of}

@@ -14,9 +14,9 @@ use Rattle.lfs_model.specs.Operations.{Operation}
 use Rattle.lfs_model.specs.Session.{Session, Surroundings}
 use Rattle.lfs_model.specs.State.{Surrounds, State, HasFailed, Healthy, mounted}
 use Rattle.lfs_model.specs.Effects.{applied}
-use Rattle.lfs_model.specs.PowerLoss.{IsLeft, IsAtWork, Withstands}
+use Rattle.lfs_model.specs.PowerLoss.{IsLeftByStop, IsAtWork, SurvivesLoss}
 use Rattle.lfs_model.specs.examples.Images.{small_image, appended_image}
-use Rattle.lfs_model.specs.examples.Runs.{fresh_moment, no_disk}
+use Rattle.lfs_model.specs.examples.Runs.{fresh_system, no_disk}
 use Rattle.lfs_model.proofs.Uniqueness.{one_thread}
 use Rattle.lfs_model.proofs.Fresh.{accepted, writable, shows}
 use Rattle.lfs_model.proofs.Example.{fresh}
@@ -40,10 +40,10 @@ around = record { writable = true; block_size = 1024; page = 128; block_count = 
 pub surrounds : Surrounds small_image pairs around
 surrounds = record { block_size = refl; page = refl; block_count = refl; used = refl; gstate = refl; writable = ((λ e. writable small_image fresh), λ w. refl) }
 
-pub is_at_work : IsAtWork fresh_moment (mounted empty_tree) pairs around
+pub is_at_work : IsAtWork fresh_system (mounted empty_tree) pairs around
 is_at_work = record { healthy = refl; accepted = are_accepted; writable = writable small_image fresh; surrounds = surrounds }
 
-pub still_there : (before after : Tree) → before ≡ empty_tree → IsLeft small_image before after
+pub still_there : (before after : Tree) → before ≡ empty_tree → IsLeftByStop small_image before after
 still_there before after e = record { pairs = pairs; accepted = are_accepted; writable = writable small_image fresh; tree = inl (shows small_image ∙ sym e) }
 
 -- a disk without blocks has no thread
@@ -60,9 +60,9 @@ differ e = apart (slice_index (block_at small_image 0) 128) (slice_index (block_
     apart : (m n : ℕ) → m ≡ 0xff → n ≡ 0x10 → m ≡ n → ⊥
     apart m n e f g = absurd (omega arith)
 
--- an operation that makes no call withstands a stop, however it ends
-pub withstood : (op : Operation) (state : State) → Withstands fresh_moment op (record fresh_moment { state = state })
-withstood op state = record {
+-- an operation that makes no call survives a stop, however it ends
+pub surviving : (op : Operation) (state : State) → SurvivesLoss fresh_system op (record fresh_system { state = state })
+surviving op state = record {
   stops = λ s ps a work clean. record { events = []; extends = refl; each = tt };
   stands = λ s ps a work clean fails. still_there s.tree (applied a s op).1.tree (sym (ap (λ (z : Session). z.tree) (same_session (mounted empty_tree) s work.healthy)));
 }

@@ -17,13 +17,13 @@ use Rattle.lfs_model.specs.Refusals.{refusal_of}
 use Rattle.lfs_model.specs.State.{State, HasFailed, Healthy, is_remount, remounted, answered_in, mounted}
 use Rattle.lfs_model.specs.Fresh.{IsFresh, fresh_pair, empty_tree}
 use Rattle.lfs_model.specs.Recovery.{IsRecovered}
-use Rattle.lfs_model.specs.Run.{Moment, Shows, Agrees, is_refusal, IsCarriedOut, IsTurn, AreTurns}
+use Rattle.lfs_model.specs.Run.{SystemState, Shows, Agrees, is_refusal, IsEffectOnDisk, IsSessionStep, AreSessionSteps}
 use Rattle.lfs_model.specs.Headline.{ComesFromFresh, session_after, session_after_all, AgreesWithDisk, IsSettled, IsWhatItsDiskShows}
-use Rattle.lfs_model.specs.Outages.{IsMounted}
+use Rattle.lfs_model.specs.RepeatedPowerLoss.{IsMounted}
 use Rattle.lfs_model.proofs.Uniqueness.{one_thread}
 use Rattle.lfs_model.proofs.Fresh.{accepted, writable}
-use Rattle.lfs_model.proofs.Turns.{IsHealthy, turn_is_healthy, turns_are_healthy, turns_agree, true_from, fresh_agrees, question_answered, reader_answered}
-use Rattle.lfs_model.proofs.TurnsMade.{no_refusal}
+use Rattle.lfs_model.proofs.SessionSteps.{IsHealthy, session_step_is_healthy, session_steps_are_healthy, session_steps_agree, true_from, fresh_agrees, question_answered, reader_answered}
+use Rattle.lfs_model.proofs.StepsMade.{no_refusal}
 
 -- ---- what the accepted operations define
 
@@ -47,7 +47,7 @@ same_effect around other s _ = refl
 pub one_tree : (disk : Disk) (t u : Tree) → Shows disk (Some t) → Shows disk (Some u) → t ≡ u
 one_tree disk t u (ps, (a, e)) (qs, (b, f)) = e ∙ ap (tree_in disk) (one_thread (content_at disk) (block_count disk) ps qs a.thread b.thread) ∙ sym f
 
-defined_next : (around : Surroundings) (from to : Moment) (op : Operation) (reply : Reply) (s : Session) → from.state ≡ Healthy s → Agrees from.disk from.state → IsTurn from op reply to →
+defined_next : (around : Surroundings) (from to : SystemState) (op : Operation) (reply : Reply) (s : Session) → from.state ≡ Healthy s → Agrees from.disk from.state → IsSessionStep from op reply to →
     to.state ≡ Healthy (session_after around s op reply)
 defined_next around from to op reply s healthy agrees turn =
     go (is_remount op) refl (sym (ap (λ z. cond (is_remount op) (remounted turn.answered.shown) (answered_in turn.answered.around z op)) healthy) ∙ turn.answered.answers)
@@ -74,9 +74,9 @@ defined_next around from to op reply s healthy agrees turn =
         let k = same_Some (applied a s op).0 reply (ap (λ (z : Option Reply × State). z.0) e) in
         sym (ap (λ (z : Option Reply × State). z.1) e) ∙ ap Healthy (refused a (refusal_of a s op) k)
 
-pub defined : (around : Surroundings) (operations : List Operation) (replies : List Reply) (from to : Moment) (s : Session) → from.state ≡ Healthy s → Agrees from.disk from.state →
-    AreTurns from operations replies to → to.state ≡ Healthy (session_after_all around s operations replies)
-defined around [] [] from to s h agrees e = sym (ap (λ (m : Moment). m.state) e) ∙ h
+pub defined : (around : Surroundings) (operations : List Operation) (replies : List Reply) (from to : SystemState) (s : Session) → from.state ≡ Healthy s → Agrees from.disk from.state →
+    AreSessionSteps from operations replies to → to.state ≡ Healthy (session_after_all around s operations replies)
+defined around [] [] from to s h agrees e = sym (ap (λ (m : SystemState). m.state) e) ∙ h
 defined around [] (reply ∷ replies) from to s h agrees e = absurd e
 defined around (op ∷ operations) [] from to s h agrees e = absurd e
 defined around (op ∷ operations) (reply ∷ replies) from to s h agrees (next, (turn, rest)) =
@@ -90,29 +90,29 @@ ArePairs Q disk = (ps : List Pair) × (IsAccepted disk ps × Q disk ps)
 
 -- each operation that is carried out keeps it
 abbrev pub StaysCarried : (Disk → List Pair → Type 0) → Type 0
-StaysCarried Q = (disk new : Disk) (ps qs : List Pair) (s : Session) (op : Operation) (calls : List Event) → IsCarriedOut disk ps s op calls new qs → Q disk ps → Q new qs
+StaysCarried Q = (disk new : Disk) (ps qs : List Pair) (s : Session) (op : Operation) (calls : List Event) → IsEffectOnDisk disk ps s op calls new qs → Q disk ps → Q new qs
 
-pub turn_keeps : (Q : Disk → List Pair → Type 0) → StaysCarried Q → (from to : Moment) (op : Operation) (reply : Reply) → IsTurn from op reply to → IsHealthy from.state → ArePairs Q from.disk →
+pub turn_keeps : (Q : Disk → List Pair → Type 0) → StaysCarried Q → (from to : SystemState) (op : Operation) (reply : Reply) → IsSessionStep from op reply to → IsHealthy from.state → ArePairs Q from.disk →
     ArePairs Q to.disk
 turn_keeps Q carries from to op reply turn h (ps, (ok, q)) = go (is_refusal reply) refl from.state refl h
   where
     known : AgreesWithDisk to
-    known = true_from to (turn_is_healthy from to op reply turn h) turn.agrees
+    known = true_from to (session_step_is_healthy from to op reply turn h) turn.agrees
 
     go : (b : Bool) → is_refusal reply ≡ b → (state : State) → from.state ≡ state → IsHealthy state → ArePairs Q to.disk
     go true is state e k = subst (ArePairs Q) (sym (turn.refused is).0) (ps, (ok, q))
     go false is HasFailed e k = absurd k
     go false is (Healthy s) e k =
         let shown = known.shows in
-        (shown.0, (shown.1.0, carries from.disk to.disk ps shown.0 s op turn.calls (turn.carried_out is s e ps shown.0 ok shown.1.0) q))
+        (shown.0, (shown.1.0, carries from.disk to.disk ps shown.0 s op turn.calls (turn.effect_on_disk is s e ps shown.0 ok shown.1.0) q))
 
-pub turns_keep : (Q : Disk → List Pair → Type 0) → StaysCarried Q → (operations : List Operation) (replies : List Reply) (from to : Moment) → AreTurns from operations replies to → IsHealthy from.state →
+pub session_steps_keep : (Q : Disk → List Pair → Type 0) → StaysCarried Q → (operations : List Operation) (replies : List Reply) (from to : SystemState) → AreSessionSteps from operations replies to → IsHealthy from.state →
     ArePairs Q from.disk → ArePairs Q to.disk
-turns_keep Q carries [] [] from to e h q = subst (λ (m : Moment). ArePairs Q m.disk) e q
-turns_keep Q carries [] (reply ∷ replies) from to e h q = absurd e
-turns_keep Q carries (op ∷ operations) [] from to e h q = absurd e
-turns_keep Q carries (op ∷ operations) (reply ∷ replies) from to (next, (turn, rest)) h q =
-    turns_keep Q carries operations replies next to rest (turn_is_healthy from next op reply turn h) (turn_keeps Q carries from next op reply turn h q)
+session_steps_keep Q carries [] [] from to e h q = subst (λ (m : SystemState). ArePairs Q m.disk) e q
+session_steps_keep Q carries [] (reply ∷ replies) from to e h q = absurd e
+session_steps_keep Q carries (op ∷ operations) [] from to e h q = absurd e
+session_steps_keep Q carries (op ∷ operations) (reply ∷ replies) from to (next, (turn, rest)) h q =
+    session_steps_keep Q carries operations replies next to rest (session_step_is_healthy from next op reply turn h) (turn_keeps Q carries from next op reply turn h q)
 
 pub profile_stays : StaysCarried IsWritable
 profile_stays disk new ps qs s op calls c h = c.profile h
@@ -122,14 +122,14 @@ WritableRecovered disk ps = IsWritable disk ps × IsRecovered ps
 
 -- ---- the headline
 
-pub session_shows : (from at : Moment) (operations : List Operation) (replies : List Reply) → AgreesWithDisk from → AreTurns from operations replies at → IsWhatItsDiskShows from operations replies at
-session_shows from at operations replies known turns = record {
-  answers = turns;
+pub session_shows : (from at : SystemState) (operations : List Operation) (replies : List Reply) → AgreesWithDisk from → AreSessionSteps from operations replies at → IsWhatItsDiskShows from operations replies at
+session_shows from at operations replies known session_steps = record {
+  answers = session_steps;
   shows = here;
-  defined = λ around s healthy. defined around operations replies from at s healthy agrees turns;
+  defined = λ around s healthy. defined around operations replies from at s healthy agrees session_steps;
   questions = λ to op reply asks turn. question_answered at to op reply here asks turn;
   readers = λ to fd count reply turn. reader_answered at to fd count reply here turn;
-  profile = turns_keep IsWritable profile_stays operations replies from at turns healthy;
+  profile = session_steps_keep IsWritable profile_stays operations replies from at session_steps healthy;
   settled = settled;
 }
   where
@@ -140,17 +140,17 @@ session_shows from at operations replies known turns = record {
     healthy = subst IsHealthy (sym known.healthy) tt
 
     here : AgreesWithDisk at
-    here = true_from at (turns_are_healthy operations replies from at turns healthy) (turns_agree operations replies from at turns agrees)
+    here = true_from at (session_steps_are_healthy operations replies from at session_steps healthy) (session_steps_agree operations replies from at session_steps agrees)
 
     settled : IsSettled from.disk → IsSettled at.disk
     settled was =
-        let end = turns_keep WritableRecovered (λ disk new ps qs s op calls k q. (k.profile q.0, k.stays q.1)) operations replies from at turns healthy (was.pairs, (was.accepted, (was.writable, was.recovered))) in
+        let end = session_steps_keep WritableRecovered (λ disk new ps qs s op calls k q. (k.profile q.0, k.stays q.1)) operations replies from at session_steps healthy (was.pairs, (was.accepted, (was.writable, was.recovered))) in
         record { pairs = end.0; accepted = end.1.0; writable = end.1.1.0; recovered = end.1.1.1 }
 
 -- ---- where it begins
 
 -- on a fresh disk
-pub fresh_begins : (from : Moment) → IsFresh from.disk → from.state ≡ Healthy (mounted empty_tree) → AgreesWithDisk from × IsSettled from.disk
+pub fresh_begins : (from : SystemState) → IsFresh from.disk → from.state ≡ Healthy (mounted empty_tree) → AgreesWithDisk from × IsSettled from.disk
 fresh_begins from fresh mounts =
     let ok = accepted from.disk fresh in (
       record { session = mounted empty_tree; healthy = mounts; shows = fresh_agrees from.disk fresh },
@@ -158,11 +158,11 @@ fresh_begins from fresh mounts =
     )
 
 -- with a mount
-pub mount_begins : (disk : Disk) (at : Moment) → IsMounted disk at → AgreesWithDisk at
+pub mount_begins : (disk : Disk) (at : SystemState) → IsMounted disk at → AgreesWithDisk at
 mount_begins disk at m = record { session = mounted m.tree; healthy = m.healthy; shows = subst (λ d. Shows d (Some m.tree)) (sym m.on) m.shows }
 
 -- with a remount, also of a session that had failed
-pub remount_begins : (from to : Moment) → IsTurn from ops.Remount ops.Done to → AgreesWithDisk to
+pub remount_begins : (from to : SystemState) → IsSessionStep from ops.Remount ops.Done to → AgreesWithDisk to
 remount_begins from to turn = true_from to (go turn.answered.shown turn.answered.answers) turn.agrees
   where
     go : (shown : Option Tree) → remounted shown ≡ (Some ops.Done, to.state) → IsHealthy to.state
@@ -171,15 +171,15 @@ remount_begins from to turn = true_from to (go turn.answered.shown turn.answered
 
 -- ---- from a fresh disk
 
-fresh_shows : (operations : List Operation) (replies : List Reply) (at : Moment) (c : ComesFromFresh operations replies at) → IsWhatItsDiskShows c.from operations replies at
-fresh_shows operations replies at c = session_shows c.from at operations replies (fresh_begins c.from c.fresh c.mounts).0 c.turns
+fresh_shows : (operations : List Operation) (replies : List Reply) (at : SystemState) (c : ComesFromFresh operations replies at) → IsWhatItsDiskShows c.from operations replies at
+fresh_shows operations replies at c = session_shows c.from at operations replies (fresh_begins c.from c.fresh c.mounts).0 c.session_steps
 
-pub fresh_true : (operations : List Operation) (replies : List Reply) (at : Moment) → ComesFromFresh operations replies at → AgreesWithDisk at
+pub fresh_true : (operations : List Operation) (replies : List Reply) (at : SystemState) → ComesFromFresh operations replies at → AgreesWithDisk at
 fresh_true operations replies at c = (fresh_shows operations replies at c).shows
 
-pub fresh_defined : (operations : List Operation) (replies : List Reply) (at : Moment) (around : Surroundings) → ComesFromFresh operations replies at →
+pub fresh_defined : (operations : List Operation) (replies : List Reply) (at : SystemState) (around : Surroundings) → ComesFromFresh operations replies at →
     at.state ≡ Healthy (session_after_all around (mounted empty_tree) operations replies)
 fresh_defined operations replies at around c = (fresh_shows operations replies at c).defined around (mounted empty_tree) c.mounts
 
-pub fresh_settled : (operations : List Operation) (replies : List Reply) (at : Moment) → ComesFromFresh operations replies at → IsSettled at.disk
+pub fresh_settled : (operations : List Operation) (replies : List Reply) (at : SystemState) → ComesFromFresh operations replies at → IsSettled at.disk
 fresh_settled operations replies at c = (fresh_shows operations replies at c).settled (fresh_begins c.from c.fresh c.mounts).1

@@ -14,7 +14,7 @@ use Rattle.lfs_model.specs.Content.{RawSlot, RawContent, content_after, content_
 use Rattle.lfs_model.specs.EntryTypes.{is_in_table, has_its_id, removes, create_type, delete_type, pair_at, tail_of, gstate_at, hard_tail_type}
 use Rattle.lfs_model.proofs.Chains.{lies, chain_sound}
 use Rattle.lfs_model.proofs.WrittenAnew.{kind_of-tag_with, len_of-tag_with}
-use Rattle.lfs_model.specs.LoggedContent.{IsPart, Ascend, HasParts, HaveParts, IsLogged, IsStored, AreStored, IsAddress, IsTailIfSome, IsMoveState, is_null}
+use Rattle.lfs_model.specs.LoggedContent.{IsPart, Ascend, HasParts, HaveParts, IsLogged, IsStoredEntry, AreStored, IsAddress, IsTailIfSome, IsMoveState, is_null}
 
 -- ---- attributes
 
@@ -80,10 +80,10 @@ changed_parts f slots i h g = set_parts slots i (f (slot_of_id slots i)) h (g (s
 -- ---- an entry
 
 -- the bytes of an entry that removes nothing are as many as its length says
-stored_length : (e : LogEntry) → IsStored e → removes e.tag ≡ false → length e.bytes ≡ len_of e.tag
+stored_length : (e : LogEntry) → IsStoredEntry e → removes e.tag ≡ false → length e.bytes ≡ len_of e.tag
 stored_length e h r = h.size ∙ ap (λ b. cond b 0 (len_of e.tag)) r
 
-stored_short : (e : LogEntry) → IsStored e → length e.bytes < 0x3ff
+stored_short : (e : LogEntry) → IsStoredEntry e → length e.bytes < 0x3ff
 stored_short e h = go (removes e.tag) refl
   where
     go : (b : Bool) → removes e.tag ≡ b → length e.bytes < 0x3ff
@@ -95,7 +95,7 @@ stored_short e h = go (removes e.tag) refl
         omega arith
 
 -- a name or a struct is a part
-part_of : (e : LogEntry) (class : ℕ) → IsStored e → class ≢ 3 → class_of e.tag ≡ class → is_in_table e.tag ≡ true → IsPart class (kind_of e.tag, e.bytes)
+part_of : (e : LogEntry) (class : ℕ) → IsStoredEntry e → class ≢ 3 → class_of e.tag ≡ class → is_in_table e.tag ≡ true → IsPart class (kind_of e.tag, e.bytes)
 part_of e class h n c t = go (removes e.tag) refl
   where
     go : (b : Bool) → removes e.tag ≡ b → IsPart class (kind_of e.tag, e.bytes)
@@ -121,7 +121,7 @@ one_of false false false low lower true structs a b c d e new ha hb hc hd he is 
 one_of false false false low lower false true a b c d e new ha hb hc hd he is = subst HaveParts (same_Some d new is) (hd refl)
 one_of false false false low lower false false a b c d e new ha hb hc hd he is = subst HaveParts (same_Some e new is) he
 
-with_attribute_ascends : (e : LogEntry) (attributes : Attributes) → IsStored e → Ascend 0 attributes → Ascend 0 (with_attribute e attributes)
+with_attribute_ascends : (e : LogEntry) (attributes : Attributes) → IsStoredEntry e → Ascend 0 attributes → Ascend 0 (with_attribute e attributes)
 with_attribute_ascends e attributes h up = go (removes e.tag)
   where
     go : (b : Bool) → Ascend 0 (cond b (without_attribute (chunk_of e.tag) attributes) (put_attribute (chunk_of e.tag) e.bytes attributes))
@@ -129,7 +129,7 @@ with_attribute_ascends e attributes h up = go (removes e.tag)
     go false = put_ascends 0 (chunk_of e.tag) e.bytes attributes (omega arith) (omega arith) (stored_short e h) up
 
 -- the slots behind an entry
-slots_parts : (slots : List RawSlot) (e : LogEntry) (new : List RawSlot) → HaveParts slots → IsStored e → is_in_table e.tag ≡ true → slots_after slots e ≡ Some new → HaveParts new
+slots_parts : (slots : List RawSlot) (e : LogEntry) (new : List RawSlot) → HaveParts slots → IsStoredEntry e → is_in_table e.tag ≡ true → slots_after slots e ≡ Some new → HaveParts new
 slots_parts slots e new h stored t is =
     one_of (class_of e.tag == 0) (kind_of e.tag == create_type) (kind_of e.tag == delete_type) (nat_le (id_of e.tag) (length slots)) (nat_lt (id_of e.tag) (length slots))
     (not (is_some (slot_of_id slots (id_of e.tag)).name)) (class_of e.tag == 2)
@@ -163,7 +163,7 @@ move_parts bytes h = record { kind = omega arith; id = omega arith; pair = addre
 
 -- ---- a log
 
-logged_after : (c : RawContent) (e : LogEntry) (d : RawContent) → IsLogged c → IsStored e → content_after c e ≡ Some d → IsLogged d
+logged_after : (c : RawContent) (e : LogEntry) (d : RawContent) → IsLogged c → IsStoredEntry e → content_after c e ≡ Some d → IsLogged d
 logged_after c e d h stored is = go (class_of e.tag == 5) (is_in_table e.tag) (has_its_id e.tag) (class_of e.tag == 6) (class_of e.tag == 7) (slots_after c.slots e) refl refl refl refl is
   where
     go : (five t i six seven : Bool) (slots : Option (List RawSlot)) → is_in_table e.tag ≡ t → (class_of e.tag == 6) ≡ six → (class_of e.tag == 7) ≡ seven → slots_after c.slots e ≡ slots
@@ -201,7 +201,7 @@ byte_of_part block n at i h = elim (cases_lt i n) [
   | inr le ↦ rw (get_or_past (take n (drop at block)) i 0 (omega (arith, length-take n (drop at block)))) (omega arith)
 ]
 
-stored_entry : (block : List ℕ) (at before : ℕ) (e : LogEntry) → ((i : ℕ) → slice_index block i < 256) → entry_at block at before ≡ Some e → IsStored e
+stored_entry : (block : List ℕ) (at before : ℕ) (e : LogEntry) → ((i : ℕ) → slice_index block i < 256) → entry_at block at before ≡ Some e → IsStoredEntry e
 stored_entry block at before e h is =
     let l = lies block at before e is in
     record { size = l.size; bytes = λ _ i. rw l.bytes (byte_of_part block (data_size e.tag) (at + 4) i h) }

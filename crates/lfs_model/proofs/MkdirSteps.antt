@@ -14,7 +14,7 @@ use Rattle.lfs_model.specs.Session.{Session}
 use Rattle.lfs_model.specs.Refusals.{as_path}
 use Rattle.lfs_model.specs.SlotEdits.{with_slots, new_directory}
 use Rattle.lfs_model.specs.Layout.{Fits}
-use Rattle.lfs_model.specs.PowerLoss.{IsLeft}
+use Rattle.lfs_model.specs.PowerLoss.{IsLeftByStop}
 use Rattle.lfs_model.proofs.Names.{IsPlace}
 use Rattle.lfs_model.proofs.Sites.{Site, thread_at, begin_of}
 use Rattle.lfs_model.proofs.Moves.{IsStep, place_at}
@@ -114,7 +114,7 @@ module _ (disk middle new : Disk) (chain before front mid after : List Pair) (x 
       (threaded disk middle chain before (front ++ p ∷ mid) after x [] y [] f extra l0 r0 step P a leads same sync)
 
   -- between the steps the tree is the one from before
-  pub mkdir_between : (new_tree : Tree) → IsLeft middle (tree_in disk (thread_at (last_site chain before (front ++ p ∷ mid) after) (x ∷ []))) new_tree
+  pub mkdir_between : (new_tree : Tree) → IsLeftByStop middle (tree_in disk (thread_at (last_site chain before (front ++ p ∷ mid) after) (x ∷ []))) new_tree
   mkdir_between new_tree = taken_before disk ps middle (thread_at (last_site chain before (front ++ p ∷ mid) after) (y ∷ ([] ++ f ∷ []))) (λ d. d) new_tree first
 
   leads2 : Leads (thread_at (record { chain = chain; before = before; left = front; right = mid ++ y ∷ []; after = f ∷ after }) (p ∷ [])) P a

@@ -17,10 +17,10 @@ use Rattle.lfs_model.specs.Session.{Session, Surroundings}
 use Rattle.lfs_model.specs.State.{mounted}
 use Rattle.lfs_model.specs.Fresh.{empty_tree}
 use Rattle.lfs_model.specs.Effects.{effect_of}
-use Rattle.lfs_model.specs.Run.{IsTurn}
+use Rattle.lfs_model.specs.Run.{IsSessionStep}
 use Rattle.lfs_model.specs.examples.Sessions.{for_new}
 use Rattle.lfs_model.specs.examples.Images.{large_image}
-use Rattle.lfs_model.specs.examples.Runs.{large_moment, large_appended, opened_moment}
+use Rattle.lfs_model.specs.examples.Runs.{large_system, large_appended, opened_system}
 use Rattle.lfs_model.proofs.Files.{HasSameFile}
 use Rattle.lfs_model.proofs.Sites.{Site}
 use Rattle.lfs_model.proofs.Fresh.{accepted, shows, writable}
@@ -28,7 +28,7 @@ use Rattle.lfs_model.proofs.OnePair.{one_more_fits}
 use Rattle.lfs_model.proofs.Committed.{IsCommit, IsCompleted}
 use Rattle.lfs_model.proofs.OneCommit.{create_completed}
 use Rattle.lfs_model.proofs.Arranged.{finished_settled}
-use Rattle.lfs_model.proofs.TurnsMade.{IsOver, IsProper, completed_turn, idle_turn}
+use Rattle.lfs_model.proofs.StepsMade.{IsOver, IsProper, completed_step, idle_step}
 
 abbrev pub op : ops.Operation
 op = ops.Open (codes "/b") for_new
@@ -105,7 +105,7 @@ over = record {
   tree = sym (shows large_image);
 }
 
-proper : IsProper large_image (pair ∷ []) (mounted empty_tree) op opened_moment.calls large_appended
+proper : IsProper large_image (pair ∷ []) (mounted empty_tree) op opened_system.calls large_appended
 proper = record {
   geometry = record { block_size = refl; page = refl; order = refl; count = refl };
   other = refl;
@@ -117,8 +117,8 @@ proper = record {
   nothing_left = λ e. absurd (cc);
 }
 
-pub turn : IsTurn large_moment op (ops.Opened 0) opened_moment
-turn = completed_turn large_image (pair ∷ []) (mounted empty_tree) around op large_appended (next ∷ []) opened_moment.calls [] over refl proper
+pub turn : IsSessionStep large_system op (ops.Opened 0) opened_system
+turn = completed_step large_image (pair ∷ []) (mounted empty_tree) around op large_appended (next ∷ []) opened_system.calls [] over refl proper
     (finished_settled large_image (pair ∷ []) (mounted empty_tree) op large_appended (next ∷ []) commit.accepted commit.writable refl completed)
 
 -- ---- the open file is clean, so a sync finds nothing to do
@@ -133,5 +133,5 @@ opened_over = record {
   tree = sym (completed.tree around);
 }
 
-pub sync_turn : IsTurn opened_moment (ops.Sync 0) ops.Done opened_moment
-sync_turn = idle_turn large_appended (next ∷ []) opened around (ops.Sync 0) [] opened_moment.calls opened_over refl refl refl refl refl (refl, refl) (λ e. refl)
+pub sync_step : IsSessionStep opened_system (ops.Sync 0) ops.Done opened_system
+sync_step = idle_step large_appended (next ∷ []) opened around (ops.Sync 0) [] opened_system.calls opened_over refl refl refl refl refl (refl, refl) (λ e. refl)

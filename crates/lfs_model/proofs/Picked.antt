@@ -70,7 +70,7 @@ module _ (name : Sym) (row Y Z : RattleType) where
 module _ (name : Sym) (row Y Z : RattleType) {M : Type 1} {𝓤 : Ura M} (𝓛 : Logic 𝓤) (c : Clauses 𝓤 (ended name row Y Z))
     (made : (κs : Lfts 4) (a : Args (signature name row Y Z) κs) → (c κs a).ghost → row.Denot)
     (owned : (x : row.Denot) → ent 𝓤 (emp 𝓤) (sem 𝓛 (row.own_val x (vstruct vnil ∷ []))))
-    (told : (κs : Lfts 4) (a : Args (signature name row Y Z) κs) (g : (c κs a).ghost) (e : AtExit (ended name row Y Z) κs) → ent 𝓤 (emp 𝓤) ((c κs a).ensures g (made κs a g) e)) where
+    (reported : (κs : Lfts 4) (a : Args (signature name row Y Z) κs) (g : (c κs a).ghost) (e : AtExit (ended name row Y Z) κs) → ent 𝓤 (emp 𝓤) ((c κs a).ensures g (made κs a g) e)) where
   open 𝓛 use {H}
 
   abbrev T : Ended
@@ -108,7 +108,7 @@ module _ (name : Sym) (row Y Z : RattleType) {M : Type 1} {𝓤 : Ura M} (𝓛 :
         enter ! C Λ f (p ∷ q ∷ []) _ $ alloc_all ! (λ l. pass_all ! refl ((tt, tt), ((tt, tt), tt)) $
         sets ! (agg ! (no_more !)) refl (tt, tt) $
         returns ! (look_at ! 0 refl) $ free_all ! refl $
-        use0 𝓛 (raw ((c z.0.0 z.0.3).ensures z.1 r (z.0.3.0, (z.0.3.1.0, tt)))) (told z.0.0 z.0.3 z.1 _) $
+        use0 𝓛 (raw ((c z.0.0 z.0.3).ensures z.1 r (z.0.3.0, (z.0.3.1.0, tt)))) (reported z.0.0 z.0.3 z.1 _) $
         use0 𝓛 (‵ (row.own_val r (v ∷ []))) (owned r) $
         suffices ! _ (leaves 𝓛 T hs c (At (p ∷ []) (q ∷ [])) v r (tt, (tt, tt)) (tt, (tt, tt))) $
         join ! $ nothing ! $ nothing ! $ fjoin ! $ nothing ! $ fjoin ! $ join ! $ move ! (1 ∷ 0 ∷ []) $ join ! $ done !)

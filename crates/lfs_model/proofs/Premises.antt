@@ -3,10 +3,10 @@ use Rattle.std.proofs.Common.{◌≡◌, Bool, true, false, List, [], ◌∷◌,
 use Rattle.std.proofs.lemmas.List.Elements.{All-head}
 use Rattle.lfs_model.specs.Blocks.{Blocks}
 use Rattle.lfs_model.specs.History.{Call, Read, Program, Erase, Event, event, EachEvent, EachSince}
-use Rattle.lfs_model.specs.Obeyed.{IsObeyed, AreObeyed}
+use Rattle.lfs_model.specs.Conformance.{Conforms, AllConform}
 use Rattle.lfs_model.specs.Stops.{stops_in, erases_cleanly}
 use Rattle.lfs_model.specs.Premises.{MeetsPremises}
-use Rattle.lfs_model.proofs.Obeyed.{obeyed_stops}
+use Rattle.lfs_model.proofs.Conformance.{conforming_stops}
 use Rattle.lfs_model.proofs.Stopped.{stops_before}
 
 -- one call meets them
@@ -36,11 +36,11 @@ meets_nothing call blocks = record { erases = cleanly call; failed = λ is. stop
     cleanly (Erase block) = tt
 
 -- a call that failed with all done
-pub meets_whole : {call : Call} {before after : Blocks} {older later : List Event} → later ≡ event call before after false ∷ older → AreObeyed later → MeetsPremises later
+pub meets_whole : {call : Call} {before after : Blocks} {older later : List Event} → later ≡ event call before after false ∷ older → AllConform later → MeetsPremises later
     → Meets call true before after
-meets_whole {call} {before} {after} {older} is obeyed all =
-    let done = All-head IsObeyed (event call before after false) older (subst AreObeyed is obeyed) in
-    record { erases = cleanly call; failed = λ failed. obeyed_stops (event call before after false) done refl (premises_newest is all).erases }
+meets_whole {call} {before} {after} {older} is conforms all =
+    let done = All-head Conforms (event call before after false) older (subst AllConform is conforms) in
+    record { erases = cleanly call; failed = λ failed. conforming_stops (event call before after false) done refl (premises_newest is all).erases }
   where
     cleanly : (call : Call) → erases_cleanly call true before after
     cleanly (Read block off len) = tt

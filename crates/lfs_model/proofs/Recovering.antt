@@ -10,7 +10,7 @@ use Rattle.lfs_model.specs.Shown.{IsReached, tree_in}
 use Rattle.lfs_model.specs.Profile.{IsWritable}
 use Rattle.lfs_model.specs.Operations as ops
 use Rattle.lfs_model.specs.Session.{Session}
-use Rattle.lfs_model.specs.PowerLoss.{IsLeft}
+use Rattle.lfs_model.specs.PowerLoss.{IsLeftByStop}
 use Rattle.lfs_model.specs.Layout.{begin_from, onward}
 use Rattle.lfs_model.proofs.Changes.{follows_itself}
 use Rattle.lfs_model.proofs.LeftFiles.{ends_same}
@@ -161,7 +161,7 @@ recovery_begins disk ps ok fits none =
     all_wait from [] = tt
     all_wait from (x ∷ xs) = ((refl, sym (unmoved_all (gstate_of ps) none x)), all_wait (onward from x) xs)
 
--- All pairs were seen. A last commit may have changed a share of the global state, which now is none.
+-- All pairs were seen. A last commit may have changed a delta of the global state, which now is none.
 pub recovery_ends : (disk : Disk) (ps : List Pair) (now : Disk) (chain seen : List Pair) (parts : List (List Pair)) (kept : List Pair) (new : Disk) (rs : List Pair) (walk : Walk → Walk) (s : Session)
     → IsRecovering disk ps now chain seen [] parts [] kept → IsWritable disk ps → IsTaken now (chain ++ (kept ++ [])) new rs (λ t. t) walk → AreAlike (chain ++ kept) rs → gstate_of rs ≡ no_gstate
     → s.tree ≡ tree_in disk ps → IsCompleted disk ps s ops.Recover new rs
@@ -185,5 +185,5 @@ recovery_ends disk ps now chain seen parts kept new rs walk s r fits last alike 
 
 -- on each disk in between the tree is the one from before
 pub recovery_leaves : (disk : Disk) (ps : List Pair) (now : Disk) (chain seen todo : List Pair) (parts waits : List (List Pair)) (kept : List Pair) (after : Tree)
-    → IsRecovering disk ps now chain seen todo parts waits kept → IsLeft now (tree_in disk ps) after
+    → IsRecovering disk ps now chain seen todo parts waits kept → IsLeftByStop now (tree_in disk ps) after
 recovery_leaves disk ps now chain seen todo parts waits kept after r = taken_before disk ps now (chain ++ (kept ++ joined_parts waits)) (λ d. d) after r.taken

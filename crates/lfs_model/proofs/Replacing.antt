@@ -9,7 +9,7 @@ use Rattle.lfs_model.specs.Thread.{Pair, ThreadDirectory, is_hard, root_of}
 use Rattle.lfs_model.specs.Tree.{Path, Tree, directory_at}
 use Rattle.lfs_model.specs.TreeEdits.{rest_after, planted, renamed}
 use Rattle.lfs_model.specs.Shown.{IsReached, directories_in, entries_in, tree_in}
-use Rattle.lfs_model.specs.PowerLoss.{IsLeft}
+use Rattle.lfs_model.specs.PowerLoss.{IsLeftByStop}
 use Rattle.lfs_model.proofs.LeftFiles.{ends_same}
 use Rattle.lfs_model.proofs.Paths.{Rest, beyond, aside, rest, rest_itself}
 use Rattle.lfs_model.proofs.Pairs.{pair_back, pair_on}
@@ -74,7 +74,7 @@ module _ (disk middle new : Disk) (ps : List Pair) (old_path new_path : Path) (d
   qs = chain ++ (front ++ x ∷ o ∷ back)
 
   -- between the steps the tree is the new one already
-  pub replacing_between : (before : Tree) → IsLeft middle before (renamed old_path new_path (tree_in disk ps))
+  pub replacing_between : (before : Tree) → IsLeftByStop middle before (renamed old_path new_path (tree_in disk ps))
   replacing_between before = taken_after disk ps middle qs (renamed old_path new_path) (rename_walk old_path new_path) before first
 
   but_o : AllReachedBut (chain ++ (front ++ x ∷ o ∷ back)) o.at

@@ -17,7 +17,7 @@ use Rattle.lfs_model.specs.Session.{Session}
 use Rattle.lfs_model.specs.Refusals.{as_path}
 use Rattle.lfs_model.specs.SlotEdits.{with_slots, slot_of_path}
 use Rattle.lfs_model.specs.Layout.{begin_from, onward}
-use Rattle.lfs_model.specs.PowerLoss.{IsLeft}
+use Rattle.lfs_model.specs.PowerLoss.{IsLeftByStop}
 use Rattle.lfs_model.proofs.LeftFiles.{ends_same}
 use Rattle.lfs_model.proofs.Counts.{Each, each_append, each_left, each_right, each_weaker}
 use Rattle.lfs_model.proofs.Pairs.{pair_back, pair_on}
@@ -76,7 +76,7 @@ module _ (disk middle new : Disk) (w : Site) (p : Pair) (mids : List Pair) (q : 
   first = record { follows = directory_goes disk middle w p mids q [] [] [] l r u step other P a leads same d branch empty sync; writable = writable }
 
   -- between the steps the tree is the new one already
-  pub rmdir_between : (old_tree : Tree) → IsLeft middle old_tree (removed (P ++ u.name ∷ []) (tree_in disk (thread_at w (p ∷ mids))))
+  pub rmdir_between : (old_tree : Tree) → IsLeftByStop middle old_tree (removed (P ++ u.name ∷ []) (tree_in disk (thread_at w (p ∷ mids))))
   rmdir_between old_tree = taken_after disk ps middle (thread_at w (q ∷ [])) (removed (P ++ u.name ∷ [])) (planted (P ++ u.name ∷ []) (λ t. None)) old_tree first
 
   thread_is : thread_at w (q ∷ []) ≡ w.chain ++ (front ++ x ∷ o ∷ back)

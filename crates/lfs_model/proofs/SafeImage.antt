@@ -1,7 +1,7 @@
 -- A fresh disk is what a loss of power may leave.
 use Rattle.std.proofs.Common.{subst}
 use Rattle.lfs_model.specs.Fresh.{empty_tree}
-use Rattle.lfs_model.specs.Outages.{IsSafe}
+use Rattle.lfs_model.specs.RepeatedPowerLoss.{IsSafe}
 use Rattle.lfs_model.specs.examples.Images.{small_image}
 use Rattle.lfs_model.proofs.Example.{fresh}
 use Rattle.lfs_model.proofs.Fresh.{shows, writable}

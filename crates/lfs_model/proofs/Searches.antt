@@ -15,7 +15,7 @@ use Rattle.lfs_model.specs.Tree.{Path}
 use Rattle.lfs_model.specs.View.{IsAccepted, IsEntry}
 use Rattle.lfs_model.specs.Shown.{Leads, entries_in}
 use Rattle.lfs_model.specs.SlotEdits.{slot_of_path}
-use Rattle.lfs_model.specs.Discipline.{run_of, pairs_at, pairs_of_path}
+use Rattle.lfs_model.specs.Frame.{run_of, pairs_at, pairs_of_path}
 use Rattle.lfs_model.specs.InDirectory.{entries_only, slots_in, BeginsAbove, HaveNoSuperblock, IsJoined, run_length, Runs, last_is_joined, IsBehind, BeginsAt, Stands, Belongs}
 use Rattle.lfs_model.proofs.Counts.{Each, each_append, each_right, each_weaker}
 use Rattle.lfs_model.proofs.Global.{HasNoMove}

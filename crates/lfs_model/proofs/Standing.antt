@@ -5,12 +5,12 @@ use Rattle.std.proofs.lemmas.List.Elements.{All-head}
 use Rattle.lfs_model.specs.Blocks.{Blocks}
 use Rattle.lfs_model.specs.Disk.{Disk}
 use Rattle.lfs_model.specs.History.{Event, EachEvent, EachSince, IsNewest, LeavesOnly}
-use Rattle.lfs_model.specs.Obeyed.{IsObeyed, AreObeyed}
+use Rattle.lfs_model.specs.Conformance.{Conforms, AllConform}
 use Rattle.lfs_model.specs.Stops.{Stops, ErasesCleanly}
 use Rattle.lfs_model.specs.FailedCalls.{FailAsStopped}
 use Rattle.lfs_model.specs.Operations.{Operation}
-use Rattle.lfs_model.specs.PowerLoss.{FailsAsStopped, IsAtWork, IsLeft, SurvivesStops, Withstands, with_blocks}
-use Rattle.lfs_model.specs.Run.{Agrees, Moment}
+use Rattle.lfs_model.specs.PowerLoss.{FailsAsStopped, IsAtWork, IsLeftByStop, SurvivesStops, SurvivesLoss, with_blocks}
+use Rattle.lfs_model.specs.Run.{Agrees, SystemState}
 use Rattle.lfs_model.specs.Session.{Session, Surroundings}
 use Rattle.lfs_model.specs.Effects.{applied}
 use Rattle.lfs_model.specs.Shown.{tree_in}
@@ -19,7 +19,7 @@ use Rattle.lfs_model.specs.Thread.{Pair}
 use Rattle.lfs_model.specs.Tree.{Tree}
 use Rattle.lfs_model.proofs.AfterStops.{left_before}
 use Rattle.lfs_model.proofs.Kept.{one_tree}
-use Rattle.lfs_model.proofs.Obeyed.{obeyed_stops}
+use Rattle.lfs_model.proofs.Conformance.{conforming_stops}
 
 -- ---- the newest call
 
@@ -33,56 +33,56 @@ newest_has : {P : Event → Type 0} {old new : List Event} (e : Event) (events :
 newest_has {P} {old} e events all is = (subst (EachEvent P) (append_cancel_right all.events (e ∷ events) old (sym all.extends ∙ is)) all.each).0
 
 -- what a call left is among what a stop in it may leave, whether it failed or not
-left_as_stopped : (e : Event) → IsObeyed e → ErasesCleanly e → FailsAsStopped e → Stops e e.after
-left_as_stopped e obeyed clean fails = go e.failed refl
+left_as_stopped : (e : Event) → Conforms e → ErasesCleanly e → FailsAsStopped e → Stops e e.after
+left_as_stopped e conforms clean fails = go e.failed refl
   where
     go : (failed : Bool) → e.failed ≡ failed → Stops e e.after
     go true is = fails is
-    go false is = obeyed_stops e obeyed is clean
+    go false is = conforming_stops e conforms is clean
 
 -- ---- what stands
 
 -- What stops leave has P, and so has what stands where there was no call: what stands behind the last call has it, too.
-pub stands : {P : Blocks → Type 0} {old new : List Event} (last : Blocks) → (new ≡ old → P last) → IsNewest new last → AreObeyed new
+pub stands : {P : Blocks → Type 0} {old new : List Event} (last : Blocks) → (new ≡ old → P last) → IsNewest new last → AllConform new
     → LeavesOnly Stops old new P → EachSince ErasesCleanly old new → FailAsStopped old new → P last
-stands {P} {old} {new} last untouched newest obeyed since cleanly fails = go since.events since.extends since.each
+stands {P} {old} {new} last untouched newest conforms since cleanly fails = go since.events since.extends since.each
   where
     go : (events : List Event) → new ≡ events ++ old → EachEvent (λ e. (disk : Blocks) → Stops e disk → P disk) events → P last
     go [] same each = untouched same
     go (e ∷ events) same each =
-        let done = All-head IsObeyed e (events ++ old) (subst AreObeyed same obeyed) in
+        let done = All-head Conforms e (events ++ old) (subst AllConform same conforms) in
         let left = left_as_stopped e done (newest_has e events cleanly same) (newest_has e events fails same) in
         subst P (newest e (events ++ old) same) (each.0 e.after left)
 
 -- the same of a device that had been called before, from what stood then
-pub stands_since : {P : Blocks → Type 0} {old new : List Event} (first last : Blocks) → old ≢ [] → IsNewest old first → IsNewest new last → AreObeyed new
+pub stands_since : {P : Blocks → Type 0} {old new : List Event} (first last : Blocks) → old ≢ [] → IsNewest old first → IsNewest new last → AllConform new
     → LeavesOnly Stops old new P → EachSince ErasesCleanly old new → FailAsStopped old new → P first → P last
-stands_since {P} {old} {new} first last called then now obeyed since cleanly fails here =
-    stands {P = P} {old = old} {new = new} last (λ same. subst P (same_blocks old first last called then (subst (λ (history : List Event). IsNewest history last) same now)) here) now obeyed since cleanly fails
+stands_since {P} {old} {new} first last called then now conforms since cleanly fails here =
+    stands {P = P} {old = old} {new = new} last (λ same. subst P (same_blocks old first last called then (subst (λ (history : List Event). IsNewest history last) same now)) here) now conforms since cleanly fails
 
 -- ---- an operation
 
 -- two moments of a device that had been called before
-pub one_device : (from to : Moment) → from.calls ≢ [] → IsNewest from.calls from.disk.blocks → IsNewest to.calls to.disk.blocks → AreObeyed to.calls
+pub one_device : (from to : SystemState) → from.calls ≢ [] → IsNewest from.calls from.disk.blocks → IsNewest to.calls to.disk.blocks → AllConform to.calls
     → to.disk ≡ with_blocks to.disk.blocks from.disk → IsOneDevice from to
-one_device from to called then now obeyed same = record {
+one_device from to called then now conforms same = record {
   stays = λ silent. same ∙ ap (λ (blocks : Blocks). with_blocks blocks from.disk)
       (sym (same_blocks from.calls from.disk.blocks to.disk.blocks called then (subst (λ (history : List Event). IsNewest history to.disk.blocks) silent now)));
   same = same;
   newest = now;
-  obeyed = obeyed;
+  conforms = conforms;
 }
 
-pub device_withstands : (from to : Moment) (op : Operation) → Agrees from.disk from.state → IsOneDevice from to → SurvivesStops from op to → Withstands from op to
-device_withstands from to op agrees device survives = record { stops = survives; stands = behind }
+pub device_survives_loss : (from to : SystemState) (op : Operation) → Agrees from.disk from.state → IsOneDevice from to → SurvivesStops from op to → SurvivesLoss from op to
+device_survives_loss from to op agrees device survives = record { stops = survives; stands = behind }
   where
     behind : (s : Session) (ps : List Pair) (around : Surroundings) → IsAtWork from s ps around
-        → EachSince ErasesCleanly from.calls to.calls → EachSince FailsAsStopped from.calls to.calls → IsLeft to.disk s.tree (applied around s op).1.tree
+        → EachSince ErasesCleanly from.calls to.calls → EachSince FailsAsStopped from.calls to.calls → IsLeftByStop to.disk s.tree (applied around s op).1.tree
     behind s ps around work cleanly fails =
         let after : Tree = (applied around s op).1.tree in
         let tree = one_tree from.disk (tree_in from.disk ps) s.tree (ps, (work.accepted, refl)) (subst (Agrees from.disk) work.healthy agrees) in
         let here = left_before from.disk ps s.tree after work.accepted work.writable tree in
-        subst (λ (disk : Disk). IsLeft disk s.tree after) (sym device.same)
-        (stands {P = λ blocks. IsLeft (with_blocks blocks from.disk) s.tree after} to.disk.blocks
-        (λ silent. subst (λ (disk : Disk). IsLeft disk s.tree after) (sym (device.stays silent) ∙ device.same) here)
-        device.newest device.obeyed (survives s ps around work cleanly) cleanly fails)
+        subst (λ (disk : Disk). IsLeftByStop disk s.tree after) (sym device.same)
+        (stands {P = λ blocks. IsLeftByStop (with_blocks blocks from.disk) s.tree after} to.disk.blocks
+        (λ silent. subst (λ (disk : Disk). IsLeftByStop disk s.tree after) (sym (device.stays silent) ∙ device.same) here)
+        device.newest device.conforms (survives s ps around work cleanly) cleanly fails)

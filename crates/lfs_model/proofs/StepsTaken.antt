@@ -10,7 +10,7 @@ use Rattle.lfs_model.specs.Profile.{IsWritable, FitsSlot, HaveSlots}
 use Rattle.lfs_model.specs.Shown.{Leads, tree_in}
 use Rattle.lfs_model.specs.SlotEdits.{with_slots}
 use Rattle.lfs_model.specs.Layout.{Fits}
-use Rattle.lfs_model.specs.PowerLoss.{IsLeft}
+use Rattle.lfs_model.specs.PowerLoss.{IsLeftByStop}
 use Rattle.lfs_model.proofs.Counts.{Each, each_append, each_left, each_right, each_pieces}
 use Rattle.lfs_model.proofs.Laws.{Walk}
 use Rattle.lfs_model.proofs.Changes.{Follows}
@@ -38,10 +38,10 @@ pub taken_then : (a b c : Disk) (ps qs rs : List Pair) (f g : Tree → Tree) (v 
 taken_then a b c ps qs rs f g v w parts first second = record { follows = follows_then a b c ps qs rs f g v w parts first.follows second.follows; writable = second.writable }
 
 -- the tree is still the one from before, or already the one from after it
-pub taken_before : (disk : Disk) (ps : List Pair) (new : Disk) (qs : List Pair) (walk : Walk → Walk) (after : Tree) → IsTaken disk ps new qs (λ t. t) walk → IsLeft new (tree_in disk ps) after
+pub taken_before : (disk : Disk) (ps : List Pair) (new : Disk) (qs : List Pair) (walk : Walk → Walk) (after : Tree) → IsTaken disk ps new qs (λ t. t) walk → IsLeftByStop new (tree_in disk ps) after
 taken_before disk ps new qs walk after step = record { pairs = qs; accepted = step.follows.accepted; writable = step.writable; tree = inl step.follows.shows }
 
-pub taken_after : (disk : Disk) (ps : List Pair) (new : Disk) (qs : List Pair) (change : Tree → Tree) (walk : Walk → Walk) (before : Tree) → IsTaken disk ps new qs change walk → IsLeft new before (change (tree_in disk ps))
+pub taken_after : (disk : Disk) (ps : List Pair) (new : Disk) (qs : List Pair) (change : Tree → Tree) (walk : Walk → Walk) (before : Tree) → IsTaken disk ps new qs change walk → IsLeftByStop new before (change (tree_in disk ps))
 taken_after disk ps new qs change walk before step = record { pairs = qs; accepted = step.follows.accepted; writable = step.writable; tree = inr step.follows.shows }
 
 -- ---- the profile of a pair that changes
@@ -60,7 +60,7 @@ within_at disk w p rest ok = record {
 pub within_same : (disk : Disk) (p q : Pair) → q.content.slots ≡ p.content.slots → IsWithin disk.block_size disk.page p → IsWithin disk.block_size disk.page q
 within_same disk p q e h = record { pair = fits_same disk p q e h.pair; slots = subst (All (FitsSlot disk.block_size disk.page)) (sym e) h.slots }
 
--- some slots of a pair within the profile make way for others that fit
+-- some slots of a pair within the profile are replaced by others that fit
 pub fit_spliced : (disk : Disk) (p : Pair) (l olds news r : List Slot) → IsWithin disk.block_size disk.page p → p.content.slots ≡ l ++ (olds ++ r) → Each (FitsSlot disk.block_size disk.page) news
     → Each (FitsSlot disk.block_size disk.page) (l ++ (news ++ r))
 fit_spliced disk p l olds news r h was fit =
@@ -86,7 +86,7 @@ module _ (disk : Disk) (w : Site) (p q : Pair) (more : List Pair) (l olds news r
   pub put_filled : HaveSlots (flag false (w.before ++ w.left)) (p ∷ [] ++ (w.right ++ w.after)) → HaveSlots (flag false (w.before ++ w.left)) (q ∷ more ++ (w.right ++ w.after))
   put_filled h = became_filled disk p (with_slots (l ++ (news ++ r)) p) q more (w.right ++ w.after) c.is c.became (flag false (w.before ++ w.left)) c.filled h
 
-  -- a commit that changes slots, and perhaps the share of the global state but for a move
+  -- a commit that changes slots, and perhaps the delta of the global state but for a move
   pub commit_taken : (new : Disk) (extra fresh : List ℕ) (change : Tree → Tree) (walk : Walk → Walk) → IsStep disk new w p [] q more extra fresh l olds news r
       → Follows disk (thread_at w (p ∷ [])) new (thread_at w (q ∷ more)) change walk → IsTaken disk (thread_at w (p ∷ [])) new (thread_at w (q ∷ more)) change walk
   commit_taken new extra fresh change walk step follows = record {

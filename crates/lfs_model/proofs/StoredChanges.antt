@@ -7,13 +7,13 @@ use Rattle.lfs_model.specs.Tag.{tag_with, class_of, len_of}
 use Rattle.lfs_model.specs.Content.{RawContent, content_after_all}
 use Rattle.lfs_model.specs.EntryTypes.{removes, no_id, create_type, delete_type, move_state_type}
 use Rattle.lfs_model.specs.WrittenContent.{entry_with, attribute_type, pair_bytes, move_bytes, tail_type, named_pair}
-use Rattle.lfs_model.specs.LoggedContent.{IsStored, AreStored, IsLogged}
+use Rattle.lfs_model.specs.LoggedContent.{IsStoredEntry, AreStored, IsLogged}
 use Rattle.lfs_model.specs.Changes.{Change, Create, Delete, PutStruct, PutAttribute, RemoveAttribute, PutTail, PutMove, entries_of_change, entries_of_changes, is_storable, is_name_kind, is_struct_kind, is_data, changed_by}
 use Rattle.lfs_model.proofs.WrittenAnew.{len_of-tag_with}
 use Rattle.lfs_model.proofs.Logged.{stored_append, logged_after_all}
 
 -- an entry with at most 1,022 bytes
-stored_data : (type id : ℕ) (bytes : List ℕ) → length bytes ≤ 1022 → (6 ≤ class_of (tag_with type id (length bytes)) → (i : ℕ) → slice_index bytes i < 256) → IsStored (entry_with type id bytes)
+stored_data : (type id : ℕ) (bytes : List ℕ) → length bytes ≤ 1022 → (6 ≤ class_of (tag_with type id (length bytes)) → (i : ℕ) → slice_index bytes i < 256) → IsStoredEntry (entry_with type id bytes)
 stored_data type id bytes short small =
     let len : len_of (tag_with type id (length bytes)) ≡ length bytes = len_of-tag_with type id (length bytes) (omega arith) in
     let stays : removes (tag_with type id (length bytes)) ≡ false = ne_eqb (len_of (tag_with type id (length bytes))) 0x3ff (λ h. omega arith) in
@@ -36,7 +36,7 @@ pair_small : (pair : ℕ × ℕ) → EachSmall (pair_bytes pair)
 pair_small pair = eight [] tt pair.0 (pair.0 / 256) (pair.0 / 65536) (pair.0 / 16777216) pair.1 (pair.1 / 256) (pair.1 / 65536) (pair.1 / 16777216)
 
 -- entries of names, structs and attributes are of a lower class
-stored_low : (type id : ℕ) (bytes : List ℕ) → type < 0x600 → id < 0x3ff → length bytes ≤ 1022 → IsStored (entry_with type id bytes)
+stored_low : (type id : ℕ) (bytes : List ℕ) → type < 0x600 → id < 0x3ff → length bytes ≤ 1022 → IsStoredEntry (entry_with type id bytes)
 stored_low type id bytes t i n = stored_data type id bytes n (λ k. absurd (omega arith))
 
 stored_change : (c : Change) → is_storable c ≡ true → AreStored (entries_of_change c)

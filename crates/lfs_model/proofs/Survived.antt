@@ -18,19 +18,19 @@ use Rattle.lfs_model.specs.Session.{Session, Surroundings, refuse_if}
 use Rattle.lfs_model.specs.Effects.{applied, reply_or}
 use Rattle.lfs_model.specs.State.{State, Healthy, answered_in, mounted}
 use Rattle.lfs_model.specs.Recovery.{IsRecovered}
-use Rattle.lfs_model.specs.Run.{Moment, Shows, Agrees, is_refusal, IsTurn}
+use Rattle.lfs_model.specs.Run.{SystemState, Shows, Agrees, is_refusal, IsSessionStep}
 use Rattle.lfs_model.specs.Headline.{AgreesWithDisk}
 use Rattle.lfs_model.specs.Stops.{Stops, ErasesCleanly}
-use Rattle.lfs_model.specs.PowerLoss.{IsLeft, with_blocks, IsAtWork, Withstands}
+use Rattle.lfs_model.specs.PowerLoss.{IsLeftByStop, with_blocks, IsAtWork, SurvivesLoss}
 use Rattle.lfs_model.specs.Performed.{IsPerformed, ArePerformed, IsRun}
-use Rattle.lfs_model.specs.Outages.{IsMounted, SameBytes, IsRestored, IsSafe, IsStoppedSince, IsStopped, Ends, IsCutAt, tree_behind, IsSurvived, LosesPowerInTurn, AreSurvived, MayLosePower, SurvivesPowerLoss}
+use Rattle.lfs_model.specs.RepeatedPowerLoss.{IsMounted, SameBytes, IsRestored, IsSafe, IsStoppedSince, IsStopped, Ends, IsCutAt, tree_behind, IsSurvived, LosesPowerRepeatedly, AreSurvived, MayLosePower, SurvivesPowerLoss}
 use Rattle.lfs_model.specs.History.{Event, EachEvent, EachSince, LeavesOnly}
-use Rattle.lfs_model.specs.Thrift.{if_accepted}
+use Rattle.lfs_model.specs.ReadBounds.{if_accepted}
 use Rattle.lfs_model.proofs.AfterStops.{left_before}
 use Rattle.lfs_model.proofs.Histories.{began, goes_on_by, EachSince-until, EachSince-behind}
 use Rattle.lfs_model.proofs.Sites.{Among, among_from, any_from, among_parts}
 use Rattle.lfs_model.proofs.Uniqueness.{one_thread}
-use Rattle.lfs_model.proofs.Turns.{IsHealthy, true_from, turn_is_healthy}
+use Rattle.lfs_model.proofs.SessionSteps.{IsHealthy, true_from, session_step_is_healthy}
 use Rattle.lfs_model.proofs.Kept.{mount_begins, one_tree, turn_keeps, profile_stays}
 use Rattle.lfs_model.proofs.Performing.{IsAny, calls_since, performed_since}
 
@@ -45,8 +45,8 @@ pub record IsRecoveredFrom (disk : Disk) (ps : List Pair) (reply : Reply) (new :
   pub tree : tree_in new pairs ≡ tree_in disk ps
 
 -- the session that a mount of the disk begins, and a recover in it
-pub recover_keeps : (from to : Moment) (reply : Reply) (ps : List Pair) → IsAccepted from.disk ps → IsWritable from.disk ps → from.state ≡ Healthy (mounted (tree_in from.disk ps)) →
-    IsTurn from ops.Recover reply to → IsRecoveredFrom from.disk ps reply to.disk
+pub recover_keeps : (from to : SystemState) (reply : Reply) (ps : List Pair) → IsAccepted from.disk ps → IsWritable from.disk ps → from.state ≡ Healthy (mounted (tree_in from.disk ps)) →
+    IsSessionStep from ops.Recover reply to → IsRecoveredFrom from.disk ps reply to.disk
 recover_keeps from to reply ps ok fits state turn =
     let a = turn.answered in
     let s = a.surrounds (mounted (tree_in from.disk ps)) state in
@@ -56,7 +56,7 @@ recover_keeps from to reply ps ok fits state turn =
     let e = allowed a.around writes ∙ answer in
     let done : reply ≡ ops.Done = sym (same_Some ops.Done reply (ap (λ (z : Option Reply × State). z.0) e)) in
     let shown = subst (Agrees to.disk) (sym (ap (λ (z : Option Reply × State). z.1) e)) turn.agrees in
-    let carried = turn.carried_out (ap is_refusal done) (mounted (tree_in from.disk ps)) state ps shown.0 ok shown.1.0 in
+    let carried = turn.effect_on_disk (ap is_refusal done) (mounted (tree_in from.disk ps)) state ps shown.0 ok shown.1.0 in
     record {
       done = done;
       pairs = shown.0;
@@ -82,13 +82,13 @@ same_thread : (disk other : Disk) (ps qs : List Pair) → SameBytes disk other �
 same_thread disk other ps qs same a b = one_thread (content_at disk) (block_count disk) ps qs a.thread (subst (λ d. IsAccepted d qs) same b).thread
 
 -- the pairs that a mount finds, and the tree
-record IsFound (disk : Disk) (ps : List Pair) (begin : Moment) : Type 0 where
+record IsFound (disk : Disk) (ps : List Pair) (begin : SystemState) : Type 0 where
   accepted : IsAccepted begin.disk ps
   writable : IsWritable begin.disk ps
   tree : tree_in begin.disk ps ≡ tree_in disk ps
   state : begin.state ≡ Healthy (mounted (tree_in disk ps))
 
-found : (disk other : Disk) (ps : List Pair) (begin : Moment) → IsAccepted disk ps → IsWritable disk ps → SameBytes disk other → IsMounted other begin → IsFound disk ps begin
+found : (disk other : Disk) (ps : List Pair) (begin : SystemState) → IsAccepted disk ps → IsWritable disk ps → SameBytes disk other → IsMounted other begin → IsFound disk ps begin
 found disk other ps begin ok fits same m =
     let s = m.shows in
     let pairs = same_thread disk other ps s.0 same ok s.1.0 in
@@ -101,7 +101,7 @@ found disk other ps begin ok fits same m =
       state = m.healthy ∙ ap (λ t. Healthy (mounted t)) (s.1.1 ∙ ap (tree_in other) (sym pairs) ∙ tree);
     }
 
-restored : (disk : Disk) (ps : List Pair) (begin to : Moment) (reply : Reply) → IsFound disk ps begin → IsTurn begin ops.Recover reply to → IsRestored (tree_in disk ps) reply to.disk
+restored : (disk : Disk) (ps : List Pair) (begin to : SystemState) (reply : Reply) → IsFound disk ps begin → IsSessionStep begin ops.Recover reply to → IsRestored (tree_in disk ps) reply to.disk
 restored disk ps begin to reply f turn =
     let r = recover_keeps begin to reply ps f.accepted f.writable (f.state ∙ ap (λ t. Healthy (mounted t)) (sym f.tree)) turn in
     record { done = r.done; pairs = r.pairs; accepted = r.accepted; writable = r.writable; recovered = r.recovered; kept = r.tree ∙ f.tree }
@@ -119,17 +119,17 @@ safe_with disk ps ok fits = record {
 -- ---- a stop in an operation
 
 -- a session that has its disk's tree
-shows_tree : (at : Moment) (s : Session) → AgreesWithDisk at → at.state ≡ Healthy s → Shows at.disk (Some s.tree)
+shows_tree : (at : SystemState) (s : Session) → AgreesWithDisk at → at.state ≡ Healthy s → Shows at.disk (Some s.tree)
 shows_tree at s agrees healthy = subst (Agrees at.disk) (sym agrees.healthy ∙ healthy) agrees.shows
 
-stays : (at : Moment) (s : Session) (ps : List Pair) (around : Surroundings) (after : Tree) → AgreesWithDisk at → IsAtWork at s ps around → IsLeft at.disk s.tree after
+stays : (at : SystemState) (s : Session) (ps : List Pair) (around : Surroundings) (after : Tree) → AgreesWithDisk at → IsAtWork at s ps around → IsLeftByStop at.disk s.tree after
 stays at s ps around after agrees work = left_before at.disk ps s.tree after work.accepted work.writable
     (one_tree at.disk (tree_in at.disk ps) s.tree (ps, (work.accepted, refl)) (shows_tree at s agrees work.healthy))
 
 abbrev around_of : Disk → List Pair → Surroundings
 around_of disk ps = record { writable = true; block_size = disk.block_size; page = disk.page; block_count = block_count disk; used = used_blocks disk ps; gstate = gstate_of ps }
 
-at_work : (at : Moment) (agrees : AgreesWithDisk at) (profile : IsInProfile at.disk) → IsAtWork at agrees.session profile.0 (around_of at.disk profile.0)
+at_work : (at : SystemState) (agrees : AgreesWithDisk at) (profile : IsInProfile at.disk) → IsAtWork at agrees.session profile.0 (around_of at.disk profile.0)
 at_work at agrees profile = record {
   healthy = agrees.healthy;
   accepted = profile.1.0;
@@ -147,27 +147,27 @@ stopped_has P old new blocks all since =
     among (e ∷ events) h (inl k) = h.0 blocks k
     among (e ∷ events) h (inr k) = among events h.1 k
 
-stop_leaves : (from to : Moment) (op : Operation) (s : Session) (ps : List Pair) (around : Surroundings) (left : Disk) → AgreesWithDisk from → IsAtWork from s ps around → Withstands from op to →
-    EachSince ErasesCleanly from.calls to.calls → IsStopped from to left → IsLeft left s.tree (applied around s op).1.tree
-stop_leaves from to op s ps around left agrees work withstands cleanly stop = go stop
+stop_leaves : (from to : SystemState) (op : Operation) (s : Session) (ps : List Pair) (around : Surroundings) (left : Disk) → AgreesWithDisk from → IsAtWork from s ps around → SurvivesLoss from op to →
+    EachSince ErasesCleanly from.calls to.calls → IsStopped from to left → IsLeftByStop left s.tree (applied around s op).1.tree
+stop_leaves from to op s ps around left agrees work survives_loss cleanly stop = go stop
   where
     after : Tree
     after = (applied around s op).1.tree
 
-    go : IsStopped from to left → IsLeft left s.tree (applied around s op).1.tree
-    go (inl e) = subst (λ d. IsLeft d s.tree after) (sym e) (stays from s ps around after agrees work)
-    go (inr (inl (blocks, (e, since)))) = subst (λ d. IsLeft d s.tree after) (sym e)
-        (stopped_has (λ b. IsLeft (with_blocks b from.disk) s.tree after) from.calls to.calls blocks (withstands.stops s ps around work cleanly) since)
-    go (inr (inr (e, fails))) = subst (λ d. IsLeft d s.tree after) (sym e) (withstands.stands s ps around work cleanly fails)
+    go : IsStopped from to left → IsLeftByStop left s.tree (applied around s op).1.tree
+    go (inl e) = subst (λ d. IsLeftByStop d s.tree after) (sym e) (stays from s ps around after agrees work)
+    go (inr (inl (blocks, (e, since)))) = subst (λ d. IsLeftByStop d s.tree after) (sym e)
+        (stopped_has (λ b. IsLeftByStop (with_blocks b from.disk) s.tree after) from.calls to.calls blocks (survives_loss.stops s ps around work cleanly) since)
+    go (inr (inr (e, fails))) = subst (λ d. IsLeftByStop d s.tree after) (sym e) (survives_loss.stands s ps around work cleanly fails)
 
 -- ---- a stop in a run
 
 -- the disk that was left, from where it was cut
-survived : (from : Moment) (operations : List Operation) (left : Disk) (cut : IsCutAt from operations left) → IsLeft left cut.session.tree (tree_behind cut.around cut.session cut.others) → IsSurvived from operations left
+survived : (from : SystemState) (operations : List Operation) (left : Disk) (cut : IsCutAt from operations left) → IsLeftByStop left cut.session.tree (tree_behind cut.around cut.session cut.others) → IsSurvived from operations left
 survived from operations left cut k = record { cut = cut; tree = tree_in left k.pairs; either = k.tree; safe = safe_with left k.pairs k.accepted k.writable }
 
 -- behind an operation more
-later : (from next : Moment) (op : Operation) (reply : Reply) (operations : List Operation) (left : Disk) → IsTurn from op reply next → IsSurvived next operations left → IsSurvived from (op ∷ operations) left
+later : (from next : SystemState) (op : Operation) (reply : Reply) (operations : List Operation) (left : Disk) → IsSessionStep from op reply next → IsSurvived next operations left → IsSurvived from (op ∷ operations) left
 later from next op reply operations left turn k = record {
   cut = record {
     done = op ∷ k.cut.done;
@@ -175,7 +175,7 @@ later from next op reply operations left turn k = record {
     are = ap (λ z. op ∷ z) k.cut.are;
     replies = reply ∷ k.cut.replies;
     at = k.cut.at;
-    turns = (next, (turn, k.cut.turns));
+    session_steps = (next, (turn, k.cut.session_steps));
     session = k.cut.session;
     pairs = k.cut.pairs;
     around = k.cut.around;
@@ -190,9 +190,9 @@ later from next op reply operations left turn k = record {
 }
 
 -- in the first operation
-first_cut : (from next : Moment) (op : Operation) (others : List Operation) (left : Disk) → AgreesWithDisk from → IsInProfile from.disk → Ends from (op ∷ others) next → Withstands from op next →
+first_cut : (from next : SystemState) (op : Operation) (others : List Operation) (left : Disk) → AgreesWithDisk from → IsInProfile from.disk → Ends from (op ∷ others) next → SurvivesLoss from op next →
     EachSince ErasesCleanly from.calls next.calls → IsStopped from next left → IsSurvived from (op ∷ others) left
-first_cut from next op others left agrees profile ends withstands cleanly stop =
+first_cut from next op others left agrees profile ends survives_loss cleanly stop =
     let work = at_work from agrees profile in
     survived from (op ∷ others) left
     (record {
@@ -201,7 +201,7 @@ first_cut from next op others left agrees profile ends withstands cleanly stop =
       are = refl;
       replies = [];
       at = from;
-      turns = refl;
+      session_steps = refl;
       session = agrees.session;
       pairs = profile.0;
       around = around_of from.disk profile.0;
@@ -210,10 +210,10 @@ first_cut from next op others left agrees profile ends withstands cleanly stop =
       ends = ends;
       stop = stop;
     })
-    (stop_leaves from next op agrees.session profile.0 (around_of from.disk profile.0) left agrees work withstands cleanly stop)
+    (stop_leaves from next op agrees.session profile.0 (around_of from.disk profile.0) left agrees work survives_loss cleanly stop)
 
 -- behind the last
-none_cut : (at : Moment) (left : Disk) → AgreesWithDisk at → IsInProfile at.disk → IsStopped at at left → IsSurvived at [] left
+none_cut : (at : SystemState) (left : Disk) → AgreesWithDisk at → IsInProfile at.disk → IsStopped at at left → IsSurvived at [] left
 none_cut at left agrees profile stop =
     let work = at_work at agrees profile in
     survived at [] left
@@ -223,7 +223,7 @@ none_cut at left agrees profile stop =
       are = refl;
       replies = [];
       at = at;
-      turns = refl;
+      session_steps = refl;
       session = agrees.session;
       pairs = profile.0;
       around = around_of at.disk profile.0;
@@ -232,7 +232,7 @@ none_cut at left agrees profile stop =
       ends = refl;
       stop = stop;
     })
-    (subst (λ d. IsLeft d agrees.session.tree agrees.session.tree) (sym (here stop)) (stays at agrees.session profile.0 (around_of at.disk profile.0) agrees.session.tree agrees work))
+    (subst (λ d. IsLeftByStop d agrees.session.tree agrees.session.tree) (sym (here stop)) (stays at agrees.session profile.0 (around_of at.disk profile.0) agrees.session.tree agrees work))
   where
     here : IsStopped at at left → left ≡ at.disk
     here (inl e) = e
@@ -244,10 +244,10 @@ none_cut at left agrees profile stop =
 -- ---- where in the calls it was
 
 -- a stop in either of two stretches
-abbrev IsEither : (from next to : Moment) (blocks : Blocks) → Type 0
+abbrev IsEither : (from next to : SystemState) (blocks : Blocks) → Type 0
 IsEither from next to blocks = IsStoppedSince from.calls next.calls blocks ⊎ IsStoppedSince next.calls to.calls blocks
 
-either_part : (from next to : Moment) (blocks : Blocks) {P Q : Event → Type 0} → EachSince P from.calls next.calls → EachSince Q next.calls to.calls → IsStoppedSince from.calls to.calls blocks → IsEither from next to blocks
+either_part : (from next to : SystemState) (blocks : Blocks) {P Q : Event → Type 0} → EachSince P from.calls next.calls → EachSince Q next.calls to.calls → IsStoppedSince from.calls to.calls blocks → IsEither from next to blocks
 either_part from next to blocks first second since = go (among_parts (λ e. Stops e blocks) second.events first.events (subst (Among (λ e. Stops e blocks)) same (among_from (λ e. Stops e blocks) since.events since.stopped)))
   where
     same : since.events ≡ second.events ++ first.events
@@ -268,7 +268,7 @@ same_blocks disk new blocks g =
 -- ---- the run
 
 -- one operation in front of others that are survived
-further : (before : Option Operation) (op : Operation) (reply : Reply) (others : List Operation) (from next to : Moment) (left : Disk) → IsPerformed before from op reply next → EachSince IsAny next.calls to.calls →
+further : (before : Option Operation) (op : Operation) (reply : Reply) (others : List Operation) (from next to : SystemState) (left : Disk) → IsPerformed before from op reply next → EachSince IsAny next.calls to.calls →
     (MayLosePower next to → IsStopped next to left → IsSurvived next others left) → MayLosePower from to → IsStopped from to left → IsSurvived from (op ∷ others) left
 further before op reply others from next to left one second last may stop = go stop
   where
@@ -280,13 +280,13 @@ further before op reply others from next to left one second last may stop = go s
 
     may_later : MayLosePower next to
     may_later = record {
-      agrees = true_from next (turn_is_healthy from next op reply one.turn healthy) one.turn.agrees;
+      agrees = true_from next (session_step_is_healthy from next op reply one.turn healthy) one.turn.agrees;
       profile = turn_keeps IsWritable profile_stays from next op reply one.turn healthy may.profile;
       cleanly = EachSince-behind may.cleanly first second;
     }
 
     here : IsStopped from next left → IsSurvived from (op ∷ others) left
-    here = first_cut from next op others left may.agrees may.profile (inl (reply, one.turn)) one.withstands (EachSince-until may.cleanly first second)
+    here = first_cut from next op others left may.agrees may.profile (inl (reply, one.turn)) one.survives_loss (EachSince-until may.cleanly first second)
 
     there : IsStopped next to left → IsSurvived from (op ∷ others) left
     there k = later from next op reply others left one.turn (last may_later k)
@@ -301,7 +301,7 @@ further before op reply others from next to left one second last may stop = go s
     go (inr (inr (e, fails))) = there (inr (inr (e, EachSince-behind fails first second)))
 
 -- what comes behind these operations is survived, so they are
-run_survived : (before : Option Operation) (operations more : List Operation) (replies : List Reply) (from at to : Moment) (left : Disk) → ArePerformed before from operations replies at → EachSince IsAny at.calls to.calls →
+run_survived : (before : Option Operation) (operations more : List Operation) (replies : List Reply) (from at to : SystemState) (left : Disk) → ArePerformed before from operations replies at → EachSince IsAny at.calls to.calls →
     (MayLosePower at to → IsStopped at to left → IsSurvived at more left) → MayLosePower from to → IsStopped from to left → IsSurvived from (operations ++ more) left
 run_survived before [] more [] from at to left h tail last may stop = subst (λ m. IsSurvived m more left) (sym h) (last (subst (λ m. MayLosePower m to) h may) (subst (λ m. IsStopped m to left) h stop))
 run_survived before [] more (reply ∷ replies) from at to left h tail last may stop = absurd h
@@ -310,18 +310,18 @@ run_survived before (op ∷ operations) more (reply ∷ replies) from at to left
     further before op reply (operations ++ more) from next to left one (goes_on_by (performed_since (if_accepted op reply) operations replies next at rest) tail)
     (λ may stop. run_survived (if_accepted op reply) operations more replies next at to left rest tail last may stop) may stop
 
-once_survived : (from : Moment) (operations : List Operation) (to : Moment) (left : Disk) → IsRun from operations to → MayLosePower from to → IsStopped from to left → IsSurvived from operations left
+once_survived : (from : SystemState) (operations : List Operation) (to : SystemState) (left : Disk) → IsRun from operations to → MayLosePower from to → IsStopped from to left → IsSurvived from operations left
 once_survived from operations to left (inl (replies, h)) may stop =
     subst (λ os. IsSurvived from os left) (append-nil operations)
     (run_survived None operations [] replies from to to left h began (λ may stop. none_cut to left may.agrees may.profile stop) may stop)
 once_survived from operations to left (inr c) may stop =
     subst (λ os. IsSurvived from os left) (sym c.are)
     (run_survived None c.done (c.next ∷ c.others) c.replies from c.at to left c.performed (calls_since c.at.calls to.calls c.fails.calls c.fails.called)
-    (λ may stop. first_cut c.at to c.next c.others left may.agrees may.profile (inr c.fails) c.withstands may.cleanly stop) may stop)
+    (λ may stop. first_cut c.at to c.next c.others left may.agrees may.profile (inr c.fails) c.survives_loss may.cleanly stop) may stop)
 
 -- ---- any number of them
 
-pub again_survived : (disk : Disk) (tree : Tree) (lefts : List Disk) → IsSafe tree disk → (losses : LosesPowerInTurn disk lefts) → AreSurvived disk lefts losses
+pub again_survived : (disk : Disk) (tree : Tree) (lefts : List Disk) → IsSafe tree disk → (losses : LosesPowerRepeatedly disk lefts) → AreSurvived disk lefts losses
 again_survived disk tree [] safe losses = tt
 again_survived disk tree (left ∷ others) safe (o, more) = (one, again_survived left one.tree others one.safe more)
   where
@@ -332,7 +332,7 @@ again_survived disk tree (left ∷ others) safe (o, more) = (one, again_survived
     one = once_survived o.begin o.operations o.to left o.run
         (record { agrees = mount_begins o.other o.begin o.mounts; profile = (safe.pairs, (f.accepted, f.writable)); cleanly = o.cleanly }) o.stop
 
-pub run_survives : (from : Moment) (operations : List Operation) (to : Moment) → IsRun from operations to → MayLosePower from to → SurvivesPowerLoss from operations to
+pub run_survives : (from : SystemState) (operations : List Operation) (to : SystemState) → IsRun from operations to → MayLosePower from to → SurvivesPowerLoss from operations to
 run_survives from operations to run may = record {
   once = λ left stop. once_survived from operations to left run may stop;
   again = λ left lefts stop losses. let k = once_survived from operations to left run may stop in again_survived left k.tree lefts k.safe losses;

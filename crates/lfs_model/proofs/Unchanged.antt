@@ -44,7 +44,7 @@ accepted_first disk ps p rest ok is = record { kind = meets_first ps p rest is (
 
 -- ---- the global state
 
--- a pair that becomes another with the same share leaves it
+-- a pair that becomes another with the same delta leaves it
 pub state_same : (front : List Pair) (p q : Pair) (back : List Pair) → q.content.move ≡ p.content.move → gstate_of (front ++ q ∷ back) ≡ gstate_of (front ++ p ∷ back)
 state_same front p q back move =
     gstate_append front (q ∷ back)

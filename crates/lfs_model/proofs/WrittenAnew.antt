@@ -13,7 +13,7 @@ use Rattle.lfs_model.specs.Slots.{Attributes, Tail, Gstate, no_gstate}
 use Rattle.lfs_model.specs.Content.{RawSlot, RawContent, content_after, content_after_all, slots_after, put_attribute, no_content}
 use Rattle.lfs_model.specs.EntryTypes.{is_in_table, has_its_id, no_id, create_type, delete_type, removes, pair_at, tail_with, gstate_at, gstate_with, move_state_type}
 use Rattle.lfs_model.specs.WrittenContent.{entry_with, part_entries, attribute_entries, entries_of_slot, entries_of_slots, pair_bytes, tail_entries, move_word, move_bytes, move_entries, is_no_gstate, written_entries}
-use Rattle.lfs_model.specs.LoggedContent.{IsPart, IsPartIfSome, Ascend, HasParts, HaveParts, HaveNames, IsAddress, IsTailIfSome, IsMoveState, IsSound}
+use Rattle.lfs_model.specs.LoggedContent.{IsPart, IsPartIfSome, Ascend, HasParts, HaveParts, HaveNames, IsAddress, IsTailIfSome, IsMoveState, IsSoundContent}
 
 -- ---- the fields of a tag
 
@@ -278,7 +278,7 @@ move_written c g none h = go (is_no_gstate g) refl
 
 -- ---- the whole
 
-pub entries_of-reads : (c : RawContent) → IsSound c → content_after_all no_content (written_entries c) ≡ Some c
+pub entries_of-reads : (c : RawContent) → IsSoundContent c → content_after_all no_content (written_entries c) ≡ Some c
 entries_of-reads c h =
     then no_content (record { slots = c.slots; tail = c.tail; move = no_gstate }) (entries_of_slots 0 c.slots ++ tail_entries c.tail) (move_entries c.move) _
     (then no_content (record { slots = c.slots; tail = None; move = no_gstate }) (entries_of_slots 0 c.slots) (tail_entries c.tail) _

@@ -1,4 +1,4 @@
--- The blocks that are at hand, each with its bytes, the most recent first.
+-- The cached blocks, each with its bytes, the most recent first.
 use Rattle.std.specs.Prelude.{ℕ, not, nat_eq, List, ◌∷◌, Option, filter, take}
 use Rattle.std.specs.Map.{lookup}
 
@@ -8,7 +8,7 @@ CachedBlocks = List (ℕ × List ℕ)
 abbrev pub cache_limit : ℕ
 cache_limit = 8
 
--- the bytes of a block that is at hand
+-- the bytes of a cached block
 abbrev pub cached : CachedBlocks → ℕ → Option (List ℕ)
 cached cache b = lookup (nat_eq b) cache
 

@@ -8,11 +8,11 @@ use Rattle.lfs_model.specs.History.{Event}
 use Rattle.lfs_model.specs.Operations.{Operation}
 use Rattle.lfs_model.specs.Session.{Session}
 use Rattle.lfs_model.specs.State.{HasFailed, Healthy, is_remount}
-use Rattle.lfs_model.specs.Run.{Moment, only_asks, renames_to_itself, IsUntouched}
+use Rattle.lfs_model.specs.Run.{SystemState, only_asks, renames_to_itself, IsUntouched}
 
 -- The session fails in an operation. What asks only, a rename to itself and a remount write nothing, nor does anything on an image
 -- outside the writing profile; a session that had failed makes no call but for a remount.
-pub record Fails (from : Moment) (op : Operation) (to : Moment) : Type 0 where
+pub record Fails (from : SystemState) (op : Operation) (to : SystemState) : Type 0 where
   pub failed : to.state ≡ HasFailed
   pub geometry : SameGeometry from.disk to.disk
   pub calls : List Event

@@ -3,7 +3,7 @@ pub mod BlockSets
 pub mod Cache
 pub mod Geometry
 pub mod History
-pub mod Obeyed
+pub mod Conformance
 pub mod Disk
 pub mod Names
 pub mod Crc
@@ -36,13 +36,13 @@ pub mod State
 pub mod Recovery
 pub mod SlotEdits
 pub mod Layout
-pub mod Discipline
+pub mod Frame
 pub mod Keeping
 pub mod InDirectory
 pub mod Steps
 pub mod Run
 pub mod Failure
-pub mod Thrift
+pub mod ReadBounds
 pub mod Headline
 pub mod Stops
 pub mod PowerLoss
@@ -50,7 +50,7 @@ pub mod Premises
 pub mod FailedCalls
 pub mod Standing
 pub mod Performed
-pub mod Outages
+pub mod RepeatedPowerLoss
 pub mod Listing
 pub mod Source
 pub mod examples

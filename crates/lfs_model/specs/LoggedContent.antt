@@ -57,16 +57,16 @@ pub record IsLogged (c : RawContent) : Type 0 where
   pub move : IsMoveState c.move
 
 -- a content that a block can hold
-pub record IsSound (c : RawContent) : Type 0 where
+pub record IsSoundContent (c : RawContent) : Type 0 where
   pub logged : IsLogged c
   pub names : HaveNames c.slots
   pub few : length c.slots < no_id
 
 -- an entry as it stands in a block: as many bytes as its tag says, and in a tail or a move state each below 256
-pub record IsStored (e : LogEntry) : Type 0 where
+pub record IsStoredEntry (e : LogEntry) : Type 0 where
   pub size : length e.bytes ≡ data_size e.tag
   pub bytes : 6 ≤ class_of e.tag → (i : ℕ) → slice_index e.bytes i < 256
 
 abbrev pub AreStored : List LogEntry → Type 0
 AreStored [] = Unit {0}
-AreStored (e ∷ es) = IsStored e × AreStored es
+AreStored (e ∷ es) = IsStoredEntry e × AreStored es

@@ -1,37 +1,37 @@
 -- Operations that a session performs: what each does, what a stop in it leaves, and how often it reads.
 use Rattle.std.specs.Prelude.{◌≡◌, ◌⊎◌, List, [], ◌∷◌, ◌++◌, Option, None}
 use Rattle.lfs_model.specs.Operations.{Operation, Reply}
-use Rattle.lfs_model.specs.Run.{Moment, IsTurn}
+use Rattle.lfs_model.specs.Run.{SystemState, IsSessionStep}
 use Rattle.lfs_model.specs.Failure.{Fails}
-use Rattle.lfs_model.specs.PowerLoss.{Withstands}
-use Rattle.lfs_model.specs.Thrift.{IsThrifty, AsksFew, if_accepted}
+use Rattle.lfs_model.specs.PowerLoss.{SurvivesLoss}
+use Rattle.lfs_model.specs.ReadBounds.{IsWithinReadBounds, AsksFew, if_accepted}
 
 -- An operation that is carried out or refused, behind the operation before, if that was accepted.
-pub record IsPerformed (before : Option Operation) (from : Moment) (op : Operation) (reply : Reply) (to : Moment) : Type 0 where
-  pub turn : IsTurn from op reply to
-  pub withstands : Withstands from op to
-  pub thrifty : IsThrifty before from op turn.calls to
+pub record IsPerformed (before : Option Operation) (from : SystemState) (op : Operation) (reply : Reply) (to : SystemState) : Type 0 where
+  pub turn : IsSessionStep from op reply to
+  pub survives_loss : SurvivesLoss from op to
+  pub read_bounds : IsWithinReadBounds before from op turn.calls to
 
 -- operations in turn, with their replies
-abbrev pub ArePerformed : Option Operation → Moment → List Operation → List Reply → Moment → Type 0
+abbrev pub ArePerformed : Option Operation → SystemState → List Operation → List Reply → SystemState → Type 0
 ArePerformed before from [] [] to = from ≡ to
 ArePerformed before from [] (reply ∷ replies) to = ⊥
 ArePerformed before from (op ∷ operations) [] to = ⊥
-ArePerformed before from (op ∷ operations) (reply ∷ replies) to = (next : Moment) × (IsPerformed before from op reply next × ArePerformed (if_accepted op reply) next operations replies to)
+ArePerformed before from (op ∷ operations) (reply ∷ replies) to = (next : SystemState) × (IsPerformed before from op reply next × ArePerformed (if_accepted op reply) next operations replies to)
 
--- Some of the operations are performed, and the session fails in the next one, which withstands stops, too.
-pub record IsCutShort (from : Moment) (operations : List Operation) (to : Moment) : Type 0 where
+-- Some of the operations are performed, and the session fails in the next one, which survives stops, too.
+pub record IsCutShort (from : SystemState) (operations : List Operation) (to : SystemState) : Type 0 where
   pub done : List Operation
   pub next : Operation
   pub others : List Operation
   pub are : operations ≡ done ++ next ∷ others
   pub replies : List Reply
-  pub at : Moment
+  pub at : SystemState
   pub performed : ArePerformed None from done replies at
   pub fails : Fails at next to
-  pub withstands : Withstands at next to
+  pub survives_loss : SurvivesLoss at next to
   pub few : AsksFew at next to
 
 -- operations that end so or so
-abbrev pub IsRun : Moment → List Operation → Moment → Type 0
+abbrev pub IsRun : SystemState → List Operation → SystemState → Type 0
 IsRun from operations to = ((replies : List Reply) × ArePerformed None from operations replies to) ⊎ IsCutShort from operations to

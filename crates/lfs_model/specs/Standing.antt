@@ -1,14 +1,14 @@
 -- What stands on a device's disk between its calls.
 use Rattle.std.specs.Prelude.{◌≡◌}
 use Rattle.lfs_model.specs.History.{IsNewest}
-use Rattle.lfs_model.specs.Obeyed.{AreObeyed}
+use Rattle.lfs_model.specs.Conformance.{AllConform}
 use Rattle.lfs_model.specs.PowerLoss.{with_blocks}
-use Rattle.lfs_model.specs.Run.{Moment}
+use Rattle.lfs_model.specs.Run.{SystemState}
 
 -- Two moments of a session over one device, which obeys. Its disk stays where it isn't called, only blocks change, and its newest
 -- call left them as they are.
-pub record IsOneDevice (from to : Moment) : Type 0 where
+pub record IsOneDevice (from to : SystemState) : Type 0 where
   pub stays : to.calls ≡ from.calls → to.disk ≡ from.disk
   pub same : to.disk ≡ with_blocks to.disk.blocks from.disk
   pub newest : IsNewest to.calls to.disk.blocks
-  pub obeyed : AreObeyed to.calls
+  pub conforms : AllConform to.calls

@@ -3,7 +3,7 @@
 ghost use Rattle.std.specs.Prelude.{◌≡◌, ℕ, true, false, List, [], ◌∷◌, map};
 ghost use Rattle.lfs_model.specs.Blocks.{Blocks, block_in};
 ghost use Rattle.lfs_model.specs.History.{Event, Erase, event, reads, programs, erases, faults, unprogrammed, AllUnprogrammed, StayUnprogrammed, EachSince, OnlyReads, AtWorst, LeavesOnly};
-ghost use Rattle.lfs_model.specs.Obeyed.{AreObeyed};
+ghost use Rattle.lfs_model.specs.Conformance.{AllConform};
 ghost use Rattle.lfs_model.specs.examples.Histories.{first_blocks, erased_blocks, last_blocks, after_erase, after_program, after_read, forgetting, straying};
 
 /// How many reads, programs, erases and faults there were.
@@ -38,8 +38,8 @@ pub fn stop_leaves_other_blocks()
 {}
 
 /// Each call that didn't fail was obeyed.
-pub fn calls_are_obeyed()
-    ensures obeyed { AreObeyed after_read }
-    ensures not_programmed { AreObeyed (forgetting ∷ []) → ⊥ }
-    ensures another_block { AreObeyed (straying ∷ []) → ⊥ }
+pub fn calls_conform()
+    ensures conforms { AllConform after_read }
+    ensures not_programmed { AllConform (forgetting ∷ []) → ⊥ }
+    ensures another_block { AllConform (straying ∷ []) → ⊥ }
 {}

@@ -6,7 +6,7 @@ ghost use Rattle.lfs_model.specs.Log.{LogEntry};
 ghost use Rattle.lfs_model.specs.Content.{RawSlot, RawContent, no_content, content_after_all};
 ghost use Rattle.lfs_model.specs.EntryTypes.{file_name_type, superblock_name_type, inline_struct_type};
 ghost use Rattle.lfs_model.specs.WrittenContent.{written_entries};
-ghost use Rattle.lfs_model.specs.LoggedContent.{IsSound};
+ghost use Rattle.lfs_model.specs.LoggedContent.{IsSoundContent};
 ghost use Rattle.lfs_model.specs.Changes.{Create, Delete, PutStruct, PutAttribute, RemoveAttribute, PutTail, PutMove, entries_of_changes, changed_by};
 ghost use Rattle.lfs_model.specs.examples.Images.{raw_root, raw_file, raw_content, shifting_changes};
 
@@ -27,12 +27,12 @@ pub fn changes_are_made()
         ≡ Some no_content }
 
     // What a compacted block is written from reads back.
-    ensures written { (c : RawContent) → IsSound c → content_after_all no_content (written_entries c) ≡ Some c }
+    ensures written { (c : RawContent) → IsSoundContent c → content_after_all no_content (written_entries c) ≡ Some c }
 {}
 
 /// Such a content can be written anew.
 pub fn content_is_sound()
-    ensures { IsSound (raw_content (raw_root ∷ record (raw_file (codes "b")) { attributes = (0x41, codes "x") ∷ [] } ∷ [])) }
+    ensures { IsSoundContent (raw_content (raw_root ∷ record (raw_file (codes "b")) { attributes = (0x41, codes "x") ∷ [] } ∷ [])) }
 {}
 
 /// A pair has at most a thousand slots.

@@ -6,7 +6,7 @@ ghost use Rattle.lfs_model.specs.Operations as ops;
 ghost use Rattle.lfs_model.specs.Operations.{NoEnt, BadFile, Exist, NotDir, IsDir, Invalid, NoSpace, ReadOnly, NameTooLong, NotEmpty, NoAttr, EntryFull};
 ghost use Rattle.lfs_model.specs.State.{mounted};
 ghost use Rattle.lfs_model.specs.Fresh.{empty_tree};
-ghost use Rattle.lfs_model.specs.Discipline.{comes_at_once, takes_nothing};
+ghost use Rattle.lfs_model.specs.Frame.{comes_at_once, takes_nothing};
 ghost use Rattle.lfs_model.specs.examples.Runs.{each_refusal, writing_at};
 ghost use Rattle.lfs_model.specs.examples.Sessions.{around, replies, fresh_replies, each_at, for_read, for_write, for_new};
 

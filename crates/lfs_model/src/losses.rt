@@ -6,39 +6,39 @@ ghost use Rattle.lfs_model.specs.History.{Event, Read, event, EachSince, IsNewes
 ghost use Rattle.lfs_model.specs.Disk.{Disk};
 ghost use Rattle.lfs_model.specs.FailedCalls.{FailAsStopped};
 ghost use Rattle.lfs_model.specs.Fresh.{empty_tree};
-ghost use Rattle.lfs_model.specs.Obeyed.{AreObeyed};
+ghost use Rattle.lfs_model.specs.Conformance.{AllConform};
 ghost use Rattle.lfs_model.specs.Operations as ops;
 ghost use Rattle.lfs_model.specs.Operations.{Operation, Reply};
-ghost use Rattle.lfs_model.specs.Run.{Agrees, IsTurn, Moment};
+ghost use Rattle.lfs_model.specs.Run.{Agrees, IsSessionStep, SystemState};
 ghost use Rattle.lfs_model.specs.Failure.{Fails};
 ghost use Rattle.lfs_model.specs.Performed.{IsCutShort, IsRun};
-ghost use Rattle.lfs_model.specs.PowerLoss.{IsLeft, Survives, SurvivesStops, Withstands, with_blocks};
+ghost use Rattle.lfs_model.specs.PowerLoss.{IsLeftByStop, Survives, SurvivesStops, SurvivesLoss, with_blocks};
 ghost use Rattle.lfs_model.specs.Standing.{IsOneDevice};
 ghost use Rattle.lfs_model.specs.Stops.{ErasesCleanly};
 ghost use Rattle.lfs_model.specs.Tree.{Tree};
-ghost use Rattle.lfs_model.specs.Outages.{IsRestored, IsSafe, IsStoppedSince, IsSurvived, LosesPower, LosesPowerInTurn, MayLosePower, SurvivesPowerLoss};
+ghost use Rattle.lfs_model.specs.RepeatedPowerLoss.{IsRestored, IsSafe, IsStoppedSince, IsSurvived, LosesPower, LosesPowerRepeatedly, MayLosePower, SurvivesPowerLoss};
 ghost use Rattle.lfs_model.specs.examples.Images.{small_image, appended_image};
-ghost use Rattle.lfs_model.specs.examples.Runs.{fresh_moment, failed_moment, opened_moment, no_disk, some_reads};
+ghost use Rattle.lfs_model.specs.examples.Runs.{fresh_system, failed_system, opened_system, no_disk, some_reads};
 
 /// A run ends where its session fails; what came before it was carried out.
 pub fn error_ends_a_run()
-    ensures second { IsCutShort fresh_moment (ops.Stat (codes "/") ∷ ops.Mkdir (codes "/d") ∷ ops.UsedCount ∷ []) failed_moment }
-    ensures goes_on { IsCutShort fresh_moment (ops.Stat (codes "/") ∷ []) fresh_moment → ⊥ }
+    ensures second { IsCutShort fresh_system (ops.Stat (codes "/") ∷ ops.Mkdir (codes "/d") ∷ ops.UsedCount ∷ []) failed_system }
+    ensures goes_on { IsCutShort fresh_system (ops.Stat (codes "/") ∷ []) fresh_system → ⊥ }
 {}
 
 /// A session that had failed makes no call. A failed remount, a rename to itself that fails, and what fails on a disk that
 /// isn't accepted write nothing.
 pub fn failure_writes_only_what_may_be_written()
-    ensures no_call { Fails failed_moment (ops.Stat (codes "/")) (record failed_moment { calls = some_reads 1 }) → ⊥ }
-    ensures no_write { Fails fresh_moment ops.Remount (record failed_moment { disk = appended_image }) → ⊥ }
-    ensures itself { Fails fresh_moment (ops.Rename (codes "/a") (codes "/a")) (record failed_moment { calls = opened_moment.calls }) → ⊥ }
-    ensures unwritten { Fails (record fresh_moment { disk = no_disk }) (ops.Mkdir (codes "/d")) (record failed_moment { disk = no_disk; calls = opened_moment.calls }) → ⊥ }
+    ensures no_call { Fails failed_system (ops.Stat (codes "/")) (record failed_system { calls = some_reads 1 }) → ⊥ }
+    ensures no_write { Fails fresh_system ops.Remount (record failed_system { disk = appended_image }) → ⊥ }
+    ensures itself { Fails fresh_system (ops.Rename (codes "/a") (codes "/a")) (record failed_system { calls = opened_system.calls }) → ⊥ }
+    ensures unwritten { Fails (record fresh_system { disk = no_disk }) (ops.Mkdir (codes "/d")) (record failed_system { disk = no_disk; calls = opened_system.calls }) → ⊥ }
 {}
 
 /// A stop leaves the tree from before or from after, and a mount and a recovery keep it.
-pub fn stops_are_withstood()
-    ensures no_call { Withstands fresh_moment (ops.Stat (codes "/")) fresh_moment }
-    ensures lost { Withstands fresh_moment (ops.Stat (codes "/")) (record fresh_moment { disk = no_disk }) → ⊥ }
+pub fn losses_are_survived()
+    ensures no_call { SurvivesLoss fresh_system (ops.Stat (codes "/")) fresh_system }
+    ensures lost { SurvivesLoss fresh_system (ops.Stat (codes "/")) (record fresh_system { disk = no_disk }) → ⊥ }
     ensures restored { IsRestored empty_tree ops.Done small_image }
     ensures other_tree { IsRestored (λ path. None) ops.Done small_image → ⊥ }
     ensures safe { IsSafe empty_tree small_image }
@@ -47,40 +47,40 @@ pub fn stops_are_withstood()
 
 /// Wherever power is lost in a run, it is survived, and so is each loss behind it.
 pub fn power_loss_is_survived()
-    ensures run { (from : Moment) (operations : List Operation) (to : Moment) → IsRun from operations to → MayLosePower from to → SurvivesPowerLoss from operations to }
+    ensures run { (from : SystemState) (operations : List Operation) (to : SystemState) → IsRun from operations to → MayLosePower from to → SurvivesPowerLoss from operations to }
 
     // It is so of a session on a fresh disk. No disk without blocks is left, and no other tree. Where no operation was begun, the tree is
     // the one that was there.
-    ensures may { MayLosePower fresh_moment fresh_moment }
-    ensures none_begun { (left : Disk) (s : IsSurvived fresh_moment [] left) → s.tree ≡ empty_tree }
-    ensures not_lost { IsSurvived fresh_moment (ops.Stat (codes "/") ∷ []) no_disk → ⊥ }
-    ensures not_changed { (s : IsSurvived fresh_moment (ops.Stat (codes "/") ∷ []) small_image) → s.tree ≡ (λ path. None) → ⊥ }
+    ensures may { MayLosePower fresh_system fresh_system }
+    ensures none_begun { (left : Disk) (s : IsSurvived fresh_system [] left) → s.tree ≡ empty_tree }
+    ensures not_lost { IsSurvived fresh_system (ops.Stat (codes "/") ∷ []) no_disk → ⊥ }
+    ensures not_changed { (s : IsSurvived fresh_system (ops.Stat (codes "/") ∷ []) small_image) → s.tree ≡ (λ path. None) → ⊥ }
 {}
 
 /// Power may be lost again and again, but what is lost then isn't the tree.
-pub fn power_is_lost_in_turn()
+pub fn power_is_lost_repeatedly()
     ensures once { LosesPower small_image small_image }
-    ensures again { LosesPowerInTurn small_image (small_image ∷ small_image ∷ []) }
+    ensures again { LosesPowerRepeatedly small_image (small_image ∷ small_image ∷ []) }
     ensures not_all { LosesPower small_image no_disk → ⊥ }
     ensures in_a_read { (blocks : Blocks) → IsStoppedSince [] (event (Read 0 0 4) blocks blocks false ∷ []) blocks }
     ensures not_in_none { (blocks : Blocks) → IsStoppedSince [] [] blocks → ⊥ }
 {}
 
-/// What stands at the end of a turn is what the definitions have there, so a turn that survives stops withstands them.
-pub fn surviving_turns_withstand()
-    ensures { (from to : Moment) (op : Operation) (reply : Reply) → Agrees from.disk from.state → IsTurn from op reply to → SurvivesStops from op to → Withstands from op to }
+/// What stands at the end of a turn is what the definitions have there, so a turn that survives stops survives them.
+pub fn surviving_steps_survive_loss()
+    ensures { (from to : SystemState) (op : Operation) (reply : Reply) → Agrees from.disk from.state → IsSessionStep from op reply to → SurvivesStops from op to → SurvivesLoss from op to }
 {}
 
 /// What a device that obeys holds behind its last call is among what stops leave, also where an error ended the operation.
 pub fn stops_tell_what_stands()
-    ensures left { (disk : Disk) (old new : List Event) (first last : Blocks) (before after : Tree) → old ≢ [] → IsNewest old first → IsNewest new last → AreObeyed new
+    ensures left { (disk : Disk) (old new : List Event) (first last : Blocks) (before after : Tree) → old ≢ [] → IsNewest old first → IsNewest new last → AllConform new
         → Survives disk old new before after → EachSince ErasesCleanly old new → FailAsStopped old new
-        → IsLeft (with_blocks first disk) before after → IsLeft (with_blocks last disk) before after }
-    ensures called { (from to : Moment) → from.calls ≢ [] → IsNewest from.calls from.disk.blocks → IsNewest to.calls to.disk.blocks → AreObeyed to.calls
+        → IsLeftByStop (with_blocks first disk) before after → IsLeftByStop (with_blocks last disk) before after }
+    ensures called { (from to : SystemState) → from.calls ≢ [] → IsNewest from.calls from.disk.blocks → IsNewest to.calls to.disk.blocks → AllConform to.calls
         → to.disk ≡ with_blocks to.disk.blocks from.disk → IsOneDevice from to }
-    ensures withstands { (from to : Moment) (op : Operation) → Agrees from.disk from.state → IsOneDevice from to → SurvivesStops from op to → Withstands from op to }
+    ensures survives_loss { (from to : SystemState) (op : Operation) → Agrees from.disk from.state → IsOneDevice from to → SurvivesStops from op to → SurvivesLoss from op to }
 
     // A device that isn't called stays as it is.
-    ensures silent { IsOneDevice fresh_moment failed_moment }
-    ensures lost { IsOneDevice fresh_moment (record fresh_moment { disk = no_disk }) → ⊥ }
+    ensures silent { IsOneDevice fresh_system failed_system }
+    ensures lost { IsOneDevice fresh_system (record fresh_system { disk = no_disk }) → ⊥ }
 {}

@@ -11,7 +11,7 @@ ghost use Rattle.lfs_model.specs.BlockBytes.{file_entries, directory_entries, mo
 ghost use Rattle.lfs_model.specs.examples.Images.{view_with, IsRefused, IsReadOnly, root_block, pair_block, image_with};
 
 /// What each pair has of the global state is joined: here two sync bits come to none.
-pub fn shares_are_joined()
+pub fn deltas_are_joined()
     ensures { HasView
         (image_with (root_block (directory_entries 1 (codes "d") (2, 3) ++ tail_entry false (Some (2, 3)) ∷ move_word_entry 0x80000000 (0, 0) ∷ []) 0x39b2fed9 159)
         (pair_block (move_word_entry 0x80000000 (0, 0) ∷ []) 0x9b565c67 228 ∷ []))

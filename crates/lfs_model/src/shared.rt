@@ -8,7 +8,7 @@ ghost use Rattle.lfs_model.specs.BlockSets.{BlockSets, IsInFlight, IsUsed, in_fl
 ghost use Rattle.lfs_model.specs.Content.{RawSlot, RawContent, completed, content_at};
 ghost use Rattle.lfs_model.specs.EntryTypes.{file_name_type, directory_name_type, superblock_name_type};
 ghost use Rattle.lfs_model.specs.Cut.{CanBeCut, IsCut};
-ghost use Rattle.lfs_model.specs.Discipline.{pairs_of_path};
+ghost use Rattle.lfs_model.specs.Frame.{pairs_of_path};
 ghost use Rattle.lfs_model.specs.Disk.{Disk, pair_capacity, entry_limit, slot_limit};
 ghost use Rattle.lfs_model.specs.FailedCalls.{FailAsStopped, IsLeftByNewest, HasFailedWith};
 ghost use Rattle.lfs_model.specs.History.{Event, EachSince, faults};
@@ -16,7 +16,7 @@ ghost use Rattle.lfs_model.specs.InDirectory.{BeginsAt, Stands, Belongs, run_len
 ghost use Rattle.lfs_model.specs.SkipLists.{blocks_for, blocks_back, IsList, bytes_of};
 ghost use Rattle.lfs_model.specs.LoggedContent.{IsPart, HaveParts, IsLogged};
 ghost use Rattle.lfs_model.specs.Names.{Name};
-ghost use Rattle.lfs_model.specs.PowerLoss.{IsLeft, Survives, with_blocks};
+ghost use Rattle.lfs_model.specs.PowerLoss.{IsLeftByStop, Survives, with_blocks};
 ghost use Rattle.lfs_model.specs.SlotEdits.{slot_of_path};
 ghost use Rattle.lfs_model.specs.Slots.{Slot, Content, FitsPair, no_gstate, same_pair};
 ghost use Rattle.lfs_model.specs.Stops.{Stops, ErasesCleanly};
@@ -55,9 +55,9 @@ pub fn superblock_is_written_first()
 /// After a failed call the device holds what a stop leaves, where failed calls leave what stops in them may.
 pub fn failed_call_leaves_what_a_stop_does()
     ensures newest { (disk : Disk) (old new : List Event) (blocks : Blocks) (before after : Tree) → Survives disk old new before after → EachSince ErasesCleanly old new
-        → faults old < faults new → IsLeftByNewest Stops new blocks → IsLeft (with_blocks blocks disk) before after }
+        → faults old < faults new → IsLeftByNewest Stops new blocks → IsLeftByStop (with_blocks blocks disk) before after }
     ensures failed { (disk : Disk) (old new : List Event) (blocks : Blocks) (before after : Tree) → Survives disk old new before after → EachSince ErasesCleanly old new
-        → FailAsStopped old new → faults old < faults new → HasFailedWith new blocks → IsLeft (with_blocks blocks disk) before after }
+        → FailAsStopped old new → faults old < faults new → HasFailedWith new blocks → IsLeftByStop (with_blocks blocks disk) before after }
 {}
 
 /// A list has as many bytes as its size says. It stays with them where only other blocks change.

@@ -10,7 +10,7 @@ ghost use Rattle.lfs_model.specs.Fresh.{empty_tree};
 ghost use Rattle.lfs_model.specs.Recovery.{recovers};
 ghost use Rattle.lfs_model.specs.SlotEdits.{new_file, new_directory, Stores, Edits};
 ghost use Rattle.lfs_model.specs.Layout.{removed_directories, StandFor};
-ghost use Rattle.lfs_model.specs.Discipline.{is_kept, looks_up};
+ghost use Rattle.lfs_model.specs.Frame.{is_kept, looks_up};
 ghost use Rattle.lfs_model.specs.Keeping.{takes_or_moves, stores_at, struct_at, KeepsStructs};
 ghost use Rattle.lfs_model.specs.Run.{only_asks, fills, needs_no_call, renames_to_itself, lays_out};
 ghost use Rattle.lfs_model.specs.examples.Sessions.{for_new, for_read};

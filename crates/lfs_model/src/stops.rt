@@ -3,7 +3,7 @@
 ghost use Rattle.std.specs.Prelude.{◌≡◌, ℕ, ◌+◌, ◌≤◌, ◌<◌, List, [], ◌∷◌, ◌++◌, length, replicate, take, true, false, Contains};
 ghost use Rattle.lfs_model.specs.Blocks.{Blocks, block_in, programmed};
 ghost use Rattle.lfs_model.specs.History.{Call, Program, Erase, EachSince, Event, event};
-ghost use Rattle.lfs_model.specs.Obeyed.{AreObeyed};
+ghost use Rattle.lfs_model.specs.Conformance.{AllConform};
 ghost use Rattle.lfs_model.specs.Stops.{stops_in, Stops, ErasesCleanly, HasNoLog};
 ghost use Rattle.lfs_model.specs.PowerLoss.{FailsAsStopped};
 ghost use Rattle.lfs_model.specs.Premises.{MeetsPremises};
@@ -36,8 +36,8 @@ pub fn stopped_erase_leaves_no_other_log()
 {}
 
 /// A call that was obeyed left what a stop in it may leave.
-pub fn obeyed_call_leaves_what_a_stop_may()
-    ensures { (history : List Event) (e : Event) → AreObeyed history → Contains history e → e.failed ≡ false → ErasesCleanly e → Stops e e.after }
+pub fn conforming_call_leaves_what_a_stop_may()
+    ensures { (history : List Event) (e : Event) → AllConform history → Contains history e → e.failed ≡ false → ErasesCleanly e → Stops e e.after }
 {}
 
 /// A block of one repeated byte has no log, so an erase that fills a block with a byte leaves none.

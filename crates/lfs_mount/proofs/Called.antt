@@ -1,12 +1,12 @@
 -- What calls of a device one behind the other say of it.
 use Rattle.std.proofs.Common.{sym, subst, ◌⊎◌, ◌≡◌, ◌∙◌, refl, ap, Result, Ok, Err, arith}
 use Rattle.std.specs.Prelude.{IfErr}
-use Rattle.lfs_device.specs.Calls.{ReadsOnly, TellsFaults}
+use Rattle.lfs_device.specs.Calls.{ReadsOnly, ReportsFaults}
 use Rattle.lfs_device.specs.declared.device.BlockDevice.{Ghosts}
 use Rattle.lfs_device.specs.declared.error.Error.{Error}
 use Rattle.lfs_device.specs.declared.error.Error.TheVariants.{Corrupt, Io, NoMemory}
 use Rattle.lfs_model.specs.History.{faults}
-use Rattle.lfs_mount.specs.Device.{TellsErrors}
+use Rattle.lfs_mount.specs.Device.{ReportsErrors}
 use Rattle.lfs_model.proofs.Histories.{began, OnlyReads-trans}
 
 -- an error that is passed on
@@ -28,21 +28,21 @@ module _ {D : Type 0} (g : Ghosts D) where
   }
 
   -- a call that succeeds has no fault
-  pub quiet : {X : Type 0} {old new : D} {x : X} → TellsFaults g old new (Ok x) → faults (g.history new) ≡ faults (g.history old)
-  quiet told = told.no_fault (λ is. absurd (cc))
+  pub quiet : {X : Type 0} {old new : D} {x : X} → ReportsFaults g old new (Ok x) → faults (g.history new) ≡ faults (g.history old)
+  quiet reported = reported.no_fault (λ is. absurd (cc))
 
   -- an error passed on behind calls without a fault
-  pub told_on : {X Y : Type 0} {old mid new : D} {r : Result X Error} {e f : Error} → r ≡ Err e → e ≡ f → faults (g.history mid) ≡ faults (g.history old)
-      → TellsFaults {X = Y} g mid new (Err f) → TellsFaults g old new r
-  told_on {Y = Y} {f = f} is from same told = record {
-    fault = λ gives. let io : f ≡ Io = same_error is from gives in let rose = told.fault (ap Err io) in omega (arith, same, rose);
-    no_fault = λ other. told.no_fault (λ gives. other (is ∙ ap Err (from ∙ err_same {Y = Y} gives))) ∙ same;
+  pub reported_on : {X Y : Type 0} {old mid new : D} {r : Result X Error} {e f : Error} → r ≡ Err e → e ≡ f → faults (g.history mid) ≡ faults (g.history old)
+      → ReportsFaults {X = Y} g mid new (Err f) → ReportsFaults g old new r
+  reported_on {Y = Y} {f = f} is from same reported = record {
+    fault = λ gives. let io : f ≡ Io = same_error is from gives in let rose = reported.fault (ap Err io) in omega (arith, same, rose);
+    no_fault = λ other. reported.no_fault (λ gives. other (is ∙ ap Err (from ∙ err_same {Y = Y} gives))) ∙ same;
   }
 
   -- and which error it is
   pub passed_on : {X Y : Type 0} {old mid new : D} {r : Result X Error} {e f : Error} → r ≡ Err e → e ≡ f → faults (g.history mid) ≡ faults (g.history old)
-      → TellsErrors {X = Y} g mid new (Err f) → TellsErrors g old new r
-  passed_on {X} {r = r} {e = e} {f = f} is from same told = record {
-    errors = subst (λ (x : Result X Error). IfErr x (λ y. (y ≡ Io) ⊎ (y ≡ Corrupt) ⊎ (y ≡ NoMemory))) (sym is) (subst (λ (y : Error). (y ≡ Io) ⊎ (y ≡ Corrupt) ⊎ (y ≡ NoMemory)) (sym from) told.errors);
-    faults = told_on is from same told.faults;
+      → ReportsErrors {X = Y} g mid new (Err f) → ReportsErrors g old new r
+  passed_on {X} {r = r} {e = e} {f = f} is from same reported = record {
+    errors = subst (λ (x : Result X Error). IfErr x (λ y. (y ≡ Io) ⊎ (y ≡ Corrupt) ⊎ (y ≡ NoMemory))) (sym is) (subst (λ (y : Error). (y ≡ Io) ⊎ (y ≡ Corrupt) ⊎ (y ≡ NoMemory)) (sym from) reported.errors);
+    faults = reported_on is from same reported.faults;
   }

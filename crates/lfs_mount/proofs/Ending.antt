@@ -15,7 +15,7 @@ use Rattle.lfs_model.specs.Shown.{file_blocks, all_slots, used_blocks, directori
 use Rattle.lfs_model.proofs.Counts.{Each, each_append, each_weaker, count, count_append, once_from_distinct, distinct_from_once}
 use Rattle.lfs_model.proofs.Superblocks.{IsChain, pairs_behind, Mark, StructMark, HoldSlots, root_rule, superblock_rule, slots_rule}
 use Rattle.lfs_mount.specs.Reaching.{Graph}
-use Rattle.lfs_mount.specs.Directories.{AreRight, Shows}
+use Rattle.lfs_mount.specs.Directories.{AreRight, GraphShows}
 use Rattle.lfs_mount.specs.Entries.{firsts_of, nothing_known}
 use Rattle.lfs_mount.specs.Marking.{Owns, MarksLists, marked_of}
 use Rattle.lfs_mount.specs.Described.{moved_in, AreMembers}
@@ -159,10 +159,10 @@ module _ (disk : Disk) (chain : List Pair) (p : Pair) (rest : List Pair) (bytes 
 -- ---- the whole check
 
 pub known_drawn : (disk : Disk) (sets : BlockSets) (firsts : List (ℕ × ℕ)) (ms : List Member) (sync : Bool) (chain : List Pair) (p : Pair) (rest : List Pair) (graph : Graph) (end : BlockSets)
-    → IsKnownThread disk sets firsts ms sync chain p rest → Passes disk firsts nothing_known sets ms graph end → Shows disk.order graph sync (chain ++ p ∷ rest)
+    → IsKnownThread disk sets firsts ms sync chain p rest → Passes disk firsts nothing_known sets ms graph end → GraphShows disk.order graph sync (chain ++ p ∷ rest)
 known_drawn disk sets firsts ms sync chain p rest graph end known passes =
     let ps : List Pair = chain ++ p ∷ rest in
-    subst (λ s. Shows disk.order graph s ps) known.sync_is
+    subst (λ s. GraphShows disk.order graph s ps) known.sync_is
     (thread_shows disk ps ms sets graph end known.thread (subst (λ qs. AreMembers disk (gstate_of ps) true qs ms) (sym (pairs_behind chain (p ∷ rest) known.chain_is)) known.described)
     (subst (λ f. Passes disk f nothing_known sets ms graph end) known.places passes))
 

@@ -9,8 +9,8 @@ use Rattle.lfs_model.specs.Log.{log_entries}
 use Rattle.lfs_model.specs.Slots.{Content, no_gstate}
 use Rattle.lfs_model.specs.Thread.{Pair, is_hard}
 use Rattle.lfs_model.proofs.Completed.{complete_length, completed_parts}
-use Rattle.lfs_tag.specs.ContentSeen.{tail_seen}
-use Rattle.lfs_tag.specs.FieldsSeen.{move_seen}
+use Rattle.lfs_tag.specs.ContentView.{tail_view}
+use Rattle.lfs_tag.specs.FieldsView.{move_view}
 use Rattle.lfs_pair.specs.Pair.{active_at, address_in, second_holds}
 use Rattle.lfs_thread.specs.Kept.{Header, AreHeaders, IsHeader, pair_on, pairs_on}
 
@@ -22,9 +22,9 @@ pub record IsSeen (disk : Disk) (h : Header) : Type 0 where
   pub held : RawContent
   pub log : content_after_all no_content (log_entries (block_at disk h.active)) ≡ Some held
   pub slots : complete_all held.slots ≡ Some (pair_of disk h).content.slots
-  pub move : move_seen h.move_state ≡ (pair_of disk h).content.move
+  pub move : move_view h.move_state ≡ (pair_of disk h).content.move
   pub count : h.slot_count ≡ length (pair_of disk h).content.slots
-  pub hard : is_hard (option_map tail_seen h.tail) ≡ is_hard (pair_of disk h).content.tail
+  pub hard : is_hard (option_map tail_view h.tail) ≡ is_hard (pair_of disk h).content.tail
   pub holds : holder_at disk (address_in h) ≡ Some (block_at disk h.active)
   pub content : content_at disk (address_in h) ≡ Some (pair_of disk h).content
 

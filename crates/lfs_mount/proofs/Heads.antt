@@ -14,7 +14,7 @@ use Rattle.lfs_model.specs.Thread.{Pair, anchor, IsThread, first_at, from_slots,
 use Rattle.lfs_model.specs.View.{BeginsWith, MayHaveSuperblock, IsAccepted, first_name, superblock_entry, superblock_pairs}
 use Rattle.lfs_model.proofs.Counts.{Each}
 use Rattle.lfs_model.proofs.Superblocks.{meets_first, meets_from, meets_starting}
-use Rattle.lfs_tag.specs.ContentSeen.{tail_seen}
+use Rattle.lfs_tag.specs.ContentView.{tail_view}
 use Rattle.lfs_thread.specs.Kept.{AreHeaders, Header, pairs_on}
 use Rattle.lfs_mount.specs.Checked.{HasStart, IsAlone, IsBare}
 use Rattle.lfs_mount.specs.Head.{HasHeaders, IsHead, IsSuperblockOf, first_filled, leads_on, repeats_in, repeats_of, superblock_in}
@@ -266,12 +266,12 @@ filled_slots (s ∷ slots) some = refl
 filled : (disk : Disk) (history : List Event) (bytes : List ℕ) (hs : List Header) (k : ℕ) → AreHeaders disk history hs → first_filled hs ≡ Some k → IsFilled disk hs k bytes
 filled disk history bytes [] k each e = absurd (cc)
 filled disk history bytes (x ∷ hs) k each e =
-    go (x.slot_count == 0) refl (is_hard (option_map tail_seen x.tail)) refl (first_filled hs) refl e (λ j f. filled disk history bytes hs j each.1 f)
+    go (x.slot_count == 0) refl (is_hard (option_map tail_view x.tail)) refl (first_filled hs) refl e (λ j f. filled disk history bytes hs j each.1 f)
   where
     seen : IsSeen disk x
     seen = seen_from disk history x each.0
 
-    go : (a : Bool) → (x.slot_count == 0) ≡ a → (b : Bool) → is_hard (option_map tail_seen x.tail) ≡ b → (o : Option ℕ) → first_filled hs ≡ o
+    go : (a : Bool) → (x.slot_count == 0) ≡ a → (b : Bool) → is_hard (option_map tail_view x.tail) ≡ b → (o : Option ℕ) → first_filled hs ≡ o
         → cond a (cond b (option_map (λ n. suc n) o) None) (Some 0) ≡ Some k → ((j : ℕ) → first_filled hs ≡ Some j → IsFilled disk hs j bytes) → IsFilled disk (x ∷ hs) k bytes
     go false n b hard o f is next = subst (λ i. IsFilled disk (x ∷ hs) i bytes) (same_Some 0 k is) (record {
       header = x;
@@ -300,12 +300,12 @@ filled disk history bytes (x ∷ hs) k each e =
 
 none_filled : (disk : Disk) (history : List Event) (hs : List Header) → AreHeaders disk history hs → first_filled hs ≡ None → meets_superblock (pairs_on disk hs) ≡ false
 none_filled disk history [] each e = refl
-none_filled disk history (x ∷ hs) each e = go (x.slot_count == 0) refl (is_hard (option_map tail_seen x.tail)) refl (first_filled hs) refl e (λ f. none_filled disk history hs each.1 f)
+none_filled disk history (x ∷ hs) each e = go (x.slot_count == 0) refl (is_hard (option_map tail_view x.tail)) refl (first_filled hs) refl e (λ f. none_filled disk history hs each.1 f)
   where
     seen : IsSeen disk x
     seen = seen_from disk history x each.0
 
-    go : (a : Bool) → (x.slot_count == 0) ≡ a → (b : Bool) → is_hard (option_map tail_seen x.tail) ≡ b → (o : Option ℕ) → first_filled hs ≡ o
+    go : (a : Bool) → (x.slot_count == 0) ≡ a → (b : Bool) → is_hard (option_map tail_view x.tail) ≡ b → (o : Option ℕ) → first_filled hs ≡ o
         → cond a (cond b (option_map (λ n. suc n) o) None) (Some 0) ≡ None → (first_filled hs ≡ None → meets_superblock (pairs_on disk hs) ≡ false) → meets_superblock (pairs_on disk (x ∷ hs)) ≡ false
     go false n b hard o f is next = absurd (cc)
     go true n true hard (Some j) f is next = absurd (cc)

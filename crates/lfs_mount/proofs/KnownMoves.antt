@@ -10,7 +10,7 @@ use Rattle.lfs_model.specs.View.{IsAccepted, IsEntry, IsMove, IsOtherSlot}
 use Rattle.lfs_model.proofs.Counts.{Each}
 use Rattle.lfs_model.proofs.Sites.{Among, among_from, among_parts, among_right, any_from}
 use Rattle.lfs_model.proofs.Superblocks.{IsChain, entry_is_other}
-use Rattle.lfs_tag.specs.FieldsSeen.{move_seen}
+use Rattle.lfs_tag.specs.FieldsView.{move_view}
 use Rattle.lfs_pair.specs.Pair.{address_in}
 use Rattle.lfs_thread.specs.Kept.{AreHeaders, Header, pairs_on}
 use Rattle.lfs_mount.specs.Described.{moved_in}
@@ -20,12 +20,12 @@ use Rattle.lfs_mount.proofs.Headers.{pair_of, seen_from}
 
 -- ---- the global state
 
-shares : (disk : Disk) (history : List Event) (hs : List Header) → AreHeaders disk history hs → map (λ h. move_seen h.move_state) hs ≡ map (λ p. p.content.move) (pairs_on disk hs)
-shares disk history [] is = refl
-shares disk history (h ∷ hs) is = ap₂ (λ (m : Gstate) (ms : List Gstate). m ∷ ms) (seen_from disk history h is.0).move (shares disk history hs is.1)
+deltas : (disk : Disk) (history : List Event) (hs : List Header) → AreHeaders disk history hs → map (λ h. move_view h.move_state) hs ≡ map (λ p. p.content.move) (pairs_on disk hs)
+deltas disk history [] is = refl
+deltas disk history (h ∷ hs) is = ap₂ (λ (m : Gstate) (ms : List Gstate). m ∷ ms) (seen_from disk history h is.0).move (deltas disk history hs is.1)
 
 pub joined_global : (disk : Disk) (history : List Event) (hs : List Header) → AreHeaders disk history hs → joined_of hs ≡ gstate_of (pairs_on disk hs)
-joined_global disk history hs is = ap (fold gstate_xor no_gstate) (shares disk history hs is)
+joined_global disk history hs is = ap (fold gstate_xor no_gstate) (deltas disk history hs is)
 
 -- ---- a pair that the move names
 

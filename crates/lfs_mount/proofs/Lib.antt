@@ -26,7 +26,7 @@ pub mod ReadCounts
 pub mod FirstSlots
 pub mod Headers
 pub mod Heads
-pub mod Told
+pub mod Reported
 pub mod KnownMoves
 pub mod KnownThread
 pub mod Mounts

@@ -11,10 +11,10 @@ use Rattle.lfs_model.specs.Content.{RawSlot}
 use Rattle.lfs_model.specs.Disk.{Disk}
 use Rattle.lfs_model.specs.SkipLists.{IsList}
 use Rattle.lfs_tag.specs.declared.content.Slot.{Slot}
-use Rattle.lfs_tag.specs.ContentSeen.{slot_seen}
+use Rattle.lfs_tag.specs.ContentView.{slot_view}
 use Rattle.lfs_mount.specs.Entries.{entry_in}
 use Rattle.lfs_mount.specs.Marking.{Marks, MarksList, MarksLists, list_of, lists_in, marked_of}
-use Rattle.lfs_mount.specs.ListsSeen.{lists_seen}
+use Rattle.lfs_mount.specs.ListsView.{lists_view}
 use Rattle.lfs_mount.proofs.Found.{get_left, get_right}
 
 -- ---- marks over joined lists
@@ -47,46 +47,46 @@ lists_parted disk xs ys old new h =
 
 -- ---- the lists of slots
 
-abbrev pub list_seen : Slot → Option (ℕ × ℕ)
-list_seen s = option_and_then list_of (entry_in (slot_seen s))
+abbrev pub list_view : Slot → Option (ℕ × ℕ)
+list_view s = option_and_then list_of (entry_in (slot_view s))
 
-lists-append : (xs ys : List Slot) → lists_seen (xs ++ ys) ≡ lists_seen xs ++ lists_seen ys
-lists-append xs ys = ap lists_in (map-append slot_seen xs ys) ∙ filter_map-append (λ (s : RawSlot). option_and_then list_of (entry_in s)) (map slot_seen xs) (map slot_seen ys)
+lists-append : (xs ys : List Slot) → lists_view (xs ++ ys) ≡ lists_view xs ++ lists_view ys
+lists-append xs ys = ap lists_in (map-append slot_view xs ys) ∙ filter_map-append (λ (s : RawSlot). option_and_then list_of (entry_in s)) (map slot_view xs) (map slot_view ys)
 
-pub lists_next : (slots : List Slot) (i : ℕ) (s : Slot) (o : Option (ℕ × ℕ)) → slice_get slots i ≡ Some s → list_seen s ≡ o → lists_seen (take (i + 1) slots) ≡ lists_seen (take i slots) ++ cons_option o []
+pub lists_next : (slots : List Slot) (i : ℕ) (s : Slot) (o : Option (ℕ × ℕ)) → slice_get slots i ≡ Some s → list_view s ≡ o → lists_view (take (i + 1) slots) ≡ lists_view (take i slots) ++ cons_option o []
 lists_next slots i s o e f =
-    ap lists_seen (take_more slots i s (slice_get_within slots i s e) ∙ ap (λ (t : Slot). take i slots ++ t ∷ []) (get_or_from_slice_get slots i s s e))
+    ap lists_view (take_more slots i s (slice_get_within slots i s e) ∙ ap (λ (t : Slot). take i slots ++ t ∷ []) (get_or_from_slice_get slots i s s e))
     ∙ lists-append (take i slots) (s ∷ [])
-    ∙ ap (λ (p : Option (ℕ × ℕ)). lists_seen (take i slots) ++ cons_option p []) f
+    ∙ ap (λ (p : Option (ℕ × ℕ)). lists_view (take i slots) ++ cons_option p []) f
 
 -- a slot without a list
-pub lists_stay : (disk : Disk) (slots : List Slot) (i : ℕ) (s : Slot) (old new : BlockSets) → slice_get slots i ≡ Some s → list_seen s ≡ None → MarksLists disk old (lists_seen (take i slots)) new
-    → MarksLists disk old (lists_seen (take (i + 1) slots)) new
-lists_stay disk slots i s old new e f h = subst (λ ls. MarksLists disk old ls new) (sym (lists_next slots i s None e f ∙ append-nil (lists_seen (take i slots)))) h
+pub lists_stay : (disk : Disk) (slots : List Slot) (i : ℕ) (s : Slot) (old new : BlockSets) → slice_get slots i ≡ Some s → list_view s ≡ None → MarksLists disk old (lists_view (take i slots)) new
+    → MarksLists disk old (lists_view (take (i + 1) slots)) new
+lists_stay disk slots i s old new e f h = subst (λ ls. MarksLists disk old ls new) (sym (lists_next slots i s None e f ∙ append-nil (lists_view (take i slots)))) h
 
 -- a slot with one
-pub lists_more : (disk : Disk) (slots : List Slot) (i : ℕ) (s : Slot) (l : ℕ × ℕ) (old mid new : BlockSets) → slice_get slots i ≡ Some s → list_seen s ≡ Some l → MarksLists disk old (lists_seen (take i slots)) mid
-    → MarksList disk mid l new → MarksLists disk old (lists_seen (take (i + 1) slots)) new
+pub lists_more : (disk : Disk) (slots : List Slot) (i : ℕ) (s : Slot) (l : ℕ × ℕ) (old mid new : BlockSets) → slice_get slots i ≡ Some s → list_view s ≡ Some l → MarksLists disk old (lists_view (take i slots)) mid
+    → MarksList disk mid l new → MarksLists disk old (lists_view (take (i + 1) slots)) new
 lists_more disk slots i s l old mid new e f h k = subst (λ ls. MarksLists disk old ls new) (sym (lists_next slots i s (Some l) e f)) (record {
-  lists = All-append (λ (x : ℕ × ℕ). IsList disk.blocks disk.block_size x.0 x.1) (lists_seen (take i slots)) (l ∷ []) h.lists
+  lists = All-append (λ (x : ℕ × ℕ). IsList disk.blocks disk.block_size x.0 x.1) (lists_view (take i slots)) (l ∷ []) h.lists
       (All-cons (λ (x : ℕ × ℕ). IsList disk.blocks disk.block_size x.0 x.1) l [] k.list (λ j d lt. absurd (omega arith)));
-  marked = subst (λ bs. Marks old bs new) (sym (flat_map-append (marked_of disk) (lists_seen (take i slots)) (l ∷ []) ∙ ap (λ bs. flat_map (marked_of disk) (lists_seen (take i slots)) ++ bs) (append-nil (marked_of disk l))))
-      (marks_append (flat_map (marked_of disk) (lists_seen (take i slots))) (marked_of disk l) old mid new h.marked k.marked);
+  marked = subst (λ bs. Marks old bs new) (sym (flat_map-append (marked_of disk) (lists_view (take i slots)) (l ∷ []) ∙ ap (λ bs. flat_map (marked_of disk) (lists_view (take i slots)) ++ bs) (append-nil (marked_of disk l))))
+      (marks_append (flat_map (marked_of disk) (lists_view (take i slots))) (marked_of disk l) old mid new h.marked k.marked);
 })
 
 -- one that can't be marked
-pub lists_fail : (disk : Disk) (slots : List Slot) (i : ℕ) (s : Slot) (l : ℕ × ℕ) (old mid new : BlockSets) → slice_get slots i ≡ Some s → list_seen s ≡ Some l → MarksLists disk old (lists_seen (take i slots)) mid
-    → ((end : BlockSets) → ¬ MarksList disk mid l end) → MarksLists disk old (lists_seen slots) new → ⊥
+pub lists_fail : (disk : Disk) (slots : List Slot) (i : ℕ) (s : Slot) (l : ℕ × ℕ) (old mid new : BlockSets) → slice_get slots i ≡ Some s → list_view s ≡ Some l → MarksLists disk old (lists_view (take i slots)) mid
+    → ((end : BlockSets) → ¬ MarksList disk mid l end) → MarksLists disk old (lists_view slots) new → ⊥
 lists_fail disk slots i s l old mid new e f h fails all =
-    let front : List (ℕ × ℕ) = lists_seen (take i slots) in
-    let back : List (ℕ × ℕ) = lists_seen (drop (i + 1) slots) in
-    let parts : lists_seen slots ≡ (front ++ l ∷ []) ++ back =
-    ap lists_seen (sym (take-append-drop (i + 1) slots)) ∙ lists-append (take (i + 1) slots) (drop (i + 1) slots) ∙ ap (λ ls. ls ++ back) (lists_next slots i s (Some l) e f) in
-    let at : slice_get (lists_seen slots) (length front + 0) ≡ Some l =
+    let front : List (ℕ × ℕ) = lists_view (take i slots) in
+    let back : List (ℕ × ℕ) = lists_view (drop (i + 1) slots) in
+    let parts : lists_view slots ≡ (front ++ l ∷ []) ++ back =
+    ap lists_view (sym (take-append-drop (i + 1) slots)) ∙ lists-append (take (i + 1) slots) (drop (i + 1) slots) ∙ ap (λ ls. ls ++ back) (lists_next slots i s (Some l) e f) in
+    let at : slice_get (lists_view slots) (length front + 0) ≡ Some l =
     ap (λ ls. slice_get ls (length front + 0)) parts ∙ get_left (front ++ l ∷ []) back (length front + 0) l (get_right front (l ∷ []) 0 l refl) in
     let list : IsList disk.blocks disk.block_size l.0 l.1 =
-    subst (λ (x : ℕ × ℕ). IsList disk.blocks disk.block_size x.0 x.1) (get_or_from_slice_get (lists_seen slots) (length front + 0) l l at)
-    (all.lists (length front + 0) l (slice_get_within (lists_seen slots) (length front + 0) l at)) in
+    subst (λ (x : ℕ × ℕ). IsList disk.blocks disk.block_size x.0 x.1) (get_or_from_slice_get (lists_view slots) (length front + 0) l l at)
+    (all.lists (length front + 0) l (slice_get_within (lists_view slots) (length front + 0) l at)) in
     let whole : Marks old ((flat_map (marked_of disk) front ++ marked_of disk l) ++ flat_map (marked_of disk) back) new =
     subst (λ bs. Marks old bs new)
     (ap (flat_map (marked_of disk)) parts ∙ flat_map-append (marked_of disk) (front ++ l ∷ []) back

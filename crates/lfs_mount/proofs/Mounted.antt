@@ -3,7 +3,7 @@ use Rattle.std.proofs.Common.{ℕ, ◌≡◌, ◌++◌, List, [], ◌∷◌, ap�
 use Rattle.std.specs.Prelude.{Contains}
 use Rattle.lfs_device.specs.declared.device.BlockDevice.{Ghosts}
 use Rattle.lfs_device.specs.declared.error.Error.{Error}
-use Rattle.lfs_device.specs.Calls.{ReadsOnly, TellsFaults}
+use Rattle.lfs_device.specs.Calls.{ReadsOnly, ReportsFaults}
 use Rattle.lfs_device.specs.Shown.{disk_of}
 use Rattle.lfs_model.specs.BlockSets.{AreInFlight, AreUsed, BlockSets}
 use Rattle.lfs_model.specs.Content.{content_at}
@@ -17,14 +17,14 @@ use Rattle.lfs_model.proofs.BlockSets.{Contains-count, Contains-tail}
 use Rattle.lfs_model.proofs.Counts.{count_here}
 use Rattle.lfs_model.proofs.Histories.{OnlyReads-trans}
 use Rattle.lfs_thread.specs.Device.{GivesBack}
-use Rattle.lfs_thread.specs.Kept.{AllUsed, Header, IsKept, Kept, State, WasKept, disk_on, pairs_on, seen}
+use Rattle.lfs_thread.specs.Kept.{AllUsed, Header, IsKept, Kept, State, WasKept, disk_on, pairs_on, kept_view}
 use Rattle.lfs_mount.specs.Accepted.{HasOnly, IsMounted}
 use Rattle.lfs_mount.specs.Members.{IsRead}
 use Rattle.std.specs.List.{flat_map}
 
 -- ---- before the check
 
-pub read_is : (old disk : Disk) (n : ℕ) (history : List Event) (hs items : List Header) (sets : BlockSets) (g : Gstate) (t : Kept) → seen disk history items sets ≡ t → hs ≡ items → t.disk ≡ old → block_count old ≡ n
+pub read_is : (old disk : Disk) (n : ℕ) (history : List Event) (hs items : List Header) (sets : BlockSets) (g : Gstate) (t : Kept) → kept_view disk history items sets ≡ t → hs ≡ items → t.disk ≡ old → block_count old ≡ n
     → IsKept disk history items sets → IsThread (content_at old) n t.pairs → AreUsed t.map (blocks_of t.pairs) → AreInFlight t.map [] → g ≡ gstate_of t.pairs → IsRead disk history hs sets g
 read_is old disk n history hs items sets g t same is from size kept thread used none global =
     subst (λ (xs : List Header). IsRead disk history xs sets g) (sym is)
@@ -64,7 +64,7 @@ kept_again disk now history later items hs sets new same is reads kept marked =
     })
 
 pub is_mounted : (old disk now : Disk) (first history later : List Event) (items hs : List Header) (sets new : BlockSets) (t : State) → disk ≡ old → now ≡ disk → hs ≡ items
-    → OnlyReads old.blocks first history → OnlyReads disk.blocks history later → IsAccepted disk (pairs_on disk hs) → HasOnly sets new (used_blocks disk (pairs_on disk hs)) → length sets ≡ block_count disk → faults later ≡ faults first → t.failed ≡ false → t.kept ≡ seen now later items new → IsMounted old first t
+    → OnlyReads old.blocks first history → OnlyReads disk.blocks history later → IsAccepted disk (pairs_on disk hs) → HasOnly sets new (used_blocks disk (pairs_on disk hs)) → length sets ≡ block_count disk → faults later ≡ faults first → t.failed ≡ false → t.kept ≡ kept_view now later items new → IsMounted old first t
 is_mounted old disk now first history later items hs sets new t from same is before after accepted marked size none works kept = record {
   works = works;
   disk_is = ap (λ (k : Kept). k.disk) kept ∙ same ∙ from;
@@ -87,17 +87,17 @@ is_mounted old disk now first history later items hs sets new t from same is bef
 pub disk_now : {D : Type 0} {g : Ghosts D} {old new : D} → ReadsOnly g old new → disk_on g new ≡ disk_on g old
 disk_now read = ap₂ disk_of read.geometry read.same
 
-pub ok_tells : {D X : Type 0} {g : Ghosts D} {old new : D} {x : X} → TellsFaults g old new (Ok x) → faults (g.history new) ≡ faults (g.history old)
-ok_tells tells = tells.no_fault (λ io. absurd (cc))
+pub ok_reports : {D X : Type 0} {g : Ghosts D} {old new : D} {x : X} → ReportsFaults g old new (Ok x) → faults (g.history new) ≡ faults (g.history old)
+ok_reports reports = reports.no_fault (λ io. absurd (cc))
 
 err_same : {X : Type 0} {e f : Error} → ◌≡◌ {A = Result X Error} (Err e) (Err f) → e ≡ f
 err_same same = cc
 
 pub given_back : {D X : Type 0} (g : Ghosts D) (old mid back : D) (error : Error) → disk_on g mid ≡ disk_on g old → OnlyReads (g.blocks old) (g.history old) (g.history mid) → faults (g.history mid) ≡ faults (g.history old)
-    → ReadsOnly g mid back → TellsFaults {X = X} g mid back (Err error) → GivesBack g old back error
-given_back {X = X} g old mid back error same before none read tells = record {
+    → ReadsOnly g mid back → ReportsFaults {X = X} g mid back (Err error) → GivesBack g old back error
+given_back {X = X} g old mid back error same before none read reports = record {
   disk = disk_now read ∙ same;
   reads = OnlyReads-trans before read.reads (ap (λ (d : Disk). d.blocks) same);
-  fault = λ io. let rose = tells.fault (ap Err io) in omega (arith, none, rose);
-  no_fault = λ other. tells.no_fault (λ io. other (err_same {X = X} io)) ∙ none;
+  fault = λ io. let rose = reports.fault (ap Err io) in omega (arith, none, rose);
+  no_fault = λ other. reports.no_fault (λ io. other (err_same {X = X} io)) ∙ none;
 }

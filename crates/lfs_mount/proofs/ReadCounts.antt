@@ -10,13 +10,13 @@ use Rattle.lfs_model.specs.Content.{RawContent}
 use Rattle.lfs_model.specs.Disk.{Disk}
 use Rattle.lfs_model.specs.Names.{Name}
 use Rattle.lfs_tag.specs.declared.content.Slot.{Slot}
-use Rattle.lfs_mount.specs.ListsSeen.{lists_seen}
+use Rattle.lfs_mount.specs.ListsView.{lists_view}
 use Rattle.lfs_mount.specs.Marking.{Marks, lists_in}
 use Rattle.lfs_mount.specs.Reaching.{Vertex}
 use Rattle.lfs_mount.specs.Reads.{list_reads, lists_at, pair_reads}
 use Rattle.lfs_mount.specs.Taken.{Takes, kept_of}
 use Rattle.lfs_mount.specs.declared.pass.Member.{Member}
-use Rattle.lfs_mount.proofs.MarkedLists.{list_seen, lists_next}
+use Rattle.lfs_mount.proofs.MarkedLists.{list_view, lists_next}
 
 -- ---- marks leave as many blocks
 
@@ -26,14 +26,14 @@ marks_length (b ∷ bs) old new (free, marks) = marks_length bs (set old b Used)
 
 -- ---- the lists of slots
 
-pub reads_stay : (block_size : ℕ) (slots : List Slot) (i : ℕ) (s : Slot) → slice_get slots i ≡ Some s → list_seen s ≡ None
-    → sum_by (list_reads block_size) (lists_seen (take (i + 1) slots)) ≡ sum_by (list_reads block_size) (lists_seen (take i slots))
-reads_stay block_size slots i s e f = ap (sum_by (list_reads block_size)) (lists_next slots i s None e f ∙ append-nil (lists_seen (take i slots)))
+pub reads_stay : (block_size : ℕ) (slots : List Slot) (i : ℕ) (s : Slot) → slice_get slots i ≡ Some s → list_view s ≡ None
+    → sum_by (list_reads block_size) (lists_view (take (i + 1) slots)) ≡ sum_by (list_reads block_size) (lists_view (take i slots))
+reads_stay block_size slots i s e f = ap (sum_by (list_reads block_size)) (lists_next slots i s None e f ∙ append-nil (lists_view (take i slots)))
 
-pub reads_more : (block_size : ℕ) (slots : List Slot) (i : ℕ) (s : Slot) (l : ℕ × ℕ) → slice_get slots i ≡ Some s → list_seen s ≡ Some l
-    → sum_by (list_reads block_size) (lists_seen (take (i + 1) slots)) ≡ sum_by (list_reads block_size) (lists_seen (take i slots)) + list_reads block_size l
+pub reads_more : (block_size : ℕ) (slots : List Slot) (i : ℕ) (s : Slot) (l : ℕ × ℕ) → slice_get slots i ≡ Some s → list_view s ≡ Some l
+    → sum_by (list_reads block_size) (lists_view (take (i + 1) slots)) ≡ sum_by (list_reads block_size) (lists_view (take i slots)) + list_reads block_size l
 reads_more block_size slots i s l e f =
-    ap (sum_by (list_reads block_size)) (lists_next slots i s (Some l) e f) ∙ sum_by_push (list_reads block_size) (lists_seen (take i slots)) l
+    ap (sum_by (list_reads block_size)) (lists_next slots i s (Some l) e f) ∙ sum_by_push (list_reads block_size) (lists_view (take i slots)) l
 
 -- ---- pairs
 

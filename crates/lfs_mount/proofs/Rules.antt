@@ -33,7 +33,7 @@ use Rattle.lfs_model.specs.Thread.{anchor, next_of, Links, IsThread, gstate_of, 
 use Rattle.lfs_model.specs.Shown.{directories_in}
 use Rattle.lfs_model.proofs.Listings.{Ends}
 use Rattle.lfs_mount.specs.Places.{Draws}
-use Rattle.lfs_mount.specs.Directories.{Shows}
+use Rattle.lfs_mount.specs.Directories.{GraphShows}
 use Rattle.lfs_mount.specs.Entries.{firsts_of}
 use Rattle.lfs_mount.proofs.Runs.{shown_in, vertices, entries_of, Named, thread_drawn}
 use Rattle.lfs_mount.proofs.MarkedLists.{lists_joined}
@@ -257,7 +257,7 @@ ends_behind (suc n) (p ∷ []) h = subst Ends (sym (drop-nil n)) tt
 ends_behind (suc n) (p ∷ q ∷ ps) h = ends_behind n (q ∷ ps) h
 
 pub thread_shows : (disk : Disk) (ps : List Pair) (ms : List Member) (sets : BlockSets) (graph : Graph) (end : BlockSets) → IsThread (content_at disk) (block_count disk) ps
-    → AreMembers disk (gstate_of ps) true (directory_pairs ps) ms → Passes disk (firsts_of (directories_in ps)) nothing_known sets ms graph end → Shows disk.order graph (gstate_of ps).sync ps
+    → AreMembers disk (gstate_of ps) true (directory_pairs ps) ms → Passes disk (firsts_of (directories_in ps)) nothing_known sets ms graph end → GraphShows disk.order graph (gstate_of ps).sync ps
 thread_shows disk ps ms sets graph end thread members passes = record {
   distinct = thread.distinct;
   draws = passed_draws disk (gstate_of ps) (directory_pairs ps) ms sets graph end (ends_behind (superblocks_before ps) ps (links_end (Some anchor) ps thread.links)) members passes;

@@ -164,19 +164,19 @@ stands kind type bytes h suits none = go (name_type kind) (part_type type bytes 
         (cond (k == directory_name_type && t == directory_struct_type) (cond x (Some (Below (pair_at bytes))) None) None))) (sym l)
         ∙ ap₂ (λ (x y : ℕ). stand_in x (y, bytes)) (sym e) (sym f) ∙ none
 
-    told : (k t : ℕ) → kind ≡ k → type ≡ t → Suits (kind_named k) (struct_typed t bytes)
-    told k t e f = subst₂ (λ (x y : ℕ). Suits (kind_named x) (struct_typed y bytes)) e f suits
+    reported : (k t : ℕ) → kind ≡ k → type ≡ t → Suits (kind_named k) (struct_typed t bytes)
+    reported k t e f = subst₂ (λ (x y : ℕ). Suits (kind_named x) (struct_typed y bytes)) e f suits
 
     long : length bytes ≡ 8 → (length bytes == 8) ≡ true
     long e = eq-eqb (length bytes) 8 e
 
     go : NameType kind → PartType type bytes → ⊥
     go (file_there e) (bytes_there f) = absurd (let c = at file_name_type inline_struct_type (length bytes == 8) e f refl in cc)
-    go (file_there e) (pair_there f l) = told file_name_type directory_struct_type e f
+    go (file_there e) (pair_there f l) = reported file_name_type directory_struct_type e f
     go (file_there e) (list_there f l) = absurd (let c = at file_name_type ctz_struct_type true e f (long l) in cc)
-    go (directory_there e) (bytes_there f) = told directory_name_type inline_struct_type e f
+    go (directory_there e) (bytes_there f) = reported directory_name_type inline_struct_type e f
     go (directory_there e) (pair_there f l) = absurd (let c = at directory_name_type directory_struct_type true e f (long l) in cc)
-    go (directory_there e) (list_there f l) = told directory_name_type ctz_struct_type e f
+    go (directory_there e) (list_there f l) = reported directory_name_type ctz_struct_type e f
     go (other_there e) p = subst (λ k. Suits k (struct_typed type bytes)) e suits
 
 pub entry_none : (s : RawSlot) (t : Slot) → HasParts s → entry_in s ≡ None → complete s ≡ Some t → IsEntry t → ⊥

@@ -15,7 +15,7 @@ use Rattle.lfs_model.specs.Shown.{directories_in}
 use Rattle.lfs_model.proofs.Counts.{Each, each_append}
 use Rattle.lfs_model.proofs.Superblocks.{pairs_behind}
 use Rattle.lfs_mount.specs.Reaching.{Vertex, Graph}
-use Rattle.lfs_mount.specs.DirectorySeen.{vertex_of, graph_of}
+use Rattle.lfs_mount.specs.DirectoryView.{vertex_of, graph_of}
 use Rattle.lfs_thread.specs.Places.{place_of}
 use Rattle.lfs_mount.specs.Entries.{comes_behind, InSlot, InList, Below, Entry, entry_in, with_branch, with_entry, nothing_known}
 use Rattle.lfs_mount.specs.Scanned.{scanned}

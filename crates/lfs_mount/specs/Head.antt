@@ -9,7 +9,7 @@ use Rattle.lfs_model.specs.History.{Event}
 use Rattle.lfs_model.specs.Log.{log_entries}
 use Rattle.lfs_model.specs.Thread.{Pair, IsThread, is_hard, superblocks_before}
 use Rattle.lfs_model.specs.View.{BeginsWith, superblock_entry}
-use Rattle.lfs_tag.specs.ContentSeen.{tail_seen}
+use Rattle.lfs_tag.specs.ContentView.{tail_view}
 use Rattle.lfs_thread.specs.Kept.{Header, AreHeaders, pairs_on}
 use Rattle.lfs_mount.specs.Checked.{HasHead}
 
@@ -72,12 +72,12 @@ pub record IsSuperblockOf (disk : Disk) (block : ℕ) (bytes : List ℕ) : Type 
 
 -- whether the superblock's chain may continue after the pair: it has at most one slot and a hard tail
 abbrev pub leads_on : Header → Bool
-leads_on h = (h.slot_count == 0 || h.slot_count == 1) && is_hard (option_map tail_seen h.tail)
+leads_on h = (h.slot_count == 0 || h.slot_count == 1) && is_hard (option_map tail_view h.tail)
 
 -- the number of the first pair that has a slot, where the pairs before it have hard tails
 abbrev pub first_filled : List Header → Option ℕ
 first_filled [] = None
-first_filled (h ∷ hs) = if h.slot_count == 0 then (if is_hard (option_map tail_seen h.tail) then option_map (λ k. suc k) (first_filled hs) else None) else Some 0
+first_filled (h ∷ hs) = if h.slot_count == 0 then (if is_hard (option_map tail_view h.tail) then option_map (λ k. suc k) (first_filled hs) else None) else Some 0
 
 -- ---- the thread
 

@@ -8,7 +8,7 @@ use Rattle.lfs_model.specs.Content.{content_at}
 use Rattle.lfs_model.specs.Disk.{Disk, block_count}
 use Rattle.lfs_model.specs.History.{Event}
 use Rattle.lfs_model.specs.Thread.{IsThread, Pair, blocks_of, gstate_of, is_hard}
-use Rattle.lfs_tag.specs.ContentSeen.{tail_seen}
+use Rattle.lfs_tag.specs.ContentView.{tail_view}
 use Rattle.lfs_pair.specs.Pair.{address_in}
 use Rattle.lfs_thread.specs.Kept.{Header, IsKept, pairs_on}
 use Rattle.lfs_thread.specs.Places.{blocks_at}
@@ -16,7 +16,7 @@ use Rattle.lfs_mount.specs.Checked.{HasKnownThread, IsKnownThread}
 use Rattle.lfs_mount.specs.declared.pass.Member.{Member}
 
 abbrev pub continues : Header → Bool
-continues h = is_hard (option_map tail_seen h.tail)
+continues h = is_hard (option_map tail_view h.tail)
 
 -- the id of the slot that a set move names in the pair at an address
 abbrev pub moved_at : Gstate → ℕ × ℕ → Option ℕ

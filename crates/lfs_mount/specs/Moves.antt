@@ -4,14 +4,14 @@ use Rattle.std.specs.List.{AllByRecursion, fold}
 use Rattle.lfs_model.specs.Slots.{Gstate, Slot, gstate_xor, no_gstate, same_pair}
 use Rattle.lfs_model.specs.Thread.{Pair, gstate_of, superblocks_before}
 use Rattle.lfs_model.specs.View.{IsEntry}
-use Rattle.lfs_tag.specs.FieldsSeen.{move_seen}
+use Rattle.lfs_tag.specs.FieldsView.{move_view}
 use Rattle.lfs_pair.specs.Pair.{address_in}
 use Rattle.lfs_thread.specs.Kept.{Header}
 use Rattle.lfs_mount.specs.Described.{moved_in}
 
--- the exclusive or of all pairs' shares
+-- the exclusive or of all pairs' deltas
 abbrev pub joined_of : List Header → Gstate
-joined_of headers = fold gstate_xor no_gstate (map (λ h. move_seen h.move_state) headers)
+joined_of headers = fold gstate_xor no_gstate (map (λ h. move_view h.move_state) headers)
 
 -- whether one of these addresses has the same two blocks
 abbrev pub names_one : ℕ × ℕ → List (ℕ × ℕ) → Bool

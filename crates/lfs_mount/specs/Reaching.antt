@@ -39,8 +39,8 @@ pub record IsFinished (graph : Graph) (k : ℕ) : Type 0 where
   pub sound : All (λ v. is_sound_at graph v ≡ true) (found_after graph k)
 
 -- one directory was found twice, or the next one isn't sound
-abbrev pub Fails : Graph → ℕ → Type 0
-Fails graph k = (IsDistinct nat_eq (found_after graph k) → ⊥) ⊎ ((v : ℕ) × (slice_get (found_after graph k) k ≡ Some v) × (is_sound_at graph v ≡ false))
+abbrev pub IsUnsound : Graph → ℕ → Type 0
+IsUnsound graph k = (IsDistinct nat_eq (found_after graph k) → ⊥) ⊎ ((v : ℕ) × (slice_get (found_after graph k) k ≡ Some v) × (is_sound_at graph v ≡ false))
 
 -- the marks are those of the directories that were found, each once
 pub record IsMarked (marks : List Bool) (found : List ℕ) : Type 0 where

@@ -9,7 +9,7 @@ ghost use Rattle.lfs_model.specs.View.{IsAccepted};
 ghost use Rattle.lfs_model.specs.declared.order.NameOrder.{NameOrder};
 ghost use Rattle.lfs_mount.specs.Checked.{HasKnownThread, IsKnownThread};
 ghost use Rattle.lfs_mount.specs.Accepted.{IsJudged};
-ghost use Rattle.lfs_mount.specs.Device.{TellsErrors};
+ghost use Rattle.lfs_mount.specs.Device.{ReportsErrors};
 ghost use Rattle.lfs_thread.specs.Kept.{disk_on};
 ghost use Rattle.lfs_mount.specs.Orders.{has_order};
 ghost use Rattle.lfs_mount.specs.Reads.{pair_reads};
@@ -53,7 +53,7 @@ pub(crate) fn check_thread<D: BlockDevice>(
         → IsKnownThread (ordered order (disk_on D.BlockDevice device.old)) map.old places.now members.now sync chain p rest
         → ¬ IsAccepted (ordered order (disk_on D.BlockDevice device.old)) (chain ++ p ∷ rest) }
     ensures device { ReadsOnly D.BlockDevice device.old device.new }
-    ensures errors { TellsErrors D.BlockDevice device.old device.new result }
+    ensures errors { ReportsErrors D.BlockDevice device.old device.new result }
     // One read for each pair, and those of the files' lists.
     ensures few { OnOk result (reads (D.history device.new) ≤ reads (D.history device.old) + sum_by (pair_reads (disk_on D.BlockDevice device.old)) members.now) }
 {

@@ -3,9 +3,9 @@
 ghost use Rattle.std.specs.Prelude.{◌≡◌, ◌+◌, ◌==◌, length, Some, None, if◌then◌else◌, drop};
 ghost use Rattle.std.specs.Option.{option_map};
 ghost use Rattle.lfs_model.specs.EntryTypes.{ctz_struct_type, directory_name_type, directory_struct_type, file_name_type};
-ghost use Rattle.lfs_tag.specs.ContentSeen.{part_seen, slot_seen};
+ghost use Rattle.lfs_tag.specs.ContentView.{part_view, slot_view};
 ghost use Rattle.lfs_mount.specs.Entries.{entry_in, stand_in, InList, Below};
-ghost use Rattle.lfs_mount.specs.EntrySeen.{entry_seen, target_seen};
+ghost use Rattle.lfs_mount.specs.EntryView.{entry_view, target_view};
 
 use lfs_tag::kinds::{CTZ_STRUCT, DIRECTORY_NAME, DIRECTORY_STRUCT, FILE_NAME, INLINE_STRUCT};
 use lfs_tag::{Part, Slot, ctz_of, is_name, pair_of};
@@ -29,7 +29,7 @@ pub(crate) struct Entry<'a> {
 }
 
 fn list_at(bytes: &[u8]) -> Option<Target>
-    ensures { option_map target_seen result ≡ stand_in file_name_type (ctz_struct_type, bytes.now) }
+    ensures { option_map target_view result ≡ stand_in file_name_type (ctz_struct_type, bytes.now) }
 {
     match <&[u8; 8]>::try_from(bytes) {
         Ok(bytes) => {
@@ -41,7 +41,7 @@ fn list_at(bytes: &[u8]) -> Option<Target>
 }
 
 fn directory_at(bytes: &[u8]) -> Option<Target>
-    ensures { option_map target_seen result ≡ stand_in directory_name_type (directory_struct_type, bytes.now) }
+    ensures { option_map target_view result ≡ stand_in directory_name_type (directory_struct_type, bytes.now) }
 {
     match <&[u8; 8]>::try_from(bytes) {
         Ok(bytes) => Some(Target::Directory(pair_of(bytes))),
@@ -50,7 +50,7 @@ fn directory_at(bytes: &[u8]) -> Option<Target>
 }
 
 fn target_of(kind: u16, structure: &Part<'_>) -> Option<Target>
-    ensures { option_map target_seen result ≡ stand_in kind (part_seen structure.now) }
+    ensures { option_map target_view result ≡ stand_in kind (part_view structure.now) }
 {
     match (kind, structure.kind) {
         (FILE_NAME, INLINE_STRUCT) => Some(Target::Inline),
@@ -64,7 +64,7 @@ fn target_of(kind: u16, structure: &Part<'_>) -> Option<Target>
 // exactly where the slot has no name that a directory may have, or no struct that suits the type of
 // its name.
 pub(crate) fn entry_of<'a>(slot: &Slot<'a>) -> Option<Entry<'a>>
-    ensures { option_map entry_seen result ≡ entry_in (slot_seen slot.now) }
+    ensures { option_map entry_view result ≡ entry_in (slot_view slot.now) }
 {
     let (Some(name), Some(structure)) = (slot.name, slot.structure) else {
         return None;

@@ -2,13 +2,13 @@
 
 ghost use Rattle.std.specs.Prelude.{ℕ, List, ◌≡◌, ◌↔◌, ◌⊎◌, ◌<◌, ◌≤◌, ◌+◌, length, IsTrue, IfOk, IfErr, IsErrOf, OnOk, None, Some, codes, map};
 ghost use Rattle.std.specs.Option.{option_map};
-ghost use Rattle.lfs_device.specs.Calls.{ReadsOnly, TellsFaults};
+ghost use Rattle.lfs_device.specs.Calls.{ReadsOnly, ReportsFaults};
 ghost use Rattle.lfs_device.specs.Shown.{ordered};
 ghost use Rattle.lfs_model.specs.Blocks.{block_in};
 ghost use Rattle.lfs_model.specs.History.{reads};
 ghost use Rattle.lfs_model.specs.View.{BeginsWith, IsAccepted, superblock_entry};
 ghost use Rattle.lfs_model.specs.declared.order.NameOrder.{NameOrder};
-ghost use Rattle.lfs_tag.specs.ContentSeen.{part_seen, slot_seen};
+ghost use Rattle.lfs_tag.specs.ContentView.{part_view, slot_view};
 ghost use Rattle.lfs_thread.specs.Kept.{disk_on, pairs_on};
 ghost use Rattle.lfs_mount.specs.Head.{HasHeaders, IsHead, IsSuperblockOf, describes, first_filled, inline_in, is_called, leads_on, names_superblock, repeats_in, repeats_of, superblock_in, superblock_of};
 
@@ -48,7 +48,7 @@ fn describes(geometry: &Geometry, bytes: &[u8]) -> bool
 // Returns whether a slot is a superblock's: it has a name that is neither a file's nor a
 // directory's.
 fn names_superblock(slot: &Slot<'_>) -> bool
-    ensures { result ≡ names_superblock (slot_seen slot.now).name }
+    ensures { result ≡ names_superblock (slot_view slot.now).name }
 {
     match slot.name {
         Some(name) => !(name.kind == FILE_NAME || name.kind == DIRECTORY_NAME),
@@ -57,7 +57,7 @@ fn names_superblock(slot: &Slot<'_>) -> bool
 }
 
 fn is_called(slot: &Slot<'_>, bytes: &[u8]) -> bool
-    ensures { result ≡ is_called bytes.now (slot_seen slot.now).name }
+    ensures { result ≡ is_called bytes.now (slot_view slot.now).name }
 {
     match slot.name {
         Some(name) => name.bytes == bytes,
@@ -67,7 +67,7 @@ fn is_called(slot: &Slot<'_>, bytes: &[u8]) -> bool
 
 // Returns the bytes of an inline struct.
 fn inline_in<'a>(slot: &Slot<'a>) -> Option<&'a [u8]>
-    ensures { option_map (λ b. b.now) result ≡ inline_in (slot_seen slot.now).struct }
+    ensures { option_map (λ b. b.now) result ≡ inline_in (slot_view slot.now).struct }
 {
     match slot.structure {
         Some(part) if part.kind == INLINE_STRUCT => Some(part.bytes),
@@ -78,7 +78,7 @@ fn inline_in<'a>(slot: &Slot<'a>) -> Option<&'a [u8]>
 // Returns the superblock's struct in the first slot. Returns None where that slot is no superblock
 // of this geometry.
 fn superblock_in<'a>(geometry: &Geometry, slots: &[Slot<'a>]) -> Option<&'a [u8]>
-    ensures { option_map (λ b. b.now) result ≡ superblock_in geometry.now.block_size geometry.now.block_count (map slot_seen slots.now) }
+    ensures { option_map (λ b. b.now) result ≡ superblock_in geometry.now.block_size geometry.now.block_count (map slot_view slots.now) }
 {
     let [first, ..] = slots else {
         return None;
@@ -95,8 +95,8 @@ fn superblock_in<'a>(geometry: &Geometry, slots: &[Slot<'a>]) -> Option<&'a [u8]
 // Returns whether the first slot is a superblock's. Corrupt exactly where it is one with another
 // struct than `bytes`.
 fn repeats_in(slots: &[Slot<'_>], bytes: &[u8]) -> Result<bool, Error>
-    ensures ok { IfOk result (λ repeats. repeats_in bytes.now (map slot_seen slots.now) ≡ Some repeats) }
-    ensures corrupt { IfErr result (λ e. (e ≡ Error.Corrupt) × (repeats_in bytes.now (map slot_seen slots.now) ≡ None)) }
+    ensures ok { IfOk result (λ repeats. repeats_in bytes.now (map slot_view slots.now) ≡ Some repeats) }
+    ensures corrupt { IfErr result (λ e. (e ≡ Error.Corrupt) × (repeats_in bytes.now (map slot_view slots.now) ≡ None)) }
 {
     let [first, ..] = slots else {
         return Ok(false);
@@ -149,7 +149,7 @@ fn superblock_at<D: BlockDevice>(alloc: Global, dev: &mut D, block: u32) -> Resu
     ensures corrupt { IsErrOf result Error.Corrupt → (bytes : List ℕ) → ¬ IsSuperblockOf (disk_on D.BlockDevice dev.old) block bytes }
     ensures device { ReadsOnly D.BlockDevice dev.old dev.new }
     ensures errors { IfErr result (λ e. (e ≡ Error.Corrupt) ⊎ ((e ≡ Error.Io) ⊎ (e ≡ Error.NoMemory))) }
-    ensures faults { TellsFaults D.BlockDevice dev.old dev.new result }
+    ensures faults { ReportsFaults D.BlockDevice dev.old dev.new result }
     ensures reads { reads (D.history dev.new) ≤ reads (D.history dev.old) + 1 }
 {
     let geometry = dev.geometry();
@@ -170,7 +170,7 @@ fn repeats_at<D: BlockDevice>(
     ensures corrupt { IsErrOf result Error.Corrupt → repeats_of bytes.now (block_in (D.blocks dev.old) block) ≡ None }
     ensures device { ReadsOnly D.BlockDevice dev.old dev.new }
     ensures errors { IfErr result (λ e. (e ≡ Error.Corrupt) ⊎ ((e ≡ Error.Io) ⊎ (e ≡ Error.NoMemory))) }
-    ensures faults { TellsFaults D.BlockDevice dev.old dev.new result }
+    ensures faults { ReportsFaults D.BlockDevice dev.old dev.new result }
     ensures reads { reads (D.history dev.new) ≤ reads (D.history dev.old) + 1 }
 {
     let block = read_block(alloc, dev, block)?;
@@ -228,7 +228,7 @@ pub(crate) fn count_superblocks<D: BlockDevice>(
     ensures corrupt { IsErrOf result Error.Corrupt → (order : NameOrder) → ¬ IsAccepted (ordered order (disk_on D.BlockDevice dev.old)) (pairs_on (disk_on D.BlockDevice dev.old) pairs.now) }
     ensures device { ReadsOnly D.BlockDevice dev.old dev.new }
     ensures errors { IfErr result (λ e. (e ≡ Error.Corrupt) ⊎ ((e ≡ Error.Io) ⊎ (e ≡ Error.NoMemory))) }
-    ensures faults { TellsFaults D.BlockDevice dev.old dev.new result }
+    ensures faults { ReportsFaults D.BlockDevice dev.old dev.new result }
     ensures reads { IfOk result (λ count. reads (D.history dev.new) ≤ reads (D.history dev.old) + count + 2) }
 {
     let first = first_filled(pairs)?;

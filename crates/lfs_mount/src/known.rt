@@ -2,9 +2,9 @@
 
 ghost use Rattle.std.specs.Prelude.{◌≡◌, ◌⊎◌, map, OnOk, IfErr, IsErrOf, Some, None};
 ghost use Rattle.lfs_model.specs.declared.order.NameOrder.{NameOrder};
-ghost use Rattle.lfs_tag.specs.ContentSeen.{slot_seen};
+ghost use Rattle.lfs_tag.specs.ContentView.{slot_view};
 ghost use Rattle.lfs_mount.specs.Entries.{comes_behind, nothing_known, with_entry};
-ghost use Rattle.lfs_mount.specs.EntrySeen.{entry_seen};
+ghost use Rattle.lfs_mount.specs.EntryView.{entry_view};
 ghost use Rattle.lfs_mount.specs.Orders.{has_order};
 ghost use Rattle.lfs_mount.specs.Scanned.{scanned};
 
@@ -43,12 +43,12 @@ pub(crate) struct Known {
 }
 
 impl Known {
-    ghost use Rattle.lfs_mount.specs.KnownSeen.{known_seen};
-    ghost use Rattle.lfs_mount.specs.DirectorySeen.{vertex_of};
+    ghost use Rattle.lfs_mount.specs.KnownView.{known_view};
+    ghost use Rattle.lfs_mount.specs.DirectoryView.{vertex_of};
 
     // Makes what is known before the first entry of a directory, which is nothing.
     pub fn nothing(alloc: Global) -> Known
-        ensures { (order : NameOrder) → known_seen order result ≡ nothing_known }
+        ensures { (order : NameOrder) → known_view order result ≡ nothing_known }
     {
         Known {
             last: Vec::new(alloc),
@@ -71,7 +71,7 @@ impl Known {
 
     // Adds one entry.
     fn add(&mut self, places: &Places, entry: &Entry<'_>) -> Result<(), Error>
-        ensures ok { OnOk result ((order : NameOrder) → known_seen order self.new ≡ with_entry order places.now (known_seen order self.old) (entry_seen entry.now)) }
+        ensures ok { OnOk result ((order : NameOrder) → known_view order self.new ≡ with_entry order places.now (known_view order self.old) (entry_view entry.now)) }
         ensures error { IfErr result (λ e. e ≡ Error.NoMemory) }
     {
         let rises = orders_behind(&self.last, entry.name);
@@ -89,16 +89,16 @@ impl Known {
     // Returns the directory, whose last entry was read. Nothing is known of the next directory
     // then.
     pub fn end(&mut self, alloc: Global) -> Directory
-        ensures directory { (order : NameOrder) → vertex_of order result ≡ (known_seen order self.old).1 }
-        ensures nothing { (order : NameOrder) → known_seen order self.new ≡ nothing_known }
+        ensures directory { (order : NameOrder) → vertex_of order result ≡ (known_view order self.old).1 }
+        ensures nothing { (order : NameOrder) → known_view order self.new ≡ nothing_known }
     {
         std::mem::replace(self, Known::nothing(alloc)).directory
     }
 
     // Adds the entries in these slots of a pair. Corrupt exactly where one of the slots holds none.
     pub fn scan(&mut self, places: &Places, slots: &[Slot<'_>]) -> Result<(), Error>
-        ensures ok { OnOk result ((order : NameOrder) → scanned order places.now (known_seen order self.old) (map slot_seen slots.now) ≡ Some (known_seen order self.new)) }
-        ensures corrupt { IsErrOf result Error.Corrupt → (order : NameOrder) → scanned order places.now (known_seen order self.old) (map slot_seen slots.now) ≡ None }
+        ensures ok { OnOk result ((order : NameOrder) → scanned order places.now (known_view order self.old) (map slot_view slots.now) ≡ Some (known_view order self.new)) }
+        ensures corrupt { IsErrOf result Error.Corrupt → (order : NameOrder) → scanned order places.now (known_view order self.old) (map slot_view slots.now) ≡ None }
         ensures errors { IfErr result (λ e. (e ≡ Error.Corrupt) ⊎ (e ≡ Error.NoMemory)) }
     {
         for slot in slots {

@@ -3,16 +3,16 @@
 ghost use Rattle.std.specs.Prelude.{◌≡◌, ◌⊎◌, ◌≤◌, ◌+◌, slice_set, sum_by, OnOk, IfErr, IsErrOf, IsTrue, ◌↔◌};
 ghost use Rattle.std.specs.Bool.{OnFalse, OnTrue};
 ghost use Rattle.std.specs.Option.{option_and_then};
-ghost use Rattle.lfs_device.specs.Calls.{ReadsOnly, TellsFaults};
+ghost use Rattle.lfs_device.specs.Calls.{ReadsOnly, ReportsFaults};
 ghost use Rattle.lfs_model.specs.BlockSets.{BlockSets, IsFree};
 ghost use Rattle.lfs_model.specs.BlockSets.BlockState.{Used};
 ghost use Rattle.lfs_model.specs.History.{reads};
 ghost use Rattle.lfs_thread.specs.Kept.{disk_on};
 ghost use Rattle.lfs_mount.specs.Entries.{entry_in};
-ghost use Rattle.lfs_mount.specs.ListsSeen.{lists_seen};
+ghost use Rattle.lfs_mount.specs.ListsView.{lists_view};
 ghost use Rattle.lfs_mount.specs.Marking.{MarksList, MarksLists, Step, list_of};
 ghost use Rattle.lfs_mount.specs.Reads.{list_reads};
-ghost use Rattle.lfs_tag.specs.ContentSeen.{slot_seen};
+ghost use Rattle.lfs_tag.specs.ContentView.{slot_view};
 
 use crate::entry::{Target, entry_of};
 use lfs_alloc::BlockMap;
@@ -42,7 +42,7 @@ fn mark_list<D: BlockDevice>(
     ensures marked { OnOk result (MarksList (disk_on D.BlockDevice device.old) map.old (head, size) map.new) }
     ensures corrupt { IsErrOf result Error.Corrupt → (new : BlockSets) → ¬ MarksList (disk_on D.BlockDevice device.old) map.old (head, size) new }
     ensures device { ReadsOnly D.BlockDevice device.old device.new }
-    ensures faults { TellsFaults D.BlockDevice device.old device.new result }
+    ensures faults { ReportsFaults D.BlockDevice device.old device.new result }
     ensures errors { IfErr result (λ e. (e ≡ Error.Io) ⊎ (e ≡ Error.Corrupt)) }
     ensures few { OnOk result (reads (D.history device.new) ≤ reads (D.history device.old) + list_reads (D.geometry device.old).block_size (head, size)) }
 {
@@ -63,7 +63,7 @@ fn mark_list<D: BlockDevice>(
 
 // Returns the head and the size of the list that a slot's entry has, if it has one.
 fn list_of(slot: &Slot<'_>) -> Option<(u32, u32)>
-    ensures { result ≡ option_and_then list_of (entry_in (slot_seen slot.now)) }
+    ensures { result ≡ option_and_then list_of (entry_in (slot_view slot.now)) }
 {
     let Some(entry) = entry_of(slot) else {
         return None;
@@ -81,12 +81,12 @@ pub(crate) fn mark_lists<D: BlockDevice>(
     map: &mut BlockMap,
     slots: &[Slot<'_>],
 ) -> Result<(), Error>
-    ensures marked { OnOk result (MarksLists (disk_on D.BlockDevice device.old) map.old (lists_seen slots.now) map.new) }
-    ensures corrupt { IsErrOf result Error.Corrupt → (new : BlockSets) → ¬ MarksLists (disk_on D.BlockDevice device.old) map.old (lists_seen slots.now) new }
+    ensures marked { OnOk result (MarksLists (disk_on D.BlockDevice device.old) map.old (lists_view slots.now) map.new) }
+    ensures corrupt { IsErrOf result Error.Corrupt → (new : BlockSets) → ¬ MarksLists (disk_on D.BlockDevice device.old) map.old (lists_view slots.now) new }
     ensures device { ReadsOnly D.BlockDevice device.old device.new }
-    ensures faults { TellsFaults D.BlockDevice device.old device.new result }
+    ensures faults { ReportsFaults D.BlockDevice device.old device.new result }
     ensures errors { IfErr result (λ e. (e ≡ Error.Io) ⊎ (e ≡ Error.Corrupt)) }
-    ensures few { OnOk result (reads (D.history device.new) ≤ reads (D.history device.old) + sum_by (list_reads (D.geometry device.old).block_size) (lists_seen slots.now)) }
+    ensures few { OnOk result (reads (D.history device.new) ≤ reads (D.history device.old) + sum_by (list_reads (D.geometry device.old).block_size) (lists_view slots.now)) }
 {
     for slot in slots {
         if let Some((head, size)) = list_of(slot) {

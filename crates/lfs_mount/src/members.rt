@@ -3,7 +3,7 @@
 ghost use Rattle.std.specs.Prelude.{◌≡◌, IfErr, IfOk, nat_eq, true};
 ghost use Rattle.std.specs.List.{IsDistinct};
 ghost use Rattle.lfs_model.specs.Slots.{address_of};
-ghost use Rattle.lfs_tag.specs.FieldsSeen.{move_seen};
+ghost use Rattle.lfs_tag.specs.FieldsView.{move_view};
 ghost use Rattle.lfs_thread.specs.Places.{blocks_at};
 ghost use Rattle.lfs_mount.specs.Members.{begins_in, member_in, members_in, moved_at};
 
@@ -18,7 +18,7 @@ use std::alloc::Global;
 // Returns the id of the slot that a set move names in the pair at an address, if it names one
 // there.
 fn moved_at(state: &MoveState, at: [u32; 2]) -> Option<u32>
-    ensures { result ≡ moved_at (move_seen state.now) (address_of at) }
+    ensures { result ≡ moved_at (move_view state.now) (address_of at) }
 {
     if state.kind == DELETE && is_same_pair(state.pair, at) {
         Some(u32::from(state.id))
@@ -28,7 +28,7 @@ fn moved_at(state: &MoveState, at: [u32; 2]) -> Option<u32>
 }
 
 fn member_of(state: &MoveState, is_first: bool, pair: &Pair) -> Member
-    ensures { result ≡ member_in (move_seen state.now) is_first pair.now }
+    ensures { result ≡ member_in (move_view state.now) is_first pair.now }
 {
     Member {
         active: pair.active,
@@ -44,7 +44,7 @@ pub(crate) fn members_of(
     state: &MoveState,
     pairs: &[Pair],
 ) -> Result<Vec<Member>, Error>
-    ensures members { IfOk result (λ members. members.items ≡ members_in (move_seen state.now) true pairs.now) }
+    ensures members { IfOk result (λ members. members.items ≡ members_in (move_view state.now) true pairs.now) }
     ensures error { IfErr result (λ e. e ≡ Error.NoMemory) }
 {
     let mut members = Vec::new(alloc);

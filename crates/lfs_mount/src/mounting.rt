@@ -9,11 +9,11 @@ ghost use Rattle.lfs_model.specs.History.{reads};
 ghost use Rattle.lfs_model.specs.Thread.{Pair as ThreadPair};
 ghost use Rattle.lfs_model.specs.View.{IsAccepted};
 ghost use Rattle.lfs_model.specs.declared.order.NameOrder.{NameOrder};
-ghost use Rattle.lfs_tag.specs.FieldsSeen.{move_seen};
+ghost use Rattle.lfs_tag.specs.FieldsView.{move_view};
 ghost use Rattle.lfs_thread.specs.Device.{GivesBack};
 ghost use Rattle.lfs_thread.specs.Kept.{disk_on, pairs_on};
 ghost use Rattle.lfs_mount.specs.Accepted.{HasImage, IsJudged, IsMounted};
-ghost use Rattle.lfs_mount.specs.Device.{IsMountError, TellsErrors};
+ghost use Rattle.lfs_mount.specs.Device.{IsMountError, ReportsErrors};
 ghost use Rattle.lfs_mount.specs.Members.{AreDirectories, IsRead, IsThreadOf, members_in};
 ghost use Rattle.lfs_mount.specs.Orders.{has_order};
 ghost use Rattle.lfs_mount.specs.ReadImage.{IsReadImage};
@@ -90,11 +90,11 @@ fn check_image<D: BlockDevice>(
     pairs: &[Pair],
     state: &MoveState,
 ) -> Result<Orders, Error>
-    requires { IsRead (disk_on D.BlockDevice device.old) (D.history device.old) pairs.now map.old (move_seen state.now) }
+    requires { IsRead (disk_on D.BlockDevice device.old) (D.history device.old) pairs.now map.old (move_view state.now) }
     ensures image { IfOk result (λ orders. (order : NameOrder) → HasImage (ordered order (disk_on D.BlockDevice device.old)) pairs.now (has_order order orders) map.old map.new) }
     ensures corrupt { IsErrOf result Error.Corrupt → (order : NameOrder) (ps : List ThreadPair) → ¬ IsAccepted (ordered order (disk_on D.BlockDevice device.old)) ps }
     ensures device { ReadsOnly D.BlockDevice device.old device.new }
-    ensures errors { TellsErrors D.BlockDevice device.old device.new result }
+    ensures errors { ReportsErrors D.BlockDevice device.old device.new result }
     ensures few { IfOk result (λ orders. (order : NameOrder) → has_order order orders ≡ true
         → reads (D.history device.new) ≤ reads (D.history device.old) + check_reads (disk_on D.BlockDevice device.old) (pairs_on (disk_on D.BlockDevice device.old) pairs.now)) }
 {
@@ -146,16 +146,16 @@ fn check_directories<D: BlockDevice>(
     pairs: &[Pair],
     state: &MoveState,
 ) -> Result<Orders, Error>
-    requires { AreDirectories (disk_on D.BlockDevice device.old) map.old (move_seen state.now) pairs.now }
+    requires { AreDirectories (disk_on D.BlockDevice device.old) map.old (move_view state.now) pairs.now }
     ensures ok { IfOk result (λ orders. (order : NameOrder) (chain : List ThreadPair) (p : ThreadPair) (rest : List ThreadPair)
-        → IsThreadOf (ordered order (disk_on D.BlockDevice device.old)) map.old (move_seen state.now) pairs.now chain p rest
+        → IsThreadOf (ordered order (disk_on D.BlockDevice device.old)) map.old (move_view state.now) pairs.now chain p rest
         → IsJudged (ordered order (disk_on D.BlockDevice device.old)) (has_order order orders) map.old map.new chain p rest) }
     ensures corrupt { IsErrOf result Error.Corrupt → (order : NameOrder) (chain : List ThreadPair) (p : ThreadPair) (rest : List ThreadPair)
-        → IsThreadOf (ordered order (disk_on D.BlockDevice device.old)) map.old (move_seen state.now) pairs.now chain p rest
+        → IsThreadOf (ordered order (disk_on D.BlockDevice device.old)) map.old (move_view state.now) pairs.now chain p rest
         → ¬ IsAccepted (ordered order (disk_on D.BlockDevice device.old)) (chain ++ p ∷ rest) }
     ensures device { ReadsOnly D.BlockDevice device.old device.new }
-    ensures errors { TellsErrors D.BlockDevice device.old device.new result }
-    ensures few { OnOk result (reads (D.history device.new) ≤ reads (D.history device.old) + sum_by (pair_reads (disk_on D.BlockDevice device.old)) (members_in (move_seen state.now) true pairs.now)) }
+    ensures errors { ReportsErrors D.BlockDevice device.old device.new result }
+    ensures few { OnOk result (reads (D.history device.new) ≤ reads (D.history device.old) + sum_by (pair_reads (disk_on D.BlockDevice device.old)) (members_in (move_view state.now) true pairs.now)) }
 {
     let members = members_of(alloc, state, pairs)?;
     let places = places_of(alloc, pairs)?;

@@ -7,7 +7,7 @@ ghost use Rattle.lfs_model.specs.Slots.{address_of, gstate_xor};
 ghost use Rattle.lfs_model.specs.Thread.{Pair as ThreadPair, gstate_of};
 ghost use Rattle.lfs_model.specs.View.{IsAccepted, IsMove};
 ghost use Rattle.lfs_pair.specs.Pair.{address_in};
-ghost use Rattle.lfs_tag.specs.FieldsSeen.{move_seen};
+ghost use Rattle.lfs_tag.specs.FieldsView.{move_view};
 ghost use Rattle.lfs_thread.specs.Kept.{AreHeaders, pairs_on};
 ghost use Rattle.lfs_mount.specs.Moves.{HasDirectories, IsMovedFrom, joined_of, names_known, names_one};
 
@@ -35,12 +35,12 @@ fn names_one(address: [u32; 2], pairs: &[Pair]) -> bool
 //
 // Errors: `Corrupt` exactly where the move is neither. No accepted image has such a move.
 pub(crate) fn check_move(state: &MoveState, pairs: &[Pair]) -> Result<(), Error>
-    ensures ok { OnOk result (names_known (move_seen state.now) (map address_in pairs.now) ≡ true) }
-    ensures corrupt { IfErr result (λ e. (e ≡ Error.Corrupt) × (names_known (move_seen state.now) (map address_in pairs.now) ≡ false)) }
+    ensures ok { OnOk result (names_known (move_view state.now) (map address_in pairs.now) ≡ true) }
+    ensures corrupt { IfErr result (λ e. (e ≡ Error.Corrupt) × (names_known (move_view state.now) (map address_in pairs.now) ≡ false)) }
     ensures right { OnOk result ((chain : List ThreadPair) (p : ThreadPair) (rest : List ThreadPair)
-        → HasDirectories (move_seen state.now) pairs.now chain p rest → IsMovedFrom (move_seen state.now) (p ∷ rest) → IsMove (chain ++ p ∷ rest) (move_seen state.now)) }
+        → HasDirectories (move_view state.now) pairs.now chain p rest → IsMovedFrom (move_view state.now) (p ∷ rest) → IsMove (chain ++ p ∷ rest) (move_view state.now)) }
     ensures refused { OnErr result ((disk : Disk) (chain : List ThreadPair) (p : ThreadPair) (rest : List ThreadPair)
-        → HasDirectories (move_seen state.now) pairs.now chain p rest → ¬ IsAccepted disk (chain ++ p ∷ rest)) }
+        → HasDirectories (move_view state.now) pairs.now chain p rest → ¬ IsAccepted disk (chain ++ p ∷ rest)) }
 {
     if is_known(state, pairs) {
         Ok(())
@@ -51,7 +51,7 @@ pub(crate) fn check_move(state: &MoveState, pairs: &[Pair]) -> Result<(), Error>
 
 // Returns whether no move is set, or one of a slot in one of these pairs.
 fn is_known(state: &MoveState, pairs: &[Pair]) -> bool
-    ensures { result ≡ names_known (move_seen state.now) (map address_in pairs.now) }
+    ensures { result ≡ names_known (move_view state.now) (map address_in pairs.now) }
 {
     let is_none = state.kind == 0 && state.id == 0 && state.pair[0] == 0 && state.pair[1] == 0;
     is_none || (state.kind == DELETE && names_one(state.pair, pairs))

@@ -7,16 +7,16 @@ ghost use Rattle.lfs_model.specs.BlockSets.{BlockSets};
 ghost use Rattle.lfs_model.specs.History.{reads};
 ghost use Rattle.lfs_model.specs.Names.{Name};
 ghost use Rattle.lfs_model.specs.declared.order.NameOrder.{NameOrder};
-ghost use Rattle.lfs_mount.specs.Device.{TellsErrors};
+ghost use Rattle.lfs_mount.specs.Device.{ReportsErrors};
 ghost use Rattle.lfs_thread.specs.Kept.{disk_on};
-ghost use Rattle.lfs_mount.specs.DirectorySeen.{graph_of};
+ghost use Rattle.lfs_mount.specs.DirectoryView.{graph_of};
 ghost use Rattle.lfs_mount.specs.Entries.{entry_in, nothing_known};
-ghost use Rattle.lfs_mount.specs.KnownSeen.{known_seen};
+ghost use Rattle.lfs_mount.specs.KnownView.{known_view};
 ghost use Rattle.lfs_mount.specs.Passed.{Passes};
 ghost use Rattle.lfs_mount.specs.Reaching.{Graph, Vertex};
 ghost use Rattle.lfs_mount.specs.Reads.{pair_reads};
 ghost use Rattle.lfs_mount.specs.Taken.{Takes, behind_superblock, unmoved_of};
-ghost use Rattle.lfs_tag.specs.ContentSeen.{slot_seen};
+ghost use Rattle.lfs_tag.specs.ContentView.{slot_view};
 
 use crate::entry::entry_of;
 use crate::known::Known;
@@ -43,8 +43,8 @@ pub(crate) struct Member {
 
 // Removes the slot that a set move names. Corrupt exactly where it is no entry.
 fn take_moved(slots: &mut Vec<Slot<'_>>, moved: Option<u32>) -> Result<(), Error>
-    ensures ok { OnOk result (unmoved_of moved (map slot_seen slots.old.items) ≡ Some (map slot_seen slots.new.items)) }
-    ensures corrupt { IfErr result (λ e. (e ≡ Error.Corrupt) × (unmoved_of moved (map slot_seen slots.old.items) ≡ None)) }
+    ensures ok { OnOk result (unmoved_of moved (map slot_view slots.old.items) ≡ Some (map slot_view slots.new.items)) }
+    ensures corrupt { IfErr result (λ e. (e ≡ Error.Corrupt) × (unmoved_of moved (map slot_view slots.old.items) ≡ None)) }
 {
     let Some(id) = moved else {
         return Ok(());
@@ -58,15 +58,15 @@ fn take_moved(slots: &mut Vec<Slot<'_>>, moved: Option<u32>) -> Result<(), Error
 }
 
 fn is_entry(slot: &Slot<'_>) -> bool
-    ensures { result ≡ is_some (entry_in (slot_seen slot.now)) }
+    ensures { result ≡ is_some (entry_in (slot_view slot.now)) }
 {
     entry_of(slot).is_some()
 }
 
 // Removes the superblock's slot. Corrupt exactly where there is no slot.
 fn take_superblock(slots: &mut Vec<Slot<'_>>, has_superblock: bool) -> Result<(), Error>
-    ensures ok { OnOk result (behind_superblock has_superblock (map slot_seen slots.old.items) ≡ Some (map slot_seen slots.new.items)) }
-    ensures corrupt { IfErr result (λ e. (e ≡ Error.Corrupt) × (behind_superblock has_superblock (map slot_seen slots.old.items) ≡ None)) }
+    ensures ok { OnOk result (behind_superblock has_superblock (map slot_view slots.old.items) ≡ Some (map slot_view slots.new.items)) }
+    ensures corrupt { IfErr result (λ e. (e ≡ Error.Corrupt) × (behind_superblock has_superblock (map slot_view slots.old.items) ≡ None)) }
 {
     if !has_superblock {
         return Ok(());
@@ -91,10 +91,10 @@ fn take_pair<D: BlockDevice>(
     member: &Member,
 ) -> Result<(), Error>
     requires { member.now.active < (D.geometry device.old).block_count }
-    ensures taken { OnOk result ((order : NameOrder) → Takes (ordered order (disk_on D.BlockDevice device.old)) places.now member.now (known_seen order known.old) map.old (known_seen order known.new) map.new) }
-    ensures corrupt { IsErrOf result Error.Corrupt → (order : NameOrder) (new : Name × Vertex) (sets : BlockSets) → ¬ Takes (ordered order (disk_on D.BlockDevice device.old)) places.now member.now (known_seen order known.old) map.old new sets }
+    ensures taken { OnOk result ((order : NameOrder) → Takes (ordered order (disk_on D.BlockDevice device.old)) places.now member.now (known_view order known.old) map.old (known_view order known.new) map.new) }
+    ensures corrupt { IsErrOf result Error.Corrupt → (order : NameOrder) (new : Name × Vertex) (sets : BlockSets) → ¬ Takes (ordered order (disk_on D.BlockDevice device.old)) places.now member.now (known_view order known.old) map.old new sets }
     ensures device { ReadsOnly D.BlockDevice device.old device.new }
-    ensures errors { TellsErrors D.BlockDevice device.old device.new result }
+    ensures errors { ReportsErrors D.BlockDevice device.old device.new result }
     ensures few { OnOk result (reads (D.history device.new) ≤ reads (D.history device.old) + pair_reads (disk_on D.BlockDevice device.old) member.now) }
 {
     let bytes = read_block(alloc, device, member.active)?;
@@ -120,7 +120,7 @@ pub(crate) fn take_pairs<D: BlockDevice>(
     ensures taken { IfOk result (λ ds. (order : NameOrder) → Passes (ordered order (disk_on D.BlockDevice device.old)) places.now nothing_known map.old members.now (graph_of order ds.items) map.new) }
     ensures corrupt { IsErrOf result Error.Corrupt → (order : NameOrder) (graph : Graph) (end : BlockSets) → ¬ Passes (ordered order (disk_on D.BlockDevice device.old)) places.now nothing_known map.old members.now graph end }
     ensures device { ReadsOnly D.BlockDevice device.old device.new }
-    ensures errors { TellsErrors D.BlockDevice device.old device.new result }
+    ensures errors { ReportsErrors D.BlockDevice device.old device.new result }
     ensures few { OnOk result (reads (D.history device.new) ≤ reads (D.history device.old) + sum_by (pair_reads (disk_on D.BlockDevice device.old)) members.now) }
 {
     let mut directories = Vec::new(alloc);

@@ -4,10 +4,10 @@ ghost use Rattle.std.specs.Prelude.{List, ◌≡◌, ◌↔◌, ◌≤◌, ◌<�
 ghost use Rattle.std.specs.List.{IsDistinct};
 ghost use Rattle.lfs_model.specs.Thread.{Pair};
 ghost use Rattle.lfs_model.specs.declared.order.NameOrder.{NameOrder};
-ghost use Rattle.lfs_mount.specs.Directories.{AreRight, Shows};
-ghost use Rattle.lfs_mount.specs.DirectorySeen.{graph_of};
+ghost use Rattle.lfs_mount.specs.Directories.{AreRight, GraphShows};
+ghost use Rattle.lfs_mount.specs.DirectoryView.{graph_of};
 ghost use Rattle.lfs_mount.specs.Orders.{has_order};
-ghost use Rattle.lfs_mount.specs.Reaching.{AreReached, Fails, Finds, IsMarked};
+ghost use Rattle.lfs_mount.specs.Reaching.{AreReached, IsUnsound, Finds, IsMarked};
 
 use crate::orders::Orders;
 use lfs_device::{Error, NameOrder};
@@ -49,7 +49,7 @@ fn reached(alloc: Global, directories: &[Directory], order: NameOrder) -> Result
     requires some { 0 < length directories.now }
     requires within { All (λ d. All (λ b. b < length directories.now) d.branches.items) directories.now }
     ensures reached { IfOk result (λ marks. AreReached (graph_of order directories.now) marks.items) }
-    ensures corrupt { IsErrOf result Error.Corrupt → (steps : ℕ) × Fails (graph_of order directories.now) steps }
+    ensures corrupt { IsErrOf result Error.Corrupt → (steps : ℕ) × IsUnsound (graph_of order directories.now) steps }
     ensures errors { IfErr result (λ e. (e ≡ Error.Corrupt) ⊎ (e ≡ Error.NoMemory)) }
 {
     let mut is_found = Vec::from_elem(alloc, false, directories.len())?;
@@ -79,8 +79,8 @@ fn check_reached(
 ) -> Result<(), Error>
     requires some { 0 < length directories.now }
     requires within { All (λ d. All (λ b. b < length directories.now) d.branches.items) directories.now }
-    ensures ok { OnOk result ((ps : List Pair) → Shows order (graph_of order directories.now) sync ps → AreRight order ps) }
-    ensures corrupt { IsErrOf result Error.Corrupt → (ps : List Pair) → Shows order (graph_of order directories.now) sync ps → ¬ AreRight order ps }
+    ensures ok { OnOk result ((ps : List Pair) → GraphShows order (graph_of order directories.now) sync ps → AreRight order ps) }
+    ensures corrupt { IsErrOf result Error.Corrupt → (ps : List Pair) → GraphShows order (graph_of order directories.now) sync ps → ¬ AreRight order ps }
     ensures errors { IfErr result (λ e. (e ≡ Error.Corrupt) ⊎ (e ≡ Error.NoMemory)) }
 {
     let is_reached = reached(alloc, directories, order)?;
@@ -99,7 +99,7 @@ fn are_right(
 ) -> Result<bool, Error>
     requires some { 0 < length directories.now }
     requires within { All (λ d. All (λ b. b < length directories.now) d.branches.items) directories.now }
-    ensures right { IfOk result (λ right. (ps : List Pair) → Shows order (graph_of order directories.now) sync ps → (right ≡ true) ↔ AreRight order ps) }
+    ensures right { IfOk result (λ right. (ps : List Pair) → GraphShows order (graph_of order directories.now) sync ps → (right ≡ true) ↔ AreRight order ps) }
     ensures error { IfErr result (λ e. e ≡ Error.NoMemory) }
 {
     match check_reached(alloc, directories, order, sync) {
@@ -117,7 +117,7 @@ pub(crate) fn orders_of(
 ) -> Result<Orders, Error>
     requires some { 0 < length directories.now }
     requires within { All (λ d. All (λ b. b < length directories.now) d.branches.items) directories.now }
-    ensures right { IfOk result (λ orders. (order : NameOrder) (ps : List Pair) → Shows order (graph_of order directories.now) sync ps → (has_order order orders ≡ true) ↔ AreRight order ps) }
+    ensures right { IfOk result (λ orders. (order : NameOrder) (ps : List Pair) → GraphShows order (graph_of order directories.now) sync ps → (has_order order orders ≡ true) ↔ AreRight order ps) }
     ensures error { IfErr result (λ e. e ≡ Error.NoMemory) }
 {
     Ok(Orders {

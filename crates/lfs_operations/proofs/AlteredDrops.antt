@@ -3,7 +3,7 @@ use Rattle.std.proofs.Common.{ℕ, ◌≡◌, ◌+◌, ◌-◌, ◌<◌, ◌≤�
 use Rattle.lfs_model.specs.Slots.{Gstate, no_gstate}
 use Rattle.lfs_model.specs.Thread.{Links, Pair, anchor, blocks_of}
 use Rattle.lfs_model.proofs.Counts.{count, count_here, once_from_distinct}
-use Rattle.lfs_model.proofs.Global.{sync_share}
+use Rattle.lfs_model.proofs.Global.{sync_delta}
 use Rattle.lfs_operations.specs.Changing.{Alters}
 use Rattle.lfs_operations.specs.Dropping.{CanDropAt, HasDroppedBehind, with_tail_taken}
 use Rattle.lfs_operations.specs.Removing.{goes_whole}
@@ -70,10 +70,10 @@ module _ (t : Kept) (index id first gone : ℕ) (take : CanRemoveDirectory t ind
           (none_left m (gone - 1) no_gstate new (omega arith) d (once_from_distinct (blocks_of m.pairs) u.thread.distinct (pair_in m (gone - 1 + 1)).at.0))
 
   -- its entry goes with its pair
-  pub whole_alters : (s : StandsWhole t index id take.can) (m : Kept) (h : HasDroppedBehind t (index - 1) sync_share m) (new : Kept) → HasDroppedBehind m (number_without index gone - 1) no_gstate new → AltersInFront t index first gone new
+  pub whole_alters : (s : StandsWhole t index id take.can) (m : Kept) (h : HasDroppedBehind t (index - 1) sync_delta m) (new : Kept) → HasDroppedBehind m (number_without index gone - 1) no_gstate new → AltersInFront t index first gone new
   whole_alters s m h new d = record { front = front; entry = λ whole. entry }
     where
-      can : CanDropAt t index sync_share
+      can : CanDropAt t index sync_delta
       can = can_drop_entry t index id first gone take s
 
       then : CanDropAt m (number_without index gone) no_gstate
@@ -88,7 +88,7 @@ module _ (t : Kept) (index id first gone : ℕ) (take : CanRemoveDirectory t ind
       entry : Alters t (index - 1) new
       entry =
           let at = (pair_in t (index - 1 + 1)).at in
-          let n = none_left t (index - 1) sync_share m low h (once_from_distinct (blocks_of t.pairs) take.can.ready.accepted.thread.distinct at.0) in
+          let n = none_left t (index - 1) sync_delta m low h (once_from_distinct (blocks_of t.pairs) take.can.ready.accepted.thread.distinct at.0) in
           let f = fewer_blocks m (number_without index gone - 1) no_gstate new low_now d at.0 in
           tail_goes t new (index - 1) at (names_next t (index - 1) low links_are) d.thread.links (omega arith)
 

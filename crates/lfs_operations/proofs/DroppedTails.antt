@@ -19,8 +19,8 @@ use Rattle.lfs_model.proofs.Effects.{Does, does_first, does_nothing, ends_tail, 
 use Rattle.lfs_model.proofs.Global.{gstate_assoc, gstate_comm, gstate_cons, gstate_moved, gstate_right, gstate_self}
 use Rattle.lfs_model.proofs.Logged.{logged}
 use Rattle.lfs_thread.specs.Kept.{Kept}
-use Rattle.lfs_thread.specs.Steps.{CanDrop, IsDropped, IsLeft, IsRefused, IsWrittenAs, made_in_thread, no_pair, pair_in, put_tail, with_pair}
-use Rattle.lfs_operations.specs.Dropping.{HasDroppedBehind, IsLeftByDrop, share_taken, tail_taken, taken_over, taking_changes, with_tail_taken}
+use Rattle.lfs_thread.specs.Steps.{CanDrop, IsDropped, IsLeftByChange, IsRefused, IsWrittenAs, made_in_thread, no_pair, pair_in, put_tail, with_pair}
+use Rattle.lfs_operations.specs.Dropping.{HasDroppedBehind, IsLeftByDrop, delta_taken, tail_taken, taken_over, taking_changes, with_tail_taken}
 use Rattle.lfs_operations.proofs.Held.{completes_to}
 
 -- ---- what a log comes to
@@ -37,7 +37,7 @@ bytes_of_holder a b x ha hb is = go (has_commit a) (has_commit b) (has_commit b 
     go true t true e = of b hb e
     go true t false e = of a ha e
 
--- its tail and its share can be written again
+-- its tail and its delta can be written again
 pub record IsWritableAgain (c : Content) : Type 0 where
   pub tail : IsTailIfSome c.tail
   pub move : IsMoveState c.move
@@ -56,7 +56,7 @@ logged_content disk at c bytes is =
     let parts = completed_parts k.raw c k.complete in
     record { tail = subst IsTailIfSome (sym parts.tail) l.tail; move = subst IsMoveState (sym parts.move) l.move }
 
--- ---- shares
+-- ---- deltas
 
 pub move_xor : (g h : Gstate) → IsMoveState g → IsMoveState h → IsMoveState (gstate_xor g h)
 move_xor g h a b = record {
@@ -126,9 +126,9 @@ module _ (t : Kept) (front : ℕ) (ahead : List Pair) (p o : Pair) (back : List 
       ∙ ap₂ (λ (z : List Pair) (i : ℕ). remove (set z i q) (i + 1)) is (sym number)
       ∙ ap (λ (z : List Pair). remove z (length ahead + 1)) (set_here ahead p (o ∷ back) q) ∙ remove_next ahead q o back
 
-  -- what the two shares and the turn of the global state come to
-  shares : (d : Gstate) (q : Pair) → q.content.move ≡ gstate_xor (gstate_xor p.content.move o.content.move) d → gstate_of (q ∷ []) ≡ gstate_xor d (gstate_of (p ∷ o ∷ []))
-  shares d q e =
+  -- what the two deltas and the turn of the global state come to
+  deltas : (d : Gstate) (q : Pair) → q.content.move ≡ gstate_xor (gstate_xor p.content.move o.content.move) d → gstate_of (q ∷ []) ≡ gstate_xor d (gstate_of (p ∷ o ∷ []))
+  deltas d q e =
       let two : gstate_of (p ∷ o ∷ []) ≡ gstate_xor p.content.move o.content.move
       = gstate_cons p (o ∷ []) ∙ ap (gstate_xor p.content.move) (gstate_cons o [] ∙ gstate_right o.content.move) in
       gstate_cons q [] ∙ gstate_right q.content.move ∙ e ∙ gstate_comm (gstate_xor p.content.move o.content.move) d ∙ ap (gstate_xor d) (sym two)
@@ -136,11 +136,11 @@ module _ (t : Kept) (front : ℕ) (ahead : List Pair) (p o : Pair) (back : List 
   turned_back : (g s : Gstate) → gstate_xor (gstate_xor g s) g ≡ s
   turned_back g s = ap (λ z. gstate_xor z g) (gstate_comm g s) ∙ gstate_assoc s g g ∙ ap (gstate_xor s) (gstate_self g) ∙ gstate_right s
 
-  pub gstate_is : (state : Gstate) (q : Pair) → q.content.move ≡ share_taken t front state → gstate_of (ahead ++ q ∷ back) ≡ state
+  pub gstate_is : (state : Gstate) (q : Pair) → q.content.move ≡ delta_taken t front state → gstate_of (ahead ++ q ∷ back) ≡ state
   gstate_is state q e =
       let d = gstate_xor (gstate_of t.pairs) state in
       gstate_moved d ahead (p ∷ o ∷ []) (q ∷ []) back
-      (shares d q (e ∙ ap₂ (λ (x y : Pair). gstate_xor (gstate_xor x.content.move y.content.move) d) front_is gone_is))
+      (deltas d q (e ∙ ap₂ (λ (x y : Pair). gstate_xor (gstate_xor x.content.move y.content.move) d) front_is gone_is))
       ∙ ap (λ z. gstate_xor d (gstate_of z)) (sym is) ∙ turned_back (gstate_of t.pairs) state
 
 -- ---- the changes
@@ -191,8 +191,8 @@ module _ (t : Kept) (front : ℕ) (state : Gstate) (below : front + 1 < length t
   again : Each (λ p. IsWritableAgain p.content) t.pairs
   again = all_again t.disk t.pairs bytes contents
 
-  small_share : IsMoveState (share_taken t front state)
-  small_share =
+  small_delta : IsMoveState (delta_taken t front state)
+  small_delta =
       let k = there (λ p. IsWritableAgain p.content) again in
       let all = moves_joined t.pairs (each_weaker (λ (p : Pair). IsWritableAgain p.content) (λ (p : Pair). IsMoveState p.content.move) (λ p h. h.move) t.pairs again) in
       move_xor (gstate_xor (pair_in t front).content.move (pair_in t (front + 1)).content.move) (gstate_xor (gstate_of t.pairs) state)
@@ -203,8 +203,8 @@ module _ (t : Kept) (front : ℕ) (state : Gstate) (below : front + 1 < length t
       let k = there (λ p. IsWritableAgain p.content) again in
       let held = completes_to (raw_at t.disk (pair_in t front).at) (pair_in t front).content (there (λ p. content_at t.disk p.at ≡ Some p.content) contents).0 in
       ap (λ o. option_and_then completed (option_and_then (λ (x : RawContent). changed_by x (taking_changes t front state)) o)) held.is
-      ∙ takes_tail (pair_in t front).content held.raw (tail_taken t front) (share_taken t front state) held.complete
-      (over_again (pair_in t front).content.tail (pair_in t (front + 1)).content.tail k.1.tail) small_share
+      ∙ takes_tail (pair_in t front).content held.raw (tail_taken t front) (delta_taken t front state) held.complete
+      (over_again (pair_in t front).content.tail (pair_in t (front + 1)).content.tail k.1.tail) small_delta
 
 module _ (t : Kept) (front : ℕ) (state : Gstate) (below : front + 1 < length t.pairs) (made : made_in_thread t front (taking_changes t front state) ≡ Some (with_tail_taken t front state)) where
   pub can_drop : CanDrop t front (taking_changes t front state)
@@ -235,7 +235,7 @@ module _ (t : Kept) (front : ℕ) (state : Gstate) (below : front + 1 < length t
         map = is.map;
       }
 
-  pub left_by_drop : (left : Blocks) → IsLeft t front (taking_changes t front state) left → IsLeftByDrop t front state left
+  pub left_by_drop : (left : Blocks) → IsLeftByChange t front (taking_changes t front state) left → IsLeftByDrop t front state left
   left_by_drop left is = record { content = is.content; is = go is.is; written = is.written }
     where
       go : (is.content ≡ (pair_in t front).content) ⊎ ((made_in_thread t front (taking_changes t front state) ≡ Some is.content) × FitsPair t.disk.block_size t.disk.page is.content)

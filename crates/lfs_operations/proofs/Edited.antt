@@ -30,7 +30,7 @@ use Rattle.lfs_model.proofs.OneCommit.{remove_attr_completed, set_attr_completed
 use Rattle.lfs_model.proofs.Sites.{Site, thread_at, begin_of}
 use Rattle.lfs_thread.specs.Device.{StopsLeave}
 use Rattle.lfs_thread.specs.Kept.{Kept}
-use Rattle.lfs_thread.specs.Steps.{CanChange, IsChanged, IsLeft, IsRefused}
+use Rattle.lfs_thread.specs.Steps.{CanChange, IsChanged, IsLeftByChange, IsRefused}
 use Rattle.lfs_operations.specs.Changing.{CanPut, IsLeftByPut, IsPut}
 use Rattle.lfs_operations.specs.Editing.{CanEdit, CanSetAttribute, HasRemovedAttribute, HasSetAttribute, slot_at, with_attributes_at}
 use Rattle.lfs_operations.specs.Ready.{HasBecome}
@@ -199,6 +199,6 @@ module _ (t : Kept) (index id kind : ℕ) (low : kind < 2 ^ 8) (can : CanEdit t 
             remove_completed t index id can (without_attribute kind) (RemoveAttribute id kind) remove_does still_fits kind (λ a. refl) new x z given tree is_path;
       }
 
-  pub remove_survives : (new : List Event) → StopsLeave t.history new (IsLeft t index (RemoveAttribute id kind ∷ []))
+  pub remove_survives : (new : List Event) → StopsLeave t.history new (IsLeftByChange t index (RemoveAttribute id kind ∷ []))
       → Survives t.disk t.history new (tree_in t.disk t.pairs) (with_attributes_at t can.path can.name (without_attribute kind))
   remove_survives new stops = edit_survives t index id can (without_attribute kind) (RemoveAttribute id kind) remove_does still_fits new (λ clean. LeavesOnly-weaker (λ left x. inl x) (stops clean))

@@ -29,12 +29,12 @@ pub mod MakingCounts
 pub mod MakingPlaces
 pub mod MakingEntered
 pub mod MakingThreaded
-pub mod MakingTold
+pub mod MakingReported
 pub mod MkdirAtLast
 pub mod MakingRoutes
 pub mod Mkdir
 pub mod MakingWrites
-pub mod MovTelling
+pub mod MovReporting
 pub mod RenameSlots
 pub mod RenameRead
 pub mod RenameMade
@@ -56,7 +56,7 @@ pub mod UnlinkedWhole
 pub mod UnlinkedSteps
 pub mod MovRename
 pub mod MovLater
-pub mod RecoverShares
+pub mod RecoverDeltas
 pub mod RecoverPlaced
 pub mod RecoverLists
 pub mod RecoverLoop
@@ -77,7 +77,7 @@ pub mod RecoverWrites
 pub mod RecoverEnded
 pub mod OntoGone
 pub mod OntoWithin
-pub mod OntoTelling
+pub mod OntoReporting
 pub mod OntoWritten
 pub mod OntoPieces
 pub mod OntoAcross

@@ -82,17 +82,17 @@ module _ (t : Kept) (index : ℕ) (p : Pair) (here : pair_in t index ≡ p) (hol
   abbrev c : CompletesTo (raw_at t.disk (pair_in t index).at) p.content
   c = completes_to (raw_at t.disk (pair_in t index).at) p.content holds
 
-  abbrev share : Gstate
-  share = turned (pair_in t index).content.move
+  abbrev delta : Gstate
+  delta = turned (pair_in t index).content.move
 
   parts : IsCompleted c.raw p.content
   parts = completed_parts c.raw p.content c.complete
 
-  share_is : share ≡ turned p.content.move
-  share_is = ap (λ (z : Pair). turned z.content.move) here
+  delta_is : delta ≡ turned p.content.move
+  delta_is = ap (λ (z : Pair). turned z.content.move) here
 
-  share_state : IsMoveState share
-  share_state =
+  delta_state : IsMoveState delta
+  delta_state =
       let h = subst IsMoveState (sym parts.move ∙ ap (λ (z : Pair). z.content.move) (sym here)) (logged c.raw c.is).move in
       record { kind = h.kind; id = h.id; pair = h.pair }
 
@@ -102,20 +102,20 @@ module _ (t : Kept) (index : ℕ) (p : Pair) (here : pair_in t index ≡ p) (hol
   threaded_now fresh = record { slots = p.content.slots; tail = Some (record { hard = false; to = fresh }); move = turned p.content.move }
 
   abbrev raw_threaded : ℕ × ℕ → RawContent
-  raw_threaded fresh = record c.raw { tail = Some (record { hard = false; to = fresh }); move = share }
+  raw_threaded fresh = record c.raw { tail = Some (record { hard = false; to = fresh }); move = delta }
 
   threads : (fresh : ℕ × ℕ) → IsAddress fresh → fresh.0 ≢ fresh.1 → changed_by c.raw (threading t index fresh) ≡ Some (raw_threaded fresh)
   threads fresh address apart =
       let named : RawContent = record c.raw { tail = tail_with false fresh } in
-      does_first (PutTail false (Some fresh)) (PutMove share ∷ []) c.raw named (raw_threaded fresh) (puts_tail c.raw false fresh address)
-      (does_first (PutMove share) [] named (record named { move = share }) (raw_threaded fresh) (puts_move named share share_state) (ap (λ (tail : Option Tail). Some (record c.raw { tail = tail; move = share })) (tail_is fresh apart)))
+      does_first (PutTail false (Some fresh)) (PutMove delta ∷ []) c.raw named (raw_threaded fresh) (puts_tail c.raw false fresh address)
+      (does_first (PutMove delta) [] named (record named { move = delta }) (raw_threaded fresh) (puts_move named delta delta_state) (ap (λ (tail : Option Tail). Some (record c.raw { tail = tail; move = delta })) (tail_is fresh apart)))
 
   pub threaded_made : (fresh : ℕ × ℕ) → IsAddress fresh → fresh.0 ≢ fresh.1 → made_in_thread t index (threading t index fresh) ≡ Some (threaded_now fresh)
   threaded_made fresh address apart =
       ap (λ o. option_and_then completed (option_and_then (λ (r : RawContent). changed_by r (threading t index fresh)) o)) c.is
       ∙ ap (λ o. option_and_then completed o) (threads fresh address apart)
       ∙ completed_from (raw_threaded fresh) p.content.slots parts.slots
-      ∙ ap (λ m. Some (record { slots = p.content.slots; tail = Some (record { hard = false; to = fresh }); move = m })) share_is
+      ∙ ap (λ m. Some (record { slots = p.content.slots; tail = Some (record { hard = false; to = fresh }); move = m })) delta_is
 
   -- ---- the entry comes
 
@@ -124,15 +124,15 @@ module _ (t : Kept) (index : ℕ) (p : Pair) (here : pair_in t index ≡ p) (hol
     named_now = record { slots = insert p.content.slots id (new_directory name to); tail = p.content.tail; move = turned p.content.move }
 
     abbrev raw_named : RawContent
-    raw_named = record c.raw { slots = insert c.raw.slots id (slot_with (directory_name_type, name) (directory_struct_type, pair_bytes to)); move = share }
+    raw_named = record c.raw { slots = insert c.raw.slots id (slot_with (directory_name_type, name) (directory_struct_type, pair_bytes to)); move = delta }
 
     names : changed_by c.raw (naming t index id name to) ≡ Some raw_named
     names =
         let l = complete_length c.raw.slots p.content.slots parts.slots in
         let few = fits.count in
         let created : RawContent = record c.raw { slots = insert c.raw.slots id (slot_with (directory_name_type, name) (directory_struct_type, pair_bytes to)) } in
-        creates_with_struct c.raw id directory_name_type name directory_struct_type (pair_bytes to) (PutMove share ∷ []) raw_named (omega arith) (omega arith) (directory_name name short) (branch_part to)
-        (does_first (PutMove share) [] created raw_named raw_named (puts_move created share share_state) refl)
+        creates_with_struct c.raw id directory_name_type name directory_struct_type (pair_bytes to) (PutMove delta ∷ []) raw_named (omega arith) (omega arith) (directory_name name short) (branch_part to)
+        (does_first (PutMove delta) [] created raw_named raw_named (puts_move created delta delta_state) refl)
 
     raw_made : made_at t.disk (pair_in t index).at (naming t index id name to) ≡ Some raw_named
     raw_made = ap (λ o. option_and_then (λ (r : RawContent). changed_by r (naming t index id name to)) o) c.is ∙ names
@@ -144,7 +144,7 @@ module _ (t : Kept) (index : ℕ) (p : Pair) (here : pair_in t index ≡ p) (hol
     now_complete =
         completed_from raw_named (insert p.content.slots id (new_directory name to))
         (complete_insert c.raw.slots p.content.slots id (slot_with (directory_name_type, name) (directory_struct_type, pair_bytes to)) (new_directory name to) parts.slots slot_is)
-        ∙ ap₂ (λ t m. Some (record { slots = insert p.content.slots id (new_directory name to); tail = t; move = m })) (sym parts.tail) share_is
+        ∙ ap₂ (λ t m. Some (record { slots = insert p.content.slots id (new_directory name to); tail = t; move = m })) (sym parts.tail) delta_is
 
     pub named_made : made_in_thread t index (naming t index id name to) ≡ Some named_now
     named_made = ap (λ o. option_and_then completed o) raw_made ∙ now_complete

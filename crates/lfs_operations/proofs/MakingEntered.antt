@@ -29,7 +29,7 @@ use Rattle.lfs_model.proofs.Splices.{IsDevice, slots_in}
 use Rattle.lfs_model.proofs.StepsTaken as taken
 use Rattle.lfs_model.proofs.Unchanged.{HasFirst}
 use Rattle.lfs_thread.specs.Kept.{Kept}
-use Rattle.lfs_thread.specs.Steps.{pair_in, made_in_thread, front_pair, back_pair, AreHalves, HasShape, IsAsBefore, IsChanged, IsLeft, IsWrittenAs, SlotsHaveFirst}
+use Rattle.lfs_thread.specs.Steps.{pair_in, made_in_thread, front_pair, back_pair, AreHalves, HasShape, IsAsBefore, IsChanged, IsLeftByChange, IsWrittenAs, SlotsHaveFirst}
 use Rattle.lfs_operations.specs.Changing.{AreTwoFree, IsCutIn, IsLeftByPut, IsPut, IsTooLarge}
 use Rattle.lfs_operations.specs.Ready.{NoneComes, StayTaken}
 use Rattle.lfs_operations.proofs.MakingCounts.{used_count_now}
@@ -39,7 +39,7 @@ use Rattle.lfs_operations.proofs.Placing.{IsPlaced, device}
 use Rattle.lfs_operations.proofs.Splicing.{AreOn, cut_front}
 
 -- At the site stands the pair of that number. The changes make a content of it with the same tail, in which the slot of a
--- directory stands between the others, and a share by which the global state has nothing to recover.
+-- directory stands between the others, and a delta by which the global state has nothing to recover.
 pub record IsEntering (t : Kept) (index : ℕ) (changes : List Change) (w : Site) (p : Pair) (l : List Slot) (name : Name) (to : ℕ × ℕ) (r : List Slot) : Type 0 where
   pub accepted : IsAccepted t.disk t.pairs
   pub writable : IsWritable t.disk t.pairs
@@ -144,12 +144,12 @@ module _ (t : Kept) (index : ℕ) (changes : List Change) (w : Site) (p : Pair) 
 
   enters_from : (disk : Disk) (q : Pair) (more : List Pair) → q.at ≡ p.at → gstate_of (q ∷ more) ≡ gstate_of (one ∷ []) → slots_in (q ∷ more) ≡ l ++ u ∷ r → Became t.disk p (with_slots (l ++ u ∷ r) p) q more
       → IsDistinct nat_eq (blocks_of more ++ used_blocks t.disk (thread_at w (p ∷ []))) → Each (λ b. b < block_count t.disk) (blocks_of more) → IsPlaced t.disk disk p q more (blocks_of more) → Enters t w p l name to r disk q more
-  enters_from disk q more at share is became distinct range placed = record {
+  enters_from disk q more at delta is became distinct range placed = record {
     step = record {
       accepted = accepted_there;
       site = k.site;
       no_move = subst (λ z. HasNoMove (gstate_of z)) k.there k.none;
-      still_none = no_move_from (thread_at w (q ∷ more)) (gstate_now q more share);
+      still_none = no_move_from (thread_at w (q ∷ more)) (gstate_now q more delta);
       device = device t.disk disk w p q more (blocks_of more) accepted_there distinct placed;
       free = record {
         distinct = subst (λ z. IsDistinct nat_eq (z ++ used_blocks t.disk (thread_at w (p ∷ [])))) (sym (append-nil (blocks_of more))) distinct;
@@ -173,7 +173,7 @@ module _ (t : Kept) (index : ℕ) (changes : List Change) (w : Site) (p : Pair) 
       fit = (k.fit, tt);
       filled = λ e. some_filled l r u;
     };
-    still = gstate_now q more share;
+    still = gstate_now q more delta;
   }
 
   enters_one : (disk : Disk) → IsWrittenAs t index k.content disk → FitsPair t.disk.block_size t.disk.page k.content → Enters t w p l name to r disk (record { at = p.at; content = k.content }) []
@@ -267,7 +267,7 @@ module _ (t : Kept) (index : ℕ) (changes : List Change) (w : Site) (p : Pair) 
   shape_of : (left : Blocks) → length left ≡ length t.disk.blocks → HasShape t.disk (with_blocks left t.disk)
   shape_of left e = record { block_size = refl; page = refl; order = refl; count = e }
 
-  left_one : (left : Blocks) → IsLeft t index changes left → Stays (with_blocks left t.disk) ⊎ HasEntry t w p l name to r (with_blocks left t.disk)
+  left_one : (left : Blocks) → IsLeftByChange t index changes left → Stays (with_blocks left t.disk) ⊎ HasEntry t w p l name to r (with_blocks left t.disk)
   left_one left is = go is.is
     where
       go : (is.content ≡ (pair_in t index).content) ⊎ ((made_in_thread t index changes ≡ Some is.content) × FitsPair t.disk.block_size t.disk.page is.content)

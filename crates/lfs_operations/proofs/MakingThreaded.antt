@@ -8,7 +8,7 @@ use Rattle.lfs_model.specs.Blocks.{Blocks, SameButThese}
 use Rattle.lfs_model.specs.BlockSets.{AreUsed}
 use Rattle.lfs_model.specs.Content.{content_at, holder, holder_at}
 use Rattle.lfs_model.specs.Disk.{Disk, block_at, block_count}
-use Rattle.lfs_model.specs.PowerLoss.{IsLeft, with_blocks}
+use Rattle.lfs_model.specs.PowerLoss.{IsLeftByStop, with_blocks}
 use Rattle.lfs_model.specs.Slots.{Content, FitsPair, Gstate, no_gstate, gstate_xor, same_pair}
 use Rattle.lfs_model.specs.Thread.{Pair, blocks_of, gstate_of, is_hard}
 use Rattle.lfs_model.specs.Tree.{Path, Tree}
@@ -20,7 +20,7 @@ use Rattle.lfs_model.proofs.Beside.{IsStepBeside, beside_shape, last_site, other
 use Rattle.lfs_model.proofs.Committed.{no_move_from}
 use Rattle.lfs_model.proofs.Counts.{each_right, count, count_append, count_here, once_from_distinct}
 use Rattle.lfs_model.proofs.Devices.{content_same}
-use Rattle.lfs_model.proofs.Global.{HasNoMove, gstate_assoc, gstate_cons, gstate_left, gstate_moved, gstate_right, sync_share, turned, turned_is}
+use Rattle.lfs_model.proofs.Global.{HasNoMove, gstate_assoc, gstate_cons, gstate_left, gstate_moved, gstate_right, sync_delta, turned, turned_is}
 use Rattle.lfs_model.proofs.Moves.{shown_before, shown_behind}
 use Rattle.lfs_model.proofs.Pairs.{pair_itself, put_at}
 use Rattle.lfs_model.proofs.Sites.{Site, begin_of, dirs_at, thread_at, IsSite}
@@ -111,15 +111,15 @@ module _ (t : Kept) (ready : IsReady t) (last : ℕ) (chain before left after : 
 
   -- ---- the global state
 
-  turned_share : gstate_of (y ∷ f ∷ []) ≡ gstate_xor sync_share (gstate_of (x ∷ []))
-  turned_share =
+  turned_delta : gstate_of (y ∷ f ∷ []) ≡ gstate_xor sync_delta (gstate_of (x ∷ []))
+  turned_delta =
       gstate_cons y (f ∷ []) ∙ ap (gstate_xor (turned x.content.move)) (gstate_cons f [] ∙ gstate_left (gstate_of []))
-      ∙ ap (λ (z : Gstate). gstate_xor z (gstate_of [])) (sym (turned_is x.content.move)) ∙ gstate_assoc sync_share x.content.move (gstate_of []) ∙ ap (gstate_xor sync_share) (sym (gstate_cons x []))
+      ∙ ap (λ (z : Gstate). gstate_xor z (gstate_of [])) (sym (turned_is x.content.move)) ∙ gstate_assoc sync_delta x.content.move (gstate_of []) ∙ ap (gstate_xor sync_delta) (sym (gstate_cons x []))
 
-  pub state_now : gstate_of (thread_at (last_site chain before left after) (naming_pair x fresh ∷ fresh_pair x fresh ∷ [])) ≡ sync_share
+  pub state_now : gstate_of (thread_at (last_site chain before left after) (naming_pair x fresh ∷ fresh_pair x fresh ∷ [])) ≡ sync_delta
   state_now =
-      ap gstate_of (sym (append_assoc chain (before ++ left) (y ∷ f ∷ after))) ∙ gstate_moved sync_share (chain ++ (before ++ left)) (x ∷ []) (y ∷ f ∷ []) after turned_share
-      ∙ ap (λ z. gstate_xor sync_share (gstate_of z)) (append_assoc chain (before ++ left) (x ∷ after)) ∙ ap (gstate_xor sync_share) settled_there ∙ gstate_right sync_share
+      ap gstate_of (sym (append_assoc chain (before ++ left) (y ∷ f ∷ after))) ∙ gstate_moved sync_delta (chain ++ (before ++ left)) (x ∷ []) (y ∷ f ∷ []) after turned_delta
+      ∙ ap (λ z. gstate_xor sync_delta (gstate_of z)) (append_assoc chain (before ++ left) (x ∷ after)) ∙ ap (gstate_xor sync_delta) settled_there ∙ gstate_right sync_delta
 
   -- ---- the step
 
@@ -172,7 +172,7 @@ module _ (t : Kept) (ready : IsReady t) (last : ℕ) (chain before left after : 
   fits_now c m = subst (FitsPair t.disk.block_size t.disk.page) (sym (made_same c m)) (fits_same t.disk x y refl (within_at t.disk w x [] writable_there).pair)
 
   -- only the blocks of the fresh pair may differ: the image shows the tree that it showed
-  pub left_beside : (blocks : Blocks) (tree : Tree) → SameButThese (two_of fresh) t.disk.blocks blocks → IsLeft (with_blocks blocks t.disk) (tree_in t.disk t.pairs) tree
+  pub left_beside : (blocks : Blocks) (tree : Tree) → SameButThese (two_of fresh) t.disk.blocks blocks → IsLeftByStop (with_blocks blocks t.disk) (tree_in t.disk t.pairs) tree
   left_beside blocks tree others =
       let n = nothing_came t.disk (with_blocks blocks t.disk) w x e.site accepted_there (device t.disk (with_blocks blocks t.disk) w x x [] (fresh.0 ∷ fresh.1 ∷ []) accepted_there distinct placed) in
       record {
@@ -254,7 +254,7 @@ module _ (t : Kept) (ready : IsReady t) (last : ℕ) (chain before left after : 
 
     -- a stop leaves the tree from before it
     pub left_threading : (left_blocks : Blocks) (tree : Tree) → IsLeftByJoin (with_map t (flying t.map fresh)) last fresh (threading t last fresh) left_blocks
-        → IsLeft (with_blocks left_blocks t.disk) (tree_in t.disk t.pairs) tree
+        → IsLeftByStop (with_blocks left_blocks t.disk) (tree_in t.disk t.pairs) tree
     left_threading blocks tree is = go is.content
       where
         disk : Disk
@@ -263,7 +263,7 @@ module _ (t : Kept) (ready : IsReady t) (last : ℕ) (chain before left after : 
         shape : HasShape t.disk (with_blocks blocks t.disk)
         shape = record { block_size = refl; page = refl; order = refl; count = is.others.count }
 
-        go : IsAsBefore held last (with_blocks blocks t.disk) ⊎ IsJoinedOn held last fresh (threading t last fresh) (with_blocks blocks t.disk) → IsLeft (with_blocks blocks t.disk) (tree_in t.disk t.pairs) tree
+        go : IsAsBefore held last (with_blocks blocks t.disk) ⊎ IsJoinedOn held last fresh (threading t last fresh) (with_blocks blocks t.disk) → IsLeftByStop (with_blocks blocks t.disk) (tree_in t.disk t.pairs) tree
         go (inl b) =
             let on = device t.disk (with_blocks blocks t.disk) w x x [] (fresh.0 ∷ fresh.1 ∷ []) accepted_there distinct
             (placed_still t last w x e.there e.place (with_blocks blocks t.disk) fresh shape is.others (record { holds = b.holds; first = b.first })) in
@@ -279,5 +279,5 @@ module _ (t : Kept) (ready : IsReady t) (last : ℕ) (chain before left after : 
             let c = made_same j.content j.made in
             let step = step_from (with_blocks blocks t.disk) (placed_from (with_blocks blocks t.disk) shape is.others (ap (content_at (with_blocks blocks t.disk)) (sym at) ∙ j.holds ∙ ap (λ (z : Content). Some z) c)
             (j.behind ∙ ap (λ (z : Pair). Some z.content) behind_is) (subst (λ (z : Content). StaysFirst t.disk (pair_in t last).at z (with_blocks blocks t.disk)) c j.first)) in
-            subst (λ z. IsLeft (with_blocks blocks t.disk) (tree_in t.disk z) tree) (sym e.there)
+            subst (λ z. IsLeftByStop (with_blocks blocks t.disk) (tree_in t.disk z) tree) (sym e.there)
             (taken_before t.disk (thread_at w (x ∷ [])) (with_blocks blocks t.disk) (thread_at w (y ∷ ([] ++ f ∷ []))) (λ d. d) tree (first_taken (with_blocks blocks t.disk) step))

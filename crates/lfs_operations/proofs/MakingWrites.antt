@@ -4,7 +4,7 @@ use Rattle.std.specs.Prelude.{All}
 use Rattle.std.proofs.lemmas.List.Elements.{All-from_recursion, recursion_from_All}
 use Rattle.lfs_model.specs.Blocks.{Blocks, SameButThese}
 use Rattle.lfs_model.specs.BlockSets.{IsFree}
-use Rattle.lfs_model.specs.PowerLoss.{Survives, IsLeft as IsLeftOf, with_blocks}
+use Rattle.lfs_model.specs.PowerLoss.{Survives, IsLeftByStop as IsLeftOf, with_blocks}
 use Rattle.lfs_model.specs.Tree.{Tree}
 use Rattle.lfs_model.specs.History.{Event}
 use Rattle.lfs_model.specs.Disk.{Disk}

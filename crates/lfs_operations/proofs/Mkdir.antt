@@ -14,7 +14,7 @@ use Rattle.lfs_model.specs.InDirectory.{Belongs}
 use Rattle.lfs_model.specs.LoggedContent.{IsAddress}
 use Rattle.lfs_model.specs.Names.{Name, is_name, is_component}
 use Rattle.lfs_model.specs.Operations as ops
-use Rattle.lfs_model.specs.PowerLoss.{IsLeft as IsLeftOf, with_blocks}
+use Rattle.lfs_model.specs.PowerLoss.{IsLeftByStop as IsLeftOf, with_blocks}
 use Rattle.lfs_model.specs.Slots.{Content, FitsPair, Gstate, Slot, charge_of, no_gstate, gstate_xor, same_pair}
 use Rattle.lfs_model.specs.SlotEdits.{new_directory, with_slots}
 use Rattle.lfs_model.specs.Thread.{Pair, blocks_of, gstate_of, is_hard, next_of, superblocks_before}
@@ -28,7 +28,7 @@ use Rattle.lfs_model.proofs.Changes.{chain_now}
 use Rattle.lfs_model.proofs.Chained.{InTwo, mkdir_in_two}
 use Rattle.lfs_model.proofs.Committed.{IsCompleted, no_move_from, recovered_from}
 use Rattle.lfs_model.proofs.Counts.{each_right}
-use Rattle.lfs_model.proofs.Global.{HasNoMove, gstate_assoc, gstate_cons, gstate_moved, gstate_self, sync_share, turned, turned_is}
+use Rattle.lfs_model.proofs.Global.{HasNoMove, gstate_assoc, gstate_cons, gstate_moved, gstate_self, sync_delta, turned, turned_is}
 use Rattle.lfs_model.proofs.Halves.{entry_small}
 use Rattle.lfs_model.proofs.Moves.{place_at, insert_here}
 use Rattle.lfs_model.proofs.Names.{IsPlace}
@@ -192,7 +192,7 @@ module _ (t : Kept) (index id : ℕ) (name : Name) (can : CanMake t index id nam
     writable_now : IsWritable m.disk m.pairs
     writable_now = subst (IsWritable m.disk) (sym h.pairs) first.writable
 
-    state_is : gstate_of m.pairs ≡ sync_share
+    state_is : gstate_of m.pairs ≡ sync_delta
     state_is = ap gstate_of h.pairs ∙ state_now t can.ready last w.chain w.before way.left w.after x way.end fresh two made
 
     fits_there : FitsPair m.disk.block_size m.disk.page way.p2.content
@@ -232,17 +232,17 @@ module _ (t : Kept) (index id : ℕ) (name : Name) (can : CanMake t index id nam
         id name fresh (name_length name can.is_name) address id_within fits_there (below m index v way.p2 there_now placed) (entry_small m.disk.block_size m.disk.page u large_now entry_fits)
 
     -- the sync bit goes
-    turned_back : gstate_of (one ∷ []) ≡ gstate_xor sync_share (gstate_of (way.p2 ∷ []))
+    turned_back : gstate_of (one ∷ []) ≡ gstate_xor sync_delta (gstate_of (way.p2 ∷ []))
     turned_back =
-        gstate_cons one [] ∙ ap (λ (z : Gstate). gstate_xor z (gstate_of [])) (sym (turned_is way.p2.content.move)) ∙ gstate_assoc sync_share way.p2.content.move (gstate_of [])
-        ∙ ap (gstate_xor sync_share) (sym (gstate_cons way.p2 []))
+        gstate_cons one [] ∙ ap (λ (z : Gstate). gstate_xor z (gstate_of [])) (sym (turned_is way.p2.content.move)) ∙ gstate_assoc sync_delta way.p2.content.move (gstate_of [])
+        ∙ ap (gstate_xor sync_delta) (sym (gstate_cons way.p2 []))
 
     still : gstate_of (thread_at v (one ∷ [])) ≡ no_gstate
     still =
         ap gstate_of (sym (append_assoc v.chain (v.before ++ v.left) (one ∷ (v.right ++ v.after))))
-        ∙ gstate_moved sync_share (v.chain ++ (v.before ++ v.left)) (way.p2 ∷ []) (one ∷ []) (v.right ++ v.after) turned_back
-        ∙ ap (λ z. gstate_xor sync_share (gstate_of z)) (append_assoc v.chain (v.before ++ v.left) (way.p2 ∷ (v.right ++ v.after)))
-        ∙ ap (gstate_xor sync_share) (ap gstate_of (sym there_now) ∙ state_is) ∙ gstate_self sync_share
+        ∙ gstate_moved sync_delta (v.chain ++ (v.before ++ v.left)) (way.p2 ∷ []) (one ∷ []) (v.right ++ v.after) turned_back
+        ∙ ap (λ z. gstate_xor sync_delta (gstate_of z)) (append_assoc v.chain (v.before ++ v.left) (way.p2 ∷ (v.right ++ v.after)))
+        ∙ ap (gstate_xor sync_delta) (ap gstate_of (sym there_now) ∙ state_is) ∙ gstate_self sync_delta
 
     entering : IsEntering m index (naming m index id name fresh) v way.p2 b.left name fresh b.right
     entering = record {

@@ -90,7 +90,7 @@ module _ (disk : Disk) (w : Site) (p : Pair) (l : List Slot) (u : Slot) (r : Lis
 
     pub ended_state : gstate_of qs ≡ sync_in (gstate_of ps)
     ended_state = site_gstate_moved (move_in g) w (p ∷ []) (q ∷ [])
-        (x.share ∙ ap (gstate_xor (move_in g)) (sym (gstate_cons p [] ∙ gstate_right p.content.move)))
+        (x.delta ∙ ap (gstate_xor (move_in g)) (sym (gstate_cons p [] ∙ gstate_right p.content.move)))
         ∙ move_out g
 
     still_none : HasNoMove (gstate_of qs)

@@ -5,7 +5,7 @@ use Rattle.lfs_model.specs.Blocks.{Blocks}
 use Rattle.lfs_model.specs.Disk.{Disk}
 use Rattle.lfs_model.specs.History.{Event}
 use Rattle.lfs_model.specs.LoggedContent.{IsMoveState}
-use Rattle.lfs_model.specs.PowerLoss.{IsLeft as IsLeftOf, Survives, with_blocks}
+use Rattle.lfs_model.specs.PowerLoss.{IsLeftByStop as IsLeftOf, Survives, with_blocks}
 use Rattle.lfs_model.specs.Slots.{Content, FitsPair, Gstate, Slot, same_pair}
 use Rattle.lfs_model.specs.Thread.{Pair, gstate_of, is_hard}
 use Rattle.lfs_model.specs.View.{IsAccepted}

@@ -12,7 +12,7 @@ use Rattle.lfs_model.specs.Content.{RawContent, content_at, raw_at, completed}
 use Rattle.lfs_model.specs.Disk.{Disk}
 use Rattle.lfs_model.specs.History.{Event}
 use Rattle.lfs_model.specs.LoggedContent.{IsAddress, IsMoveState}
-use Rattle.lfs_model.specs.PowerLoss.{IsLeft as IsLeftOf, Survives, with_blocks}
+use Rattle.lfs_model.specs.PowerLoss.{IsLeftByStop as IsLeftOf, Survives, with_blocks}
 use Rattle.lfs_model.specs.Slots.{Slot, FitsPair, Gstate, Tail, gstate_xor, same_pair, slot_size}
 use Rattle.lfs_model.specs.Thread.{Pair, gstate_of, next_of, superblocks_before}
 use Rattle.lfs_model.specs.View.{IsAccepted}
@@ -32,8 +32,8 @@ use Rattle.lfs_model.proofs.Superblocks.{pairs_behind}
 use Rattle.lfs_model.proofs.Writable.{flag}
 use Rattle.lfs_thread.specs.Device.{StopsLeave}
 use Rattle.lfs_thread.specs.Kept.{Kept}
-use Rattle.lfs_thread.specs.Steps.{CanChange, IsChanged, IsLeft, IsRefused, SlotsHaveFirst, made_in_thread, no_pair, pair_in, with_pair}
-use Rattle.lfs_operations.specs.MoveEnds.{CanEnd, HasEnded, content_without, end_changes, is_led, move_in, share_without_move, sync_in}
+use Rattle.lfs_thread.specs.Steps.{CanChange, IsChanged, IsLeftByChange, IsRefused, SlotsHaveFirst, made_in_thread, no_pair, pair_in, with_pair}
+use Rattle.lfs_operations.specs.MoveEnds.{CanEnd, HasEnded, content_without, end_changes, is_led, move_in, delta_without_move, sync_in}
 use Rattle.lfs_operations.proofs.Held.{CompletesTo, completes_to}
 use Rattle.lfs_operations.proofs.MovEnd.{IsEnding, ended, ended_count, ended_firsts, ended_state}
 use Rattle.lfs_operations.proofs.MovSet.{HasTurned}
@@ -61,7 +61,7 @@ led_is w p i chain number =
     ap₂ (λ n z. flag false (take (i - n) z)) chain (pairs_behind w.chain (dirs_at w (p ∷ [])) chain)
     ∙ ap (flag false) (take_front (w.before ++ w.left) (p ∷ [] ++ (w.right ++ w.after)) (i - length w.chain) (let l = length-append w.chain (w.before ++ w.left) in omega arith))
 
-module _ (t : Kept) (pair id : ℕ) (can : CanEnd t pair id false) (address : IsAddress (share_without_move t pair).pair) where
+module _ (t : Kept) (pair id : ℕ) (can : CanEnd t pair id false) (address : IsAddress (delta_without_move t pair).pair) where
   abbrev h : HasSite t.pairs pair
   h = site_of_number t.disk t.pairs pair can.accepted can.begins can.below
 
@@ -87,7 +87,7 @@ module _ (t : Kept) (pair id : ℕ) (can : CanEnd t pair id false) (address : Is
   held = ap (λ (z : Pair). z.content.slots) (sym here) ∙ can.stands.held
 
   abbrev move : Gstate
-  move = share_without_move t pair
+  move = delta_without_move t pair
 
   -- ---- what the changes make
 
@@ -107,8 +107,8 @@ module _ (t : Kept) (pair id : ℕ) (can : CanEnd t pair id false) (address : Is
   parts : IsCompleted c.raw p.content
   parts = completed_parts c.raw p.content c.complete
 
-  share_is : IsMoveState p.content.move
-  share_is = subst IsMoveState (sym parts.move) (can.logged c.raw c.is).move
+  delta_is : IsMoveState p.content.move
+  delta_is = subst IsMoveState (sym parts.move) (can.logged c.raw c.is).move
 
   is_state : IsMoveState move
   is_state =
@@ -116,8 +116,8 @@ module _ (t : Kept) (pair id : ℕ) (can : CanEnd t pair id false) (address : Is
       let m = within in
       let own = ap (λ (z : Pair). z.content.move) here in
       record {
-        kind = xor_lt 11 (gstate_of t.pairs).kind (pair_in t pair).content.move.kind (let e = can.kind in omega arith) (let k = share_is.kind in let e = ap (λ (z : Gstate). z.kind) own in omega arith);
-        id = xor_lt 10 (gstate_of t.pairs).id (pair_in t pair).content.move.id (let e = can.id_is in omega arith) (let k = share_is.id in let e = ap (λ (z : Gstate). z.id) own in omega arith);
+        kind = xor_lt 11 (gstate_of t.pairs).kind (pair_in t pair).content.move.kind (let e = can.kind in omega arith) (let k = delta_is.kind in let e = ap (λ (z : Gstate). z.kind) own in omega arith);
+        id = xor_lt 10 (gstate_of t.pairs).id (pair_in t pair).content.move.id (let e = can.id_is in omega arith) (let k = delta_is.id in let e = ap (λ (z : Gstate). z.id) own in omega arith);
         pair = address;
       }
 
@@ -125,7 +125,7 @@ module _ (t : Kept) (pair id : ℕ) (can : CanEnd t pair id false) (address : Is
   raw_mid = record c.raw { slots = remove c.raw.slots id }
 
   abbrev raw_now : RawContent
-  raw_now = record c.raw { slots = remove c.raw.slots id; move = share_without_move t pair }
+  raw_now = record c.raw { slots = remove c.raw.slots id; move = delta_without_move t pair }
 
   changed_now : changed_by c.raw (end_changes t pair id) ≡ Some raw_now
   changed_now =
@@ -210,10 +210,10 @@ module _ (t : Kept) (pair id : ℕ) (can : CanEnd t pair id false) (address : Is
     filled = filled;
   }
 
-  abbrev end_share : Gstate
-  end_share = gstate_xor (move_in (gstate_of (thread_at w (p ∷ [])))) p.content.move
+  abbrev end_delta : Gstate
+  end_delta = gstate_xor (move_in (gstate_of (thread_at w (p ∷ [])))) p.content.move
 
-  move_is : move ≡ end_share
+  move_is : move ≡ end_delta
   move_is = ap₂ (λ z (x : Pair). gstate_xor (move_in (gstate_of z)) x.content.move) h.is here
 
   -- the pair alone, with the other slots
@@ -264,7 +264,7 @@ module _ (t : Kept) (pair id : ℕ) (can : CanEnd t pair id false) (address : Is
 
   -- ---- at a stop
 
-  left_tree : (left : Blocks) → IsLeft t pair (end_changes t pair id) left → IsLeftOf (with_blocks left t.disk) (tree_in t.disk t.pairs) (tree_in t.disk t.pairs)
+  left_tree : (left : Blocks) → IsLeftByChange t pair (end_changes t pair id) left → IsLeftOf (with_blocks left t.disk) (tree_in t.disk t.pairs) (tree_in t.disk t.pairs)
   left_tree left is = go (left_alone t pair (end_changes t pair id) w p (l ++ r) move turn left is)
     where
       go : Stays t pair (end_changes t pair id) w p (l ++ r) move turn (with_blocks left t.disk) ⊎ HasTurned t.disk w p (l ++ r) move (with_blocks left t.disk) q_of []
@@ -286,5 +286,5 @@ module _ (t : Kept) (pair id : ℕ) (can : CanEnd t pair id false) (address : Is
             tree = inl (k.follows.shows ∙ ap (tree_in t.disk) (sym h.is));
           }
 
-  pub end_survives : (new : List Event) → StopsLeave t.history new (IsLeft t pair (end_changes t pair id)) → Survives t.disk t.history new (tree_in t.disk t.pairs) (tree_in t.disk t.pairs)
+  pub end_survives : (new : List Event) → StopsLeave t.history new (IsLeftByChange t pair (end_changes t pair id)) → Survives t.disk t.history new (tree_in t.disk t.pairs) (tree_in t.disk t.pairs)
   end_survives new stops clean = LeavesOnly-weaker left_tree (stops clean)

@@ -13,10 +13,10 @@ use Rattle.lfs_model.specs.LoggedContent.{IsAddress}
 use Rattle.lfs_model.proofs.AfterStops.{survives_then}
 use Rattle.lfs_model.proofs.Histories.{AtWorst-read, LeavesOnly-reads, LeavesOnly-trans, OnlyReads-trans, StayUnprogrammed-reads, StayUnprogrammed-trans}
 use Rattle.lfs_thread.specs.Kept.{Kept, State}
-use Rattle.lfs_thread.specs.Steps.{HasTold, IsOnlyRead, pair_in}
+use Rattle.lfs_thread.specs.Steps.{HasReported, IsOnlyRead, pair_in}
 use Rattle.lfs_operations.specs.Changing.{CanPut, IsPut, IsTooLarge, HasTwoFree, has_failed}
 use Rattle.lfs_operations.specs.Editing.{CanEdit}
-use Rattle.lfs_operations.specs.MovingSteps.{EndsAfter, IsPutAndEnded, SurvivesBoth, TellsInSteps, WritesInTwo}
+use Rattle.lfs_operations.specs.MovingSteps.{EndsAfter, IsPutAndEnded, SurvivesBoth, ReportsInSteps, WritesInTwo}
 use Rattle.lfs_operations.specs.MovingAcross.{CanRenameAcross, IsRenamedAcross, moving_changes, with_moved}
 use Rattle.lfs_operations.specs.MovingOnto.{CanPutOnto, IsReplacedAcross, onto_changes}
 use Rattle.lfs_operations.specs.Ready.{IsReady}
@@ -24,7 +24,7 @@ use Rattle.lfs_operations.specs.Removing.{goes_whole}
 use Rattle.lfs_operations.specs.RenamingSlots.{parts_at}
 use Rattle.lfs_operations.proofs.MovRename.{can_put_across, ends_across, renamed_across, shows_across, survives_across}
 use Rattle.lfs_operations.proofs.MovReplace.{can_put_onto, ends_onto, replaced_across, shows_onto, survives_onto}
-use Rattle.lfs_operations.proofs.MovTelling.{writes_first}
+use Rattle.lfs_operations.proofs.MovReporting.{writes_first}
 use Rattle.lfs_operations.proofs.Putting.{read_is, with_history}
 use Rattle.lfs_operations.proofs.RenameRead.{read_survives, read_writes}
 
@@ -184,9 +184,9 @@ only_then a b c x y = record {
   map = y.map ∙ x.map;
 }
 
-pub tells_after_read : {X : Type 0} (old mid new : State) (index : ℕ) (changes : List Change) (r : Result X Error) → IsOnlyRead old.kept mid.kept → faults mid.kept.history ≡ faults old.kept.history
-    → TellsInSteps mid new index changes r → TellsInSteps old new index changes r
-tells_after_read old mid new index changes r only same h = record {
+pub reports_after_read : {X : Type 0} (old mid new : State) (index : ℕ) (changes : List Change) (r : Result X Error) → IsOnlyRead old.kept mid.kept → faults mid.kept.history ≡ faults old.kept.history
+    → ReportsInSteps mid new index changes r → ReportsInSteps old new index changes r
+reports_after_read old mid new index changes r only same h = record {
   failed = go h.failed;
   errors = h.errors;
   fault = λ io. (let k = h.fault io in omega (arith, k, same));
@@ -201,20 +201,20 @@ tells_after_read old mid new index changes r only same h = record {
     go (inr (e, o)) = inr (e, only_then old.kept mid.kept new.kept only o)
 
 -- the slot couldn't be read
-pub tells_unread : {X Y : Type 0} (old new : State) (index : ℕ) (changes : List Change) (e : Error) (result : Result X Error) (given : Result Y Error) → result ≡ Err e → given ≡ Err e
-    → new.failed ≡ false → IsOnlyRead old.kept new.kept → HasTold old.kept new.kept result → TellsInSteps old new index changes given
-tells_unread old new index changes e result given is same works only told = record {
+pub reports_unread : {X Y : Type 0} (old new : State) (index : ℕ) (changes : List Change) (e : Error) (result : Result X Error) (given : Result Y Error) → result ≡ Err e → given ≡ Err e
+    → new.failed ≡ false → IsOnlyRead old.kept new.kept → HasReported old.kept new.kept result → ReportsInSteps old new index changes given
+reports_unread old new index changes e result given is same works only reported = record {
   failed = inr (works, only);
   errors = subst (λ r. IfErr r (λ x. (x ≡ Io) ⊎ ((x ≡ NoMemory) ⊎ (x ≡ NoSpace)))) (sym same) (wider one);
-  fault = λ io. told.fault (is ∙ ap Err (same_err e Io given same io));
-  no_fault = λ other. told.no_fault (λ io. other (same ∙ ap Err (same_err e Io result is io)));
+  fault = λ io. reported.fault (is ∙ ap Err (same_err e Io given same io));
+  no_fault = λ other. reported.no_fault (λ io. other (same ∙ ap Err (same_err e Io result is io)));
   unchanged = λ none. only;
   no_space = λ none. absurd (not_space one (same_err e NoSpace given same none));
   too_large = λ none. absurd (not_space one (same_err e NoSpace given same none));
 }
   where
     one : (e ≡ Io) ⊎ (e ≡ NoMemory)
-    one = subst (λ r. IfErr r (λ x. (x ≡ Io) ⊎ (x ≡ NoMemory))) is told.errors
+    one = subst (λ r. IfErr r (λ x. (x ≡ Io) ⊎ (x ≡ NoMemory))) is reported.errors
 
     same_err : {A : Type 0} (a b : Error) (r : Result A Error) → r ≡ Err a → r ≡ Err b → a ≡ b
     same_err a b r h k = cc
@@ -228,9 +228,9 @@ tells_unread old new index changes e result given is same works only told = reco
     not_space (inr b) k = absurd (cc)
 
 -- no room for the changes
-pub tells_unmade : {Y : Type 0} (old new : State) (index : ℕ) (changes : List Change) (given : Result Y Error) → given ≡ Err NoMemory → new.failed ≡ false → IsOnlyRead old.kept new.kept
-    → faults new.kept.history ≡ faults old.kept.history → TellsInSteps old new index changes given
-tells_unmade old new index changes given same works only none = record {
+pub reports_unmade : {Y : Type 0} (old new : State) (index : ℕ) (changes : List Change) (given : Result Y Error) → given ≡ Err NoMemory → new.failed ≡ false → IsOnlyRead old.kept new.kept
+    → faults new.kept.history ≡ faults old.kept.history → ReportsInSteps old new index changes given
+reports_unmade old new index changes given same works only none = record {
   failed = inr (works, only);
   errors = subst (λ r. IfErr r (λ x. (x ≡ Io) ⊎ ((x ≡ NoMemory) ⊎ (x ≡ NoSpace)))) (sym same) (inr (inl refl));
   fault = λ io. absurd (let z = sym same ∙ io in cc);

@@ -95,10 +95,10 @@ module _ (sync : Bool) (t : Kept) (old_pair old_id new_pair : ℕ) (can : CanEdi
   abbrev pub move : Gstate
   move = gstate_xor (move_of sync (pair_in t old_pair).at old_id) (pair_in t new_pair).content.move
 
-  abbrev pub share : Gstate
-  share = gstate_xor (move_of sync o.at (length can.stands.stands.left)) p.content.move
+  abbrev pub delta : Gstate
+  delta = gstate_xor (move_of sync o.at (length can.stands.stands.left)) p.content.move
 
-  pub move_is : move ≡ share
+  pub move_is : move ≡ delta
   move_is = ap₂ (λ (x : Pair) (i : ℕ). gstate_xor (move_of sync x.at i) (pair_in t new_pair).content.move) here_o (sym can.stands.stands.number)
       ∙ ap (λ (x : Pair). gstate_xor (move_of sync o.at (length can.stands.stands.left)) x.content.move) here_p
 
@@ -149,16 +149,16 @@ module _ (sync : Bool) (t : Kept) (old_pair old_id new_pair : ℕ) (can : CanEdi
     slots_now : complete_all raw_now.slots ≡ Some (a ++ moved ∷ b)
     slots_now = complete_insert left.left.slots (a ++ b) at raw_moved moved left.are (source.of.complete name) ∙ ap (λ (i : ℕ). Some (insert (a ++ b) i moved)) (sym number) ∙ ap Some (insert_here a b moved)
 
-    now_complete : completed raw_now ≡ Some (content_with p (a ++ moved ∷ b) share)
+    now_complete : completed raw_now ≡ Some (content_with p (a ++ moved ∷ b) delta)
     now_complete =
         completed_from raw_now (a ++ moved ∷ b) slots_now
         ∙ ap₂ (λ t m. Some (record { slots = a ++ moved ∷ b; tail = t; move = m })) (left.tail ∙ sym parts.tail) (left.move ∙ move_is)
 
-    pub made : made_in_thread t new_pair changes ≡ Some (content_with p (a ++ moved ∷ b) share)
+    pub made : made_in_thread t new_pair changes ≡ Some (content_with p (a ++ moved ∷ b) delta)
     made = ap (λ o. option_and_then completed o) made_raw ∙ now_complete
 
     cut : CanBeCut t.disk.block_size t.disk.page raw_now.slots
-    cut = content_cut t.disk.block_size t.disk.page raw_now (content_with p (a ++ moved ∷ b) share) a moved b (logged_changed c.raw changes raw_now (logged c.raw c.is) changed_now) now_complete refl
+    cut = content_cut t.disk.block_size t.disk.page raw_now (content_with p (a ++ moved ∷ b) delta) a moved b (logged_changed c.raw changes raw_now (logged c.raw c.is) changed_now) now_complete refl
         (entry_small t.disk.block_size t.disk.page moved can.ready.large fits)
         (let f = fits_left.size in let k = sum_by-append slot_size a b in omega arith)
         (let n = fits_left.count in let k = length-append a b in omega arith)
@@ -167,7 +167,7 @@ module _ (sync : Bool) (t : Kept) (old_pair old_id new_pair : ℕ) (can : CanEdi
     can_put = record {
       can = record {
         below = below t can.ready first new_pair p rest place;
-        content = content_with p (a ++ moved ∷ b) share;
+        content = content_with p (a ++ moved ∷ b) delta;
         made = made;
         next = ap (λ (z : Pair). next_of z.content.tail) (sym here_p);
       };

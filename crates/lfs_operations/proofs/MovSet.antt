@@ -37,10 +37,10 @@ use Rattle.lfs_operations.proofs.MovPlaces.{SameParts, same_parts, InTurn, ahead
 abbrev pub walk_by : Path → Path → Walk → Walk
 walk_by old new d = planted new (λ t. d (old ++ t)) (planted old (λ t. None) d)
 
--- The pair has these slots and that share on the new disk, or that pair and a fresh one behind it have.
+-- The pair has these slots and that delta on the new disk, or that pair and a fresh one behind it have.
 pub record HasTurned (old : Disk) (w : Site) (p : Pair) (slots : List Slot) (move : Gstate) (disk : Disk) (q : Pair) (more : List Pair) : Type 0 where
   pub at : q.at ≡ p.at
-  pub share : gstate_of (q ∷ more) ≡ move
+  pub delta : gstate_of (q ∷ more) ≡ move
   pub is : slots_in (q ∷ more) ≡ slots
   pub became : Became old p (with_slots slots p) q more
   pub device : IsDevice old disk (thread_at w (p ∷ [])) (thread_at w (q ∷ more))
@@ -142,7 +142,7 @@ module _ (disk : Disk) (wo : Site) (o : Pair) (lo : List Slot) (u : Slot) (ro : 
 
     pub state_is : gstate_of qs ≡ move_of sync o.at (length lo)
     state_is = site_gstate_moved (move_of sync o.at (length lo)) w (p ∷ []) (q ∷ more)
-        (x.share ∙ ap (gstate_xor (move_of sync o.at (length lo))) (sym (gstate_cons p [] ∙ gstate_right p.content.move)))
+        (x.delta ∙ ap (gstate_xor (move_of sync o.at (length lo))) (sym (gstate_cons p [] ∙ gstate_right p.content.move)))
         ∙ ap (gstate_xor (move_of sync o.at (length lo))) k.settled ∙ gstate_right (move_of sync o.at (length lo))
 
     among : Among (λ s. (same_pair o.at s.at ≡ true) × IsOtherSlot (slice_get s.content.slots (length lo))) qs

@@ -11,7 +11,7 @@ use Rattle.lfs_model.specs.History.{Event}
 use Rattle.lfs_model.specs.Log.{log_entries}
 use Rattle.std.specs.Option.{option_and_then}
 use Rattle.lfs_model.specs.Names.{Name}
-use Rattle.lfs_model.specs.PowerLoss.{IsLeft as IsLeftOf, Survives, with_blocks}
+use Rattle.lfs_model.specs.PowerLoss.{IsLeftByStop as IsLeftOf, Survives, with_blocks}
 use Rattle.lfs_model.specs.Slots.{Slot, Gstate, gstate_xor, no_gstate, same_pair}
 use Rattle.lfs_model.specs.SlotEdits.{slot_of_path}
 use Rattle.lfs_model.specs.Thread.{Pair, blocks_of, gstate_of, is_hard, superblocks_before}

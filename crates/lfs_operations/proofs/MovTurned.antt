@@ -1,4 +1,4 @@
--- A pair of an accepted image that is changed, or split, and gets any share of the global state.
+-- A pair of an accepted image that is changed, or split, and gets any delta of the global state.
 use Rattle.std.proofs.Common.{ℕ, zero, suc, ◌≡◌, ◌+◌, ◌<◌, ◌≤◌, ◌⊎◌, inl, inr, Bool, true, false, cond, eqb-true, nat_eq, List, [], ◌∷◌, ◌++◌, length, take, drop, Some, refl, sym, ap, ap₂, subst, ◌∙◌, arith, append_assoc, append-nil, length-append, get_or, set, insert, slice_get}
 use Rattle.std.specs.Prelude.{All}
 use Rattle.std.specs.List.{IsDistinct}
@@ -25,7 +25,7 @@ use Rattle.lfs_model.proofs.Unchanged.{HasFirst}
 use Rattle.lfs_pair.specs.Commit.{OutsideKeeps}
 use Rattle.lfs_pair.specs.Split.{OutsideBothKeeps}
 use Rattle.lfs_thread.specs.Kept.{Kept}
-use Rattle.lfs_thread.specs.Steps.{pair_in, no_pair, made_in_thread, with_pair, with_two, AreHalves, HasShape, IsAsBefore, IsChanged, IsLeft, IsWrittenAs, SlotsHaveFirst, front_pair, back_pair}
+use Rattle.lfs_thread.specs.Steps.{pair_in, no_pair, made_in_thread, with_pair, with_two, AreHalves, HasShape, IsAsBefore, IsChanged, IsLeftByChange, IsWrittenAs, SlotsHaveFirst, front_pair, back_pair}
 use Rattle.lfs_operations.specs.Changing.{AreTwoFree, IsCutIn, IsLeftByPut, IsPut, IsTooLarge}
 use Rattle.lfs_operations.specs.Ready.{NoneComes, StayTaken}
 use Rattle.lfs_operations.proofs.Owning.{length_now, none_comes_now, stay_taken, used_more}
@@ -61,11 +61,11 @@ of_fresh sets fresh two b some = go (nat_eq b fresh.0) (nat_eq b fresh.1) refl r
 
 -- ---- what is known before
 
--- the pair's tail, with other slots and another share
+-- the pair's tail, with other slots and another delta
 abbrev pub content_with : Pair → List Slot → Gstate → Content
 content_with p slots move = record { slots = slots; tail = p.content.tail; move = move }
 
--- At the site stands the pair of that number, and the changes give it these slots and that share.
+-- At the site stands the pair of that number, and the changes give it these slots and that delta.
 pub record IsTurn (t : Kept) (index : ℕ) (changes : List Change) (w : Site) (p : Pair) (slots : List Slot) (move : Gstate) : Type 0 where
   pub accepted : IsAccepted t.disk t.pairs
   pub there : t.pairs ≡ thread_at w (p ∷ [])
@@ -213,7 +213,7 @@ module _ (t : Kept) (index : ℕ) (changes : List Change) (w : Site) (p : Pair) 
   turned_one : (disk : Disk) → IsWrittenAs t index c disk → FitsPair t.disk.block_size t.disk.page c → HasTurned t.disk w p slots move disk (record { at = p.at; content = c }) []
   turned_one disk is fits = record {
     at = refl;
-    share = gstate_cons (record { at = p.at; content = c }) [] ∙ gstate_right move;
+    delta = gstate_cons (record { at = p.at; content = c }) [] ∙ gstate_right move;
     is = append-nil slots;
     became = (refl, fits_same t.disk (record { at = p.at; content = c }) (with_slots slots p) refl fits);
     device = device t.disk disk w p (record { at = p.at; content = c }) [] [] accepted accepted.owned_once (placed_one disk c k.first is);
@@ -225,7 +225,7 @@ module _ (t : Kept) (index : ℕ) (changes : List Change) (w : Site) (p : Pair) 
       → HasTurned t.disk w p slots move disk (cut_front p.at c cut fresh) (back_pair c cut fresh ∷ [])
   turned_two m disk fresh cut two large is = record {
     at = refl;
-    share = gstate_cons front (back ∷ []) ∙ ap (gstate_xor move) (gstate_cons back [] ∙ gstate_left (gstate_of [])) ∙ gstate_right move;
+    delta = gstate_cons front (back ∷ []) ∙ ap (gstate_xor move) (gstate_cons back [] ∙ gstate_left (gstate_of [])) ∙ gstate_right move;
     is = ap (λ z. take cut slots ++ z) (append-nil (drop cut slots)) ∙ take-append-drop cut slots;
     became = (refl, refl, (λ fits. large (fits_same t.disk (with_slots slots p) (record { at = p.at; content = c }) refl fits)), is.parts.front_fits, is.parts.back_fits);
     device = device t.disk disk w p front (back ∷ []) (fresh.0 ∷ fresh.1 ∷ []) accepted (all_distinct m fresh two) (placed_two disk fresh cut (is.parts.inside large).0 is);
@@ -312,7 +312,7 @@ module _ (t : Kept) (index : ℕ) (changes : List Change) (w : Site) (p : Pair) 
   shape_of : (left : Blocks) → length left ≡ length t.disk.blocks → HasShape t.disk (with_blocks left t.disk)
   shape_of left e = record { block_size = refl; page = refl; order = refl; count = e }
 
-  pub left_alone : (left : Blocks) → IsLeft t index changes left
+  pub left_alone : (left : Blocks) → IsLeftByChange t index changes left
       → Stays (with_blocks left t.disk) ⊎ HasTurned t.disk w p slots move (with_blocks left t.disk) (record { at = p.at; content = content_with p slots move }) []
   left_alone left is = go is.is
     where

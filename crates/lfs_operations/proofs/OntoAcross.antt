@@ -12,7 +12,7 @@ use Rattle.lfs_model.specs.Layout.{Fits, Goes, directory_of, removed_directories
 use Rattle.lfs_model.specs.LoggedContent.{IsAddress}
 use Rattle.lfs_model.specs.Names.{Name}
 use Rattle.lfs_model.specs.Operations as ops
-use Rattle.lfs_model.specs.PowerLoss.{IsLeft as IsLeftOf, with_blocks}
+use Rattle.lfs_model.specs.PowerLoss.{IsLeftByStop as IsLeftOf, with_blocks}
 use Rattle.lfs_model.specs.SlotEdits.{slot_of_path, with_slots}
 use Rattle.lfs_model.specs.Slots.{Branch, Ctz, Inline, Slot, Struct, gstate_xor, no_gstate, same_pair}
 use Rattle.lfs_model.specs.Refusals.{as_path}

@@ -8,7 +8,7 @@ use Rattle.lfs_model.specs.TreeEdits.{renamed, rest_after}
 use Rattle.lfs_model.specs.Blocks.{Blocks}
 use Rattle.lfs_model.specs.BlockSets.{AreUsed}
 use Rattle.lfs_model.specs.Disk.{Disk, block_count}
-use Rattle.lfs_model.specs.PowerLoss.{IsLeft as IsLeftOf, with_blocks}
+use Rattle.lfs_model.specs.PowerLoss.{IsLeftByStop as IsLeftOf, with_blocks}
 use Rattle.lfs_model.specs.Slots.{Branch, Content, FitsPair, Slot, no_gstate, same_pair}
 use Rattle.lfs_model.specs.Thread.{Pair, blocks_of, gstate_of, is_hard, root_of, superblocks_before}
 use Rattle.lfs_model.specs.Tree.{Path, branch_of, directory_at, directory_from, root_slot}
@@ -18,7 +18,7 @@ use Rattle.lfs_model.specs.Shown.{Leads, all_slots, directories_in, entries_in, 
 use Rattle.lfs_model.proofs.Alike.{AreAlike, alike_append, alike_itself}
 use Rattle.lfs_model.proofs.Committed.{no_move_from, recovered_from}
 use Rattle.lfs_model.proofs.Counts.{Each, count, count_append, count_here, each_right, once_from_distinct}
-use Rattle.lfs_model.proofs.Global.{HasNoMove, sync_share}
+use Rattle.lfs_model.proofs.Global.{HasNoMove, sync_delta}
 use Rattle.lfs_model.proofs.Indexes.{HasSite, site_of_number}
 use Rattle.lfs_model.proofs.Moves.{AllReached}
 use Rattle.lfs_model.proofs.Names.{found_at}
@@ -68,7 +68,7 @@ replaced_by disk ps P a k u d old ok leads there branch empty apart = record {
 pub record IsReplacing (t m : Kept) (from to : Path) (d : ℕ × ℕ) (o : Pair) (n : ℕ) : Type 1 where
   pub ready : IsReady t
   pub taken : IsTaken t.disk t.pairs m.disk m.pairs (renamed from to) (rename_walk from to)
-  pub state : gstate_of m.pairs ≡ sync_share
+  pub state : gstate_of m.pairs ≡ sync_delta
   pub chain : List Pair
   pub front : List Pair
   pub x : Pair

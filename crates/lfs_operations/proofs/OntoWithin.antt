@@ -8,7 +8,7 @@ use Rattle.lfs_model.specs.BlockSets.{AreUsed}
 use Rattle.lfs_model.specs.Blocks.{Blocks}
 use Rattle.lfs_model.specs.Names.{Name}
 use Rattle.lfs_model.specs.Operations as ops
-use Rattle.lfs_model.specs.PowerLoss.{IsLeft as IsLeftOf, with_blocks}
+use Rattle.lfs_model.specs.PowerLoss.{IsLeftByStop as IsLeftOf, with_blocks}
 use Rattle.lfs_model.specs.SlotEdits.{slot_of_path, with_slots}
 use Rattle.lfs_model.specs.Slots.{Slot, no_gstate, same_pair}
 use Rattle.lfs_model.specs.Thread.{Pair, blocks_of, gstate_of, is_hard, root_of, superblocks_before}

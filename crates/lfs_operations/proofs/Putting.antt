@@ -14,9 +14,9 @@ use Rattle.lfs_model.proofs.BlockSets.{slice_get-set_same, slice_get-set_other}
 use Rattle.lfs_model.proofs.Histories.{LeavesOnly-weaker, LeavesOnly-trans, StayUnprogrammed-refl, StayUnprogrammed-trans, EachSince-until, EachSince-behind, began, OnlyReads-trans, StayUnprogrammed-reads, LeavesOnly-reads, AtWorst-read}
 use Rattle.lfs_thread.specs.Device.{StopsLeave, four_of}
 use Rattle.lfs_thread.specs.Kept.{Kept, State}
-use Rattle.lfs_thread.specs.Lent.{read_if_missing}
-use Rattle.lfs_thread.specs.Steps.{pair_in, AreHeld, AreHalves, ArePartsOf, CanBeSplit, IsLeft, HasTold, IsAsBefore, IsLeftBySplit, IsOnlyRead, IsSplit, Writes}
-use Rattle.lfs_operations.specs.Changing.{AreTwoFree, CanPut, IsCut, IsCutIn, IsLeftByPut, IsTooLarge, IsLeftByCut, TellsSpace, WritesIn, flying, Tells, has_failed}
+use Rattle.lfs_thread.specs.CachedLog.{read_if_missing}
+use Rattle.lfs_thread.specs.Steps.{pair_in, AreHeld, AreHalves, ArePartsOf, CanBeSplit, IsLeftByChange, HasReported, IsAsBefore, IsLeftBySplit, IsOnlyRead, IsSplit, Writes}
+use Rattle.lfs_operations.specs.Changing.{AreTwoFree, CanPut, IsCut, IsCutIn, IsLeftByPut, IsTooLarge, IsLeftByCut, ReportsSpace, WritesIn, flying, Reports, has_failed}
 use Rattle.lfs_operations.proofs.Taking.{within}
 
 -- with other states of the blocks
@@ -94,18 +94,18 @@ same_err a b r h k = cc
 pub not_both : {A : Type 0} (r : Result A Error) (a : A) (e : Error) → r ≡ Ok a → r ≡ Err e → ⊥
 not_both r a e h k = absurd (cc)
 
-pub tells : {X Y : Type 0} (t new : Kept) (sets : BlockSets) (e : Error) (result : Result X Error) (given : Result Y Error) → result ≡ Err e → given ≡ Err e → HasTold (with_map t sets) new result → TellsSpace t new given
-tells t new sets e result given is same told = record {
+pub reports : {X Y : Type 0} (t new : Kept) (sets : BlockSets) (e : Error) (result : Result X Error) (given : Result Y Error) → result ≡ Err e → given ≡ Err e → HasReported (with_map t sets) new result → ReportsSpace t new given
+reports t new sets e result given is same reported = record {
   errors = subst (λ r. IfErr r (λ x. (x ≡ Io) ⊎ ((x ≡ NoMemory) ⊎ (x ≡ NoSpace)))) (sym same) (widen is_one);
-  fault = λ io. told.fault (is ∙ ap Err (same_err e Io given same io));
-  no_fault = λ other. told.no_fault (λ io. other (same ∙ ap Err (same_err e Io result is io)));
-  unwritten = λ none. (let u = told.unwritten (is ∙ ap Err (same_err e NoMemory given same none)) in record { disk = u.disk; reads = u.reads });
+  fault = λ io. reported.fault (is ∙ ap Err (same_err e Io given same io));
+  no_fault = λ other. reported.no_fault (λ io. other (same ∙ ap Err (same_err e Io result is io)));
+  unwritten = λ none. (let u = reported.unwritten (is ∙ ap Err (same_err e NoMemory given same none)) in record { disk = u.disk; reads = u.reads });
   unchanged = λ none. absurd (not_space is_one (same_err e NoSpace given same none));
   no_space = λ none. absurd (not_space is_one (same_err e NoSpace given same none));
 }
   where
     is_one : (e ≡ Io) ⊎ (e ≡ NoMemory)
-    is_one = subst (λ r. IfErr r (λ x. (x ≡ Io) ⊎ (x ≡ NoMemory))) is told.errors
+    is_one = subst (λ r. IfErr r (λ x. (x ≡ Io) ⊎ (x ≡ NoMemory))) is reported.errors
 
     widen : (e ≡ Io) ⊎ (e ≡ NoMemory) → (e ≡ Io) ⊎ ((e ≡ NoMemory) ⊎ (e ≡ NoSpace))
     widen (inl a) = inl a
@@ -183,14 +183,14 @@ module _ (t : Kept) (h : List Event) (reads : OnlyReads t.disk.blocks t.history 
       go (inl b) = inl (record { holds = b.holds; first = b.first })
       go (inr k) = inr (record { content = k.content; made = k.made; cut = k.cut; front = k.front; back = k.back; parts = parts_earlier k.parts })
 
-  pub tells_later : {X : Type 0} (new : Kept) (result : Result X Error) → faults h ≡ faults t.history → TellsSpace later new result → TellsSpace t new result
-  tells_later new result same told = record {
-    errors = told.errors;
-    fault = λ io. (let k = told.fault io in omega (arith, k, same));
-    no_fault = λ other. told.no_fault other ∙ same;
-    unwritten = λ none. (let u = told.unwritten none in record { disk = u.disk; reads = OnlyReads-trans reads u.reads refl });
-    unchanged = λ none. (let u = told.unchanged none in record { disk = u.disk; reads = OnlyReads-trans reads u.reads refl; pairs = u.pairs; map = u.map });
-    no_space = told.no_space;
+  pub reports_later : {X : Type 0} (new : Kept) (result : Result X Error) → faults h ≡ faults t.history → ReportsSpace later new result → ReportsSpace t new result
+  reports_later new result same reported = record {
+    errors = reported.errors;
+    fault = λ io. (let k = reported.fault io in omega (arith, k, same));
+    no_fault = λ other. reported.no_fault other ∙ same;
+    unwritten = λ none. (let u = reported.unwritten none in record { disk = u.disk; reads = OnlyReads-trans reads u.reads refl });
+    unchanged = λ none. (let u = reported.unchanged none in record { disk = u.disk; reads = OnlyReads-trans reads u.reads refl; pairs = u.pairs; map = u.map });
+    no_space = reported.no_space;
   }
 
   pub writes_later : (new : Kept) → WritesIn later index new → WritesIn t index new
@@ -201,7 +201,7 @@ module _ (t : Kept) (h : List Event) (reads : OnlyReads t.disk.blocks t.history 
     writes = writes_behind ((pair_in t index).at.0 ∷ (pair_in t index).at.1 ∷ w.fresh) new w.writes;
   }
 
-  pub stops_later : (new : Kept) → IsTooLarge t index changes → WritesIn later index new → StopsLeave t.history h (IsLeft t index changes) → StopsLeave h new.history (IsLeftByCut later index changes)
+  pub stops_later : (new : Kept) → IsTooLarge t index changes → WritesIn later index new → StopsLeave t.history h (IsLeftByChange t index changes) → StopsLeave h new.history (IsLeftByCut later index changes)
       → StopsLeave t.history new.history (IsLeftByPut t index changes)
   stops_later new large w first second clean =
       LeavesOnly-trans (LeavesOnly-weaker (λ left l. inl l) (first (EachSince-until clean reads w.writes.at_worst)))
@@ -213,11 +213,11 @@ failing : {Y : Type 0} (e : Error) (given : Result Y Error) → given ≡ Err e 
 failing e given same (inl io) = ap has_failed (same ∙ ap Err io)
 failing e given same (inr memory) = ap has_failed (same ∙ ap Err memory)
 
-pub tells_state : {X Y : Type 0} (old new : State) (sets : BlockSets) (e : Error) (result : Result X Error) (given : Result Y Error) → result ≡ Err e → given ≡ Err e → new.failed ≡ is_err result
-    → HasTold (with_map old.kept sets) new.kept result → Tells old new given
-tells_state old new sets e result given is same failed told = record {
-  failed = failed ∙ ap is_err is ∙ sym (failing e given same (subst (λ r. IfErr r (λ x. (x ≡ Io) ⊎ (x ≡ NoMemory))) is told.errors));
-  tells = tells old.kept new.kept sets e result given is same told;
+pub reports_state : {X Y : Type 0} (old new : State) (sets : BlockSets) (e : Error) (result : Result X Error) (given : Result Y Error) → result ≡ Err e → given ≡ Err e → new.failed ≡ is_err result
+    → HasReported (with_map old.kept sets) new.kept result → Reports old new given
+reports_state old new sets e result given is same failed reported = record {
+  failed = failed ∙ ap is_err is ∙ sym (failing e given same (subst (λ r. IfErr r (λ x. (x ≡ Io) ⊎ (x ≡ NoMemory))) is reported.errors));
+  reports = reports old.kept new.kept sets e result given is same reported;
 }
 
 -- ---- how often a step reads

@@ -8,7 +8,7 @@ use Rattle.lfs_model.specs.Blocks.{Blocks}
 use Rattle.lfs_model.specs.Disk.{SameGeometry, block_at}
 use Rattle.lfs_model.specs.History.{Event, faults}
 use Rattle.lfs_model.specs.LoggedContent.{IsAddress}
-use Rattle.lfs_model.specs.PowerLoss.{IsLeft as IsLeftOf, Survives, with_blocks}
+use Rattle.lfs_model.specs.PowerLoss.{IsLeftByStop as IsLeftOf, Survives, with_blocks}
 use Rattle.lfs_model.specs.Layout.{onward}
 use Rattle.lfs_model.specs.Recovery.{IsRecovered}
 use Rattle.lfs_model.specs.Slots.{Gstate, Slot, no_gstate}
@@ -32,16 +32,16 @@ use Rattle.lfs_model.proofs.StepsTaken.{IsTaken}
 use Rattle.lfs_model.proofs.Superblocks.{pairs_behind}
 use Rattle.lfs_thread.specs.Device.{StopsLeave}
 use Rattle.lfs_thread.specs.Kept.{Kept, State}
-use Rattle.lfs_thread.specs.Steps.{IsChanged, IsLeft, IsWrittenAs, Writes, with_pair}
-use Rattle.lfs_operations.specs.Sharing.{CanSetState, setting, share_of}
-use Rattle.lfs_operations.specs.Recovering.{AreUnreached, AreUnreachedFrom, CanClearSync, HasRecovered, IsCleared, TellsOfSteps, list_blocks_at, slots_at}
+use Rattle.lfs_thread.specs.Steps.{IsChanged, IsLeftByChange, IsWrittenAs, Writes, with_pair}
+use Rattle.lfs_operations.specs.Deltas.{CanSetState, setting, delta_of}
+use Rattle.lfs_operations.specs.Recovering.{AreUnreached, AreUnreachedFrom, CanClearSync, HasRecovered, IsCleared, ReportsOfSteps, list_blocks_at, slots_at}
 use Rattle.lfs_operations.specs.Dropping.{SameInFlight}
-use Rattle.lfs_operations.specs.Removing.{TellsOfCalls}
-use Rattle.lfs_operations.proofs.Removed.{tells_again}
-use Rattle.lfs_operations.proofs.RecoverLists.{each_at, files_kept, told_once}
+use Rattle.lfs_operations.specs.Removing.{ReportsOfCalls}
+use Rattle.lfs_operations.proofs.Removed.{reports_again}
+use Rattle.lfs_operations.proofs.RecoverLists.{each_at, files_kept, reported_once}
 use Rattle.lfs_operations.proofs.RecoverLoop.{EachBegins, IsAtDrop, IsAtEnd, all_where, begins_weaker, goes_to}
 use Rattle.lfs_operations.proofs.RecoverMap.{HasMap, alike_blocks, files_stay, map_stays}
-use Rattle.lfs_operations.proofs.RecoverShares.{none_fits, set_content, set_made}
+use Rattle.lfs_operations.proofs.RecoverDeltas.{none_fits, set_content, set_made}
 use Rattle.lfs_operations.proofs.RecoverSteps.{CanClear, clear_alike, clear_left, clear_pairs, clear_state, clear_taken, device_on, h, y}
 use Rattle.lfs_operations.proofs.RecoverUnderWay.{IsUnderWay, StaysOn}
 use Rattle.lfs_operations.proofs.RootStays.{alike_stays}
@@ -94,7 +94,7 @@ module _ (t : Kept) (can : CanClearSync t) where
     pub can_set_last : CanSetState t index no_gstate
     can_set_last = record { accepted = can.accepted; writable = can.writable; below = omega arith; fields = none_fits }
 
-    pub cleared : (new : Kept) → IsAddress (share_of t index no_gstate).pair → IsChanged t index (setting t index no_gstate) new → IsCleared t new
+    pub cleared : (new : Kept) → IsAddress (delta_of t index no_gstate).pair → IsChanged t index (setting t index no_gstate) new → IsCleared t new
     cleared new address c =
         let same = same_Some c.content (set_content t index no_gstate) (sym c.made ∙ set_made t index no_gstate can_set_last address) in
         let written = subst (λ x. IsWrittenAs t index x new.disk) same c.written in
@@ -107,7 +107,7 @@ module _ (t : Kept) (can : CanClearSync t) where
           files = subst (λ z. All (λ s. HasSameFile t.disk new.disk s.struct) (all_slots z)) (sym (h t index can_clear).is) (device_on t index can_clear new.disk written).files;
         }
 
-    pub clear_survives : (new : List Event) → IsAddress (share_of t index no_gstate).pair → StopsLeave t.history new (IsLeft t index (setting t index no_gstate))
+    pub clear_survives : (new : List Event) → IsAddress (delta_of t index no_gstate).pair → StopsLeave t.history new (IsLeftByChange t index (setting t index no_gstate))
         → Survives t.disk t.history new (tree_in t.disk t.pairs) (tree_in t.disk t.pairs)
     clear_survives new address stops clean = LeavesOnly-weaker (λ left x. clear_left t index can_clear can_set_last address left x) (stops clean)
 
@@ -151,7 +151,7 @@ module _ (old now : Kept) (dropped : ℕ) (u : IsUnderWay old now dropped []) wh
   shows_now = ap (tree_in now.disk) e.way.there ∙ e.way.is.taken.follows.shows
 
   pub ends : IsWritable old.disk old.pairs → 1024 ≤ old.disk.block_size → (new : Kept) (numbers : List ℕ) → AreUnreached old.pairs numbers → Writes (blocks_of old.pairs) old new → StaysOn now new → IsCleared now new → HasRecovered old numbers new
-  ends fits large new numbers told writes on c = record {
+  ends fits large new numbers reported writes on c = record {
     ready = record {
       accepted = c.taken.follows.accepted;
       writable = c.taken.writable;
@@ -176,7 +176,7 @@ module _ (old now : Kept) (dropped : ℕ) (u : IsUnderWay old now dropped []) wh
     where
       all_gone : u.gone ≡ list_blocks_at old numbers
       all_gone = u.gone_are
-          ∙ ap (list_blocks_at old) (told_once (IsReached old.pairs) (superblocks_before old.pairs) None (directory_pairs old.pairs) u.took numbers (subst (AreUnreached old.pairs) (append-nil u.took) u.told) told)
+          ∙ ap (list_blocks_at old) (reported_once (IsReached old.pairs) (superblocks_before old.pairs) None (directory_pairs old.pairs) u.took numbers (subst (AreUnreached old.pairs) (append-nil u.took) u.reported) reported)
 
       still : HasNoMove (gstate_of new.pairs)
       still = subst HasNoMove (sym c.settled) (record { kind = refl; id = refl; pair = refl })
@@ -202,28 +202,28 @@ module _ (old now : Kept) (dropped : ℕ) (u : IsUnderWay old now dropped []) wh
 
 -- ---- what the steps tell
 
-pub tells_steps : {X Y : Type 0} (old mid new : State) (e : Error) (result : Result X Error) (given : Result Y Error) → faults mid.kept.history ≡ faults old.kept.history → result ≡ Err e → given ≡ Err e → TellsOfCalls mid new result
-    → TellsOfSteps old new given
-tells_steps old mid new e result given quiet is same t =
-    let k = tells_again mid new e result given is same t.failed t.told in
+pub reports_steps : {X Y : Type 0} (old mid new : State) (e : Error) (result : Result X Error) (given : Result Y Error) → faults mid.kept.history ≡ faults old.kept.history → result ≡ Err e → given ≡ Err e → ReportsOfCalls mid new result
+    → ReportsOfSteps old new given
+reports_steps old mid new e result given quiet is same t =
+    let k = reports_again mid new e result given is same t.failed t.reported in
     record {
       failed = k.failed;
-      errors = k.told.errors;
-      fault = λ io. let f = k.told.fault io in omega arith;
-      no_fault = λ other. k.told.no_fault other ∙ quiet;
+      errors = k.reported.errors;
+      fault = λ io. let f = k.reported.fault io in omega arith;
+      no_fault = λ other. k.reported.no_fault other ∙ quiet;
     }
 
 -- ---- where nothing is to be recovered
 
-told_none : (R : ℕ × ℕ → Type 0) (n : ℕ) (from : Option (ℕ × ℕ)) (xs : List Pair) (numbers : List ℕ) → NoneGoes (λ a. R a → ⊥) from xs → AreUnreachedFrom R n from xs numbers → numbers ≡ []
-told_none R n from [] numbers h told = told
-told_none R n from (x ∷ xs) numbers h (inl told) = told_none R (suc n) (onward from x) xs numbers h.1 told.1
-told_none R n from (x ∷ xs) numbers h (inr told) = absurd (h.0 told.1.1.0)
+reported_none : (R : ℕ × ℕ → Type 0) (n : ℕ) (from : Option (ℕ × ℕ)) (xs : List Pair) (numbers : List ℕ) → NoneGoes (λ a. R a → ⊥) from xs → AreUnreachedFrom R n from xs numbers → numbers ≡ []
+reported_none R n from [] numbers h reported = reported
+reported_none R n from (x ∷ xs) numbers h (inl reported) = reported_none R (suc n) (onward from x) xs numbers h.1 reported.1
+reported_none R n from (x ∷ xs) numbers h (inr reported) = absurd (h.0 reported.1.1.0)
 
-pub none_told : (ps : List Pair) (numbers : List ℕ) → IsRecovered ps → AreUnreached ps numbers → numbers ≡ []
-none_told ps numbers h told = told_none (IsReached ps) (superblocks_before ps) None (directory_pairs ps) numbers
+pub none_reported : (ps : List Pair) (numbers : List ℕ) → IsRecovered ps → AreUnreached ps numbers → numbers ≡ []
+none_reported ps numbers h reported = reported_none (IsReached ps) (superblocks_before ps) None (directory_pairs ps) numbers
     (none_where (λ a. IsReached ps a → ⊥) (gstate_of ps) None (directory_pairs ps) (λ a k. absurd (cc))
     (subst (Each (λ (d : ThreadDirectory). (IsReached ps d.at → ⊥) → ⊥)) (sym (rest_all (directories_in ps)))
     (each_weaker (λ (d : ThreadDirectory). IsReached ps d.at) (λ (d : ThreadDirectory). (IsReached ps d.at → ⊥) → ⊥) (λ d k n. n k) (directories_in ps)
     (recursion_from_All (λ (d : ThreadDirectory). IsReached ps d.at) (directories_in ps) h.reached))))
-    told
+    reported

@@ -16,15 +16,15 @@ use Rattle.lfs_model.proofs.Changes.{follows_itself}
 use Rattle.lfs_model.proofs.StepsTaken.{IsTaken}
 use Rattle.lfs_thread.specs.Device.{StopsLeave}
 use Rattle.lfs_thread.specs.Kept.{Kept}
-use Rattle.lfs_thread.specs.Steps.{IsChanged, IsDropped, IsLeft, IsWrittenAs, pair_in, with_pair, without_pair}
-use Rattle.lfs_operations.specs.Sharing.{CanTakeOver, IsAddressIfSome, share_of, takes_share, taking_over, target_of}
+use Rattle.lfs_thread.specs.Steps.{IsChanged, IsDropped, IsLeftByChange, IsWrittenAs, pair_in, with_pair, without_pair}
+use Rattle.lfs_operations.specs.Deltas.{CanTakeOver, IsAddressIfSome, delta_of, takes_delta, taking_over, target_of}
 use Rattle.lfs_operations.specs.EndingMove.{CanEndMove, CanTakeSlot, HasEndedMove, IsMovedAt, is_alone_at, taking, unset}
 use Rattle.lfs_operations.proofs.Owning.{used_same}
 use Rattle.lfs_operations.specs.Dropping.{SameInFlight}
 use Rattle.lfs_operations.proofs.RecoverBefore.{AreKin, go_alike, laid_out_gap, laid_out_kin}
 use Rattle.lfs_operations.proofs.RecoverGoes.{gone, gone_is, goes_ahead, goes_behind, goes_chain, goes_gap, goes_hidden, goes_is, goes_left, goes_low, goes_pairs, goes_split, goes_state, goes_taken, goes_used, next}
 use Rattle.lfs_operations.proofs.RecoverMap.{HasMap, frees_flies, map_frees}
-use Rattle.lfs_operations.proofs.RecoverShares.{over_content, over_made, take_made, without_content}
+use Rattle.lfs_operations.proofs.RecoverDeltas.{over_content, over_made, take_made, without_content}
 use Rattle.lfs_operations.proofs.RecoverStays.{h, stays_chain, stays_kin, stays_left, stays_pairs, stays_state, stays_taken, stays_used, unset_fits, unset_is}
 
 module _ (t : Kept) (can : CanEndMove t) (index : ℕ) (m : IsMovedAt t index) where
@@ -37,7 +37,7 @@ module _ (t : Kept) (can : CanEndMove t) (index : ℕ) (m : IsMovedAt t index) w
     below = let a = ap length m.held in let b = length-append m.left (m.slot ∷ m.right) in let n = m.number in omega arith;
   }
 
-  pub ended_stays : is_alone_at t index ≡ false → IsAddress (share_of t index g).pair → (new : Kept) → IsChanged t index (taking t index (gstate_of t.pairs).id g) new → HasEndedMove t new
+  pub ended_stays : is_alone_at t index ≡ false → IsAddress (delta_of t index g).pair → (new : Kept) → IsChanged t index (taking t index (gstate_of t.pairs).id g) new → HasEndedMove t new
   ended_stays alone address new is =
       let same = same_Some is.content (without_content t index (gstate_of t.pairs).id g) (sym is.made ∙ take_made t index (gstate_of t.pairs).id g can_take address) in
       let written = subst (λ c. IsWrittenAs t index c new.disk) same is.written in
@@ -58,7 +58,7 @@ module _ (t : Kept) (can : CanEndMove t) (index : ℕ) (m : IsMovedAt t index) w
             (subst (AreKin (without_moved t.pairs)) (sym pairs) (stays_kin t can index m));
       }
 
-  pub survives_stays : is_alone_at t index ≡ false → IsAddress (share_of t index g).pair → (new : List Event) → StopsLeave t.history new (IsLeft t index (taking t index (gstate_of t.pairs).id g))
+  pub survives_stays : is_alone_at t index ≡ false → IsAddress (delta_of t index g).pair → (new : List Event) → StopsLeave t.history new (IsLeftByChange t index (taking t index (gstate_of t.pairs).id g))
       → Survives t.disk t.history new (tree_in t.disk t.pairs) (tree_in t.disk t.pairs)
   survives_stays alone address new stops clean = LeavesOnly-weaker (λ left x. stays_left t can index m can_take alone address left x) (stops clean)
 
@@ -75,7 +75,7 @@ module _ (t : Kept) (can : CanEndMove t) (index : ℕ) (m : IsMovedAt t index) w
       size = can.size;
     }
 
-    pub ended_goes : IsAddress (takes_share t (index - 1) index g).pair → IsAddressIfSome (target_of (pair_in t index).content.tail) → (new : Kept) → IsDropped t (index - 1) (taking_over t (index - 1) index g) new → HasEndedMove t new
+    pub ended_goes : IsAddress (takes_delta t (index - 1) index g).pair → IsAddressIfSome (target_of (pair_in t index).content.tail) → (new : Kept) → IsDropped t (index - 1) (taking_over t (index - 1) index g) new → HasEndedMove t new
     ended_goes address words new is =
         let same = same_Some is.content (over_content t (index - 1) index g) (sym is.made ∙ over_made t (index - 1) index g can_over address words) in
         let written = subst (λ c. IsWrittenAs t (index - 1) c new.disk) same is.written in
@@ -101,8 +101,8 @@ module _ (t : Kept) (can : CanEndMove t) (index : ℕ) (m : IsMovedAt t index) w
               _ _ _ _ _ _ _ (goes_hidden t can index m alone) (pairs ∙ goes_split t can index m alone) (goes_low t can index m alone) (goes_ahead t can index m alone) (goes_gap t can index m alone) (goes_behind t can index m alone);
         }
 
-    pub survives_goes : IsAddress (takes_share t (index - 1) index g).pair → IsAddressIfSome (target_of (pair_in t index).content.tail) → (new : List Event)
-        → StopsLeave t.history new (IsLeft t (index - 1) (taking_over t (index - 1) index g)) → Survives t.disk t.history new (tree_in t.disk t.pairs) (tree_in t.disk t.pairs)
+    pub survives_goes : IsAddress (takes_delta t (index - 1) index g).pair → IsAddressIfSome (target_of (pair_in t index).content.tail) → (new : List Event)
+        → StopsLeave t.history new (IsLeftByChange t (index - 1) (taking_over t (index - 1) index g)) → Survives t.disk t.history new (tree_in t.disk t.pairs) (tree_in t.disk t.pairs)
     survives_goes address words new stops clean = LeavesOnly-weaker (λ left x. goes_left t can index m alone can_over address words left x) (stops clean)
 
 -- no move was set

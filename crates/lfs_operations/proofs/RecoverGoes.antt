@@ -9,7 +9,7 @@ use Rattle.std.proofs.lemmas.List.Elements.{recursion_from_All}
 use Rattle.lfs_model.specs.Blocks.{Blocks}
 use Rattle.lfs_model.specs.Disk.{Disk}
 use Rattle.lfs_model.specs.LoggedContent.{IsAddress}
-use Rattle.lfs_model.specs.PowerLoss.{IsLeft as IsLeftOf, with_blocks}
+use Rattle.lfs_model.specs.PowerLoss.{IsLeftByStop as IsLeftOf, with_blocks}
 use Rattle.lfs_model.specs.Slots.{FitsPair, Gstate, Slot, Tail, same_pair}
 use Rattle.lfs_model.specs.SlotEdits.{with_slots, without_moved}
 use Rattle.lfs_model.specs.Thread.{Pair, blocks_of, gstate_of, is_hard, superblocks_before, unmoved}
@@ -32,15 +32,15 @@ use Rattle.lfs_model.proofs.Splices.{IsDevice, drop_shape, files_of, slots_in}
 use Rattle.lfs_model.proofs.StepsTaken.{IsTaken, end_drop_taken, taken_before}
 use Rattle.lfs_model.proofs.Superblocks.{IsChain}
 use Rattle.lfs_thread.specs.Kept.{Kept}
-use Rattle.lfs_thread.specs.Steps.{IsLeft, IsWrittenAs, made_in_thread, pair_in, with_pair}
-use Rattle.lfs_operations.specs.Sharing.{CanTakeOver, IsAddressIfSome, goes_on_at, takes_share, taking_over, target_of}
+use Rattle.lfs_thread.specs.Steps.{IsLeftByChange, IsWrittenAs, made_in_thread, pair_in, with_pair}
+use Rattle.lfs_operations.specs.Deltas.{CanTakeOver, IsAddressIfSome, goes_on_at, takes_delta, taking_over, target_of}
 use Rattle.lfs_operations.specs.EndingMove.{CanEndMove, IsMovedAt, is_alone_at, unset}
 use Rattle.lfs_operations.proofs.Placing.{blocks_append}
 use Rattle.lfs_operations.proofs.RecoverBefore.{AreKin, IsGap, hidden, hidden_append, hidden_far, hidden_length}
 use Rattle.lfs_operations.proofs.RecoverMap.{count_used}
 use Rattle.lfs_operations.proofs.RecoverMoved.{heads}
 use Rattle.lfs_operations.proofs.RecoverPlaced.{IsAt, dropped_device, dropped_state, here_is, next_is, nothing_taken, placed_device, without_is}
-use Rattle.lfs_operations.proofs.RecoverShares.{over_content, over_made, taken_tail, with_tail}
+use Rattle.lfs_operations.proofs.RecoverDeltas.{over_content, over_made, taken_tail, with_tail}
 use Rattle.lfs_operations.proofs.RecoverStays.{flipped, unset_is}
 
 record AreAll (a b c : Bool) : Type 0 where
@@ -147,16 +147,16 @@ module _ (t : Kept) (can : CanEndMove t) (behind : ℕ) (m : IsMovedAt t behind)
   o_slots = ap (λ (z : Pair). z.content.slots) (sym there) ∙ slots_are
 
   abbrev pub z : Pair
-  z = record { at = h.pair.at; content = with_tail h.pair.content on.next.content.tail (takes_share t (behind - 1) behind (unset (gstate_of t.pairs))) }
+  z = record { at = h.pair.at; content = with_tail h.pair.content on.next.content.tail (takes_delta t (behind - 1) behind (unset (gstate_of t.pairs))) }
 
   same_tail : (tail : Option Tail) → taken_tail (is_hard tail) tail ≡ tail
   same_tail None = refl
   same_tail (Some x) = refl
 
   content_is : over_content t (behind - 1) behind (unset (gstate_of t.pairs)) ≡ z.content
-  content_is = ap₂ (λ (a b : Pair). with_tail a.content (taken_tail (is_hard a.content.tail && is_hard b.content.tail) b.content.tail) (takes_share t (behind - 1) behind (unset (gstate_of t.pairs)))) here there
-      ∙ ap (λ c. with_tail h.pair.content (taken_tail (c && is_hard on.next.content.tail) on.next.content.tail) (takes_share t (behind - 1) behind (unset (gstate_of t.pairs)))) hard
-      ∙ ap (λ tail. with_tail h.pair.content tail (takes_share t (behind - 1) behind (unset (gstate_of t.pairs)))) (same_tail on.next.content.tail)
+  content_is = ap₂ (λ (a b : Pair). with_tail a.content (taken_tail (is_hard a.content.tail && is_hard b.content.tail) b.content.tail) (takes_delta t (behind - 1) behind (unset (gstate_of t.pairs)))) here there
+      ∙ ap (λ c. with_tail h.pair.content (taken_tail (c && is_hard on.next.content.tail) on.next.content.tail) (takes_delta t (behind - 1) behind (unset (gstate_of t.pairs)))) hard
+      ∙ ap (λ tail. with_tail h.pair.content tail (takes_delta t (behind - 1) behind (unset (gstate_of t.pairs)))) (same_tail on.next.content.tail)
 
   accepted : IsAccepted t.disk (thread_at w (h.pair ∷ on.next ∷ []))
   accepted = subst (IsAccepted t.disk) old_is can.accepted
@@ -175,7 +175,7 @@ module _ (t : Kept) (can : CanEndMove t) (behind : ℕ) (m : IsMovedAt t behind)
   goes_device disk is = dropped_device t h.site.chain front h.pair on.next back (behind - 1) place disk z.content refl accepted (subst (λ c. IsWrittenAs t (behind - 1) c disk) content_is is)
 
   pub goes_state : gstate_of (thread_at w (z ∷ [])) ≡ unset (gstate_of t.pairs)
-  goes_state = dropped_state t h.site.chain front h.pair on.next back (behind - 1) place (unset (gstate_of t.pairs)) z (ap (λ (i : ℕ). takes_share t (behind - 1) i (unset (gstate_of t.pairs))) next)
+  goes_state = dropped_state t h.site.chain front h.pair on.next back (behind - 1) place (unset (gstate_of t.pairs)) z (ap (λ (i : ℕ). takes_delta t (behind - 1) i (unset (gstate_of t.pairs))) next)
 
   pub goes_pairs : remove (with_pair t (behind - 1) (over_content t (behind - 1) behind (unset (gstate_of t.pairs)))) (behind - 1 + 1) ≡ thread_at w (z ∷ [])
   goes_pairs = ap (λ c. remove (with_pair t (behind - 1) c) (behind - 1 + 1)) content_is ∙ without_is t h.site.chain front h.pair on.next back (behind - 1) place z.content
@@ -241,8 +241,8 @@ module _ (t : Kept) (can : CanEndMove t) (behind : ℕ) (m : IsMovedAt t behind)
   goes_is = old_is
 
   -- a stop leaves the tree
-  pub goes_left : CanTakeOver t (behind - 1) behind (unset (gstate_of t.pairs)) → IsAddress (takes_share t (behind - 1) behind (unset (gstate_of t.pairs))).pair → IsAddressIfSome (target_of (pair_in t behind).content.tail)
-      → (left : Blocks) → IsLeft t (behind - 1) (taking_over t (behind - 1) behind (unset (gstate_of t.pairs))) left → IsLeftOf (with_blocks left t.disk) (tree_in t.disk t.pairs) (tree_in t.disk t.pairs)
+  pub goes_left : CanTakeOver t (behind - 1) behind (unset (gstate_of t.pairs)) → IsAddress (takes_delta t (behind - 1) behind (unset (gstate_of t.pairs))).pair → IsAddressIfSome (target_of (pair_in t behind).content.tail)
+      → (left : Blocks) → IsLeftByChange t (behind - 1) (taking_over t (behind - 1) behind (unset (gstate_of t.pairs))) left → IsLeftOf (with_blocks left t.disk) (tree_in t.disk t.pairs) (tree_in t.disk t.pairs)
   goes_left over address words left is = subst (λ x. IsLeftOf (with_blocks left t.disk) (tree_in t.disk x) (tree_in t.disk x)) (sym old_is) (go is.is)
     where
       old : List Pair

@@ -23,12 +23,12 @@ use Rattle.lfs_operations.proofs.RecoverWrites.{none_there}
 -- ---- numbers
 
 -- the same pairs have the same numbers
-pub told_once : (R : ℕ × ℕ → Type 0) (n : ℕ) (from : Option (ℕ × ℕ)) (xs : List Pair) (us vs : List ℕ) → AreUnreachedFrom R n from xs us → AreUnreachedFrom R n from xs vs → us ≡ vs
-told_once R n from [] us vs h k = h ∙ sym k
-told_once R n from (x ∷ xs) us vs (inl h) (inl k) = told_once R (suc n) (onward from x) xs us vs h.1 k.1
-told_once R n from (x ∷ xs) us vs (inl h) (inr k) = absurd (k.1.1.0 h.0)
-told_once R n from (x ∷ xs) us vs (inr h) (inl k) = absurd (h.1.1.0 k.0)
-told_once R n from (x ∷ xs) us vs (inr h) (inr k) = h.1.0 ∙ ap (λ z. n ∷ z) (told_once R (suc n) (onward from x) xs h.0 k.0 h.1.1.1 k.1.1.1) ∙ sym k.1.0
+pub reported_once : (R : ℕ × ℕ → Type 0) (n : ℕ) (from : Option (ℕ × ℕ)) (xs : List Pair) (us vs : List ℕ) → AreUnreachedFrom R n from xs us → AreUnreachedFrom R n from xs vs → us ≡ vs
+reported_once R n from [] us vs h k = h ∙ sym k
+reported_once R n from (x ∷ xs) us vs (inl h) (inl k) = reported_once R (suc n) (onward from x) xs us vs h.1 k.1
+reported_once R n from (x ∷ xs) us vs (inl h) (inr k) = absurd (k.1.1.0 h.0)
+reported_once R n from (x ∷ xs) us vs (inr h) (inl k) = absurd (h.1.1.0 k.0)
+reported_once R n from (x ∷ xs) us vs (inr h) (inr k) = h.1.0 ∙ ap (λ z. n ∷ z) (reported_once R (suc n) (onward from x) xs h.0 k.0 h.1.1.1 k.1.1.1) ∙ sym k.1.0
 
 there : (xs : List Pair) (x : Pair) (ys : List Pair) → slice_index_or (xs ++ x ∷ ys) (length xs) no_pair ≡ x
 there [] x ys = refl

@@ -107,7 +107,7 @@ pub record IsOnWay (disk : Disk) (ps : List Pair) (t : Kept) (dropped : ℕ) (ch
   pub there : t.pairs ≡ chain ++ (kept ++ todo)
   pub counted : length seen ≡ length kept + dropped
   pub no_move : HasNoMove (gstate_of ps)
-  pub told : AreUnreachedFrom (IsReached ps) (length chain + length kept + dropped) (onward_all None seen) todo numbers
+  pub reported : AreUnreachedFrom (IsReached ps) (length chain + length kept + dropped) (onward_all None seen) todo numbers
   pub firsts : FirstsOnly (IsReached ps) (onward_all None seen) todo
   pub filled : HaveSlots (is_some (onward_all None seen)) todo
   pub begins : EachBegins (IsReached ps) None kept
@@ -150,7 +150,7 @@ module _ (disk : Disk) (ps : List Pair) (t : Kept) (dropped : ℕ) (chain seen :
     there = w.there ∙ ap (λ z. chain ++ z) (sym (append_assoc kept (x ∷ []) todo));
     counted = let c = w.counted in let l = length-append seen (x ∷ []) in let k = length-append kept (x ∷ []) in omega arith;
     no_move = w.no_move;
-    told = subst₂ (λ n z. AreUnreachedFrom (IsReached ps) n z todo numbers) (let l = length-append kept (x ∷ []) in omega arith) (sym e) more;
+    reported = subst₂ (λ n z. AreUnreachedFrom (IsReached ps) n z todo numbers) (let l = length-append kept (x ∷ []) in omega arith) (sym e) more;
     firsts = now_firsts;
     filled = now_filled;
     begins = begins_append (IsReached ps) None kept (x ∷ []) w.begins (subst (λ z. IsReached ps (begin_from z x)) (sym (same_from reached)) reached, tt);
@@ -308,7 +308,7 @@ module _ (disk : Disk) (ps : List Pair) (t : Kept) (dropped : ℕ) (chain seen :
             let c = w.counted in let a = length-append seen (x ∷ []) in let l = length-append front (q ∷ []) in let m = length-append front (before ∷ []) in let k = ap length split in
             omega arith;
         no_move = w.no_move;
-        told = subst₂ (λ n z. AreUnreachedFrom (IsReached ps) n z todo rest)
+        reported = subst₂ (λ n z. AreUnreachedFrom (IsReached ps) n z todo rest)
             (let l = length-append front (q ∷ []) in let m = length-append front (before ∷ []) in let k = ap length split in omega arith) (sym e) more;
         firsts = now_firsts;
         filled = now_filled;
@@ -348,9 +348,9 @@ pub record IsAtEnd (disk : Disk) (ps : List Pair) (t : Kept) (dropped : ℕ) (ch
 
 pub goes_to : (disk : Disk) (ps : List Pair) (t : Kept) (dropped : ℕ) (chain seen todo : List Pair) (parts : List (List Pair)) (kept : List Pair) (numbers : List ℕ)
     → IsOnWay disk ps t dropped chain seen todo parts kept numbers → IsAtEnd disk ps t dropped chain numbers ⊎ IsAtDrop disk ps t dropped chain numbers
-goes_to disk ps t dropped chain seen [] parts kept numbers w = inl (record { seen = seen; parts = parts; kept = kept; way = w; none = w.told })
+goes_to disk ps t dropped chain seen [] parts kept numbers w = inl (record { seen = seen; parts = parts; kept = kept; way = w; none = w.reported })
 goes_to disk ps t dropped chain seen (x ∷ todo) parts kept numbers w =
-    go w.told (λ k. goes_to disk ps t dropped chain (seen ++ x ∷ []) todo (parts ++ (x ∷ []) ∷ []) (kept ++ x ∷ []) numbers k)
+    go w.reported (λ k. goes_to disk ps t dropped chain (seen ++ x ∷ []) todo (parts ++ (x ∷ []) ∷ []) (kept ++ x ∷ []) numbers k)
   where
     go : AreUnreachedFrom (IsReached ps) (length chain + length kept + dropped) (onward_all None seen) (x ∷ todo) numbers
         → (IsOnWay disk ps t dropped chain (seen ++ x ∷ []) todo (parts ++ (x ∷ []) ∷ []) (kept ++ x ∷ []) numbers → IsAtEnd disk ps t dropped chain numbers ⊎ IsAtDrop disk ps t dropped chain numbers)

@@ -1,4 +1,4 @@
--- A pair with another share, or with the tail of the one behind it, on a disk where only its blocks differ.
+-- A pair with another delta, or with the tail of the one behind it, on a disk where only its blocks differ.
 use Rattle.std.proofs.Common.{ℕ, suc, ◌≡◌, ◌+◌, ◌<◌, List, [], ◌∷◌, ◌++◌, length, Some, refl, sym, ap, ap₂, subst, ◌∙◌, arith, append_assoc, length-append, get_or, set, remove}
 use Rattle.std.specs.Prelude.{All}
 use Rattle.std.proofs.lemmas.List.Elements.{All-from_recursion, recursion_from_All}
@@ -19,7 +19,7 @@ use Rattle.lfs_model.proofs.Unchanged.{HasFirst, same_follows}
 use Rattle.lfs_pair.specs.Commit.{OutsideKeeps}
 use Rattle.lfs_thread.specs.Kept.{Kept}
 use Rattle.lfs_thread.specs.Steps.{IsWrittenAs, SlotsHaveFirst, no_pair, pair_in, with_pair}
-use Rattle.lfs_operations.specs.Sharing.{share_of, takes_share}
+use Rattle.lfs_operations.specs.Deltas.{delta_of, takes_delta}
 use Rattle.lfs_operations.proofs.Placing.{all_apart, device}
 
 -- ---- places in a thread
@@ -151,30 +151,30 @@ module _ (t : Kept) (chain front : List Pair) (p o : Pair) (back : List Pair) (i
       }
 
   -- the global state is the one that is wanted
-  pub dropped_state : (g : Gstate) (q : Pair) → q.content.move ≡ takes_share t index (index + 1) g → gstate_of (chain ++ (front ++ q ∷ back)) ≡ g
+  pub dropped_state : (g : Gstate) (q : Pair) → q.content.move ≡ takes_delta t index (index + 1) g → gstate_of (chain ++ (front ++ q ∷ back)) ≡ g
   dropped_state g q e =
       let G = gstate_of t.pairs in
       let d = gstate_xor g G in
-      let shares : takes_share t index (index + 1) g ≡ gstate_xor (gstate_xor d p.content.move) o.content.move
+      let deltas : takes_delta t index (index + 1) g ≡ gstate_xor (gstate_xor d p.content.move) o.content.move
       = ap₂ (λ (x y : Pair). gstate_xor (gstate_xor d x.content.move) y.content.move) (here_is t chain front p (o ∷ back) index k) next_is in
       let two : gstate_of (p ∷ o ∷ []) ≡ gstate_xor p.content.move o.content.move = gstate_cons p (o ∷ []) ∙ ap (gstate_xor p.content.move) (gstate_cons o [] ∙ gstate_right o.content.move) in
       let one : gstate_of (q ∷ []) ≡ gstate_xor d (gstate_of (p ∷ o ∷ []))
-      = gstate_cons q [] ∙ gstate_right q.content.move ∙ e ∙ shares ∙ gstate_assoc d p.content.move o.content.move ∙ ap (gstate_xor d) (sym two) in
+      = gstate_cons q [] ∙ gstate_right q.content.move ∙ e ∙ deltas ∙ gstate_assoc d p.content.move o.content.move ∙ ap (gstate_xor d) (sym two) in
       ap gstate_of (sym (append_assoc chain front (q ∷ back)))
       ∙ gstate_moved d (chain ++ front) (p ∷ o ∷ []) (q ∷ []) back one
       ∙ ap (λ z. gstate_xor d (gstate_of z)) (sym (grouped t chain front p (o ∷ back) index k))
       ∙ gstate_assoc g G G ∙ ap (gstate_xor g) (gstate_self G) ∙ gstate_right g
 
--- ---- a share changes
+-- ---- a delta changes
 
-pub set_state_is : (t : Kept) (chain front : List Pair) (p : Pair) (back : List Pair) (index : ℕ) → IsAt t chain front p back index → (g : Gstate) (q : Pair) → q.content.move ≡ share_of t index g
+pub set_state_is : (t : Kept) (chain front : List Pair) (p : Pair) (back : List Pair) (index : ℕ) → IsAt t chain front p back index → (g : Gstate) (q : Pair) → q.content.move ≡ delta_of t index g
     → gstate_of (chain ++ (front ++ q ∷ back)) ≡ g
 set_state_is t chain front p back index k g q e =
     let G = gstate_of t.pairs in
     let d = gstate_xor g G in
-    let share : share_of t index g ≡ gstate_xor d p.content.move = ap (λ (x : Pair). gstate_xor d x.content.move) (here_is t chain front p back index k) in
+    let delta : delta_of t index g ≡ gstate_xor d p.content.move = ap (λ (x : Pair). gstate_xor d x.content.move) (here_is t chain front p back index k) in
     let one : gstate_of (q ∷ []) ≡ gstate_xor d (gstate_of (p ∷ []))
-    = gstate_cons q [] ∙ gstate_right q.content.move ∙ e ∙ share ∙ ap (gstate_xor d) (sym (gstate_cons p [] ∙ gstate_right p.content.move)) in
+    = gstate_cons q [] ∙ gstate_right q.content.move ∙ e ∙ delta ∙ ap (gstate_xor d) (sym (gstate_cons p [] ∙ gstate_right p.content.move)) in
     ap gstate_of (sym (append_assoc chain front (q ∷ back)))
     ∙ gstate_moved d (chain ++ front) (p ∷ []) (q ∷ []) back one
     ∙ ap (λ z. gstate_xor d (gstate_of z)) (sym (grouped t chain front p back index k))

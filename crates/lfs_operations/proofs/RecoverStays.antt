@@ -9,7 +9,7 @@ use Rattle.std.proofs.lemmas.List.Elements.{All-from_recursion, recursion_from_A
 use Rattle.lfs_model.specs.Blocks.{Blocks}
 use Rattle.lfs_model.specs.Disk.{Disk}
 use Rattle.lfs_model.specs.LoggedContent.{IsAddress}
-use Rattle.lfs_model.specs.PowerLoss.{IsLeft as IsLeftOf, with_blocks}
+use Rattle.lfs_model.specs.PowerLoss.{IsLeftByStop as IsLeftOf, with_blocks}
 use Rattle.lfs_model.specs.Slots.{FitsPair, Gstate, Slot, same_pair}
 use Rattle.lfs_model.specs.SlotEdits.{without_moved}
 use Rattle.lfs_model.specs.Thread.{Pair, blocks_of, gstate_of, is_hard, starts_with_superblock, superblocks_before, unmoved}
@@ -33,14 +33,14 @@ use Rattle.lfs_model.proofs.StepsTaken.{IsTaken, fit_spliced, taken_before, with
 use Rattle.lfs_model.proofs.Unchanged.{HasFirst}
 use Rattle.lfs_model.proofs.Writable.{flag}
 use Rattle.lfs_thread.specs.Kept.{Kept}
-use Rattle.lfs_thread.specs.Steps.{IsLeft, IsWrittenAs, SlotsHaveFirst, made_in_thread, pair_in, with_pair}
-use Rattle.lfs_operations.specs.Sharing.{FitsFields, goes_on_at, share_of}
+use Rattle.lfs_thread.specs.Steps.{IsLeftByChange, IsWrittenAs, SlotsHaveFirst, made_in_thread, pair_in, with_pair}
+use Rattle.lfs_operations.specs.Deltas.{FitsFields, goes_on_at, delta_of}
 use Rattle.lfs_operations.specs.EndingMove.{CanEndMove, CanTakeSlot, IsMovedAt, is_alone_at, taking, unset}
 use Rattle.lfs_operations.proofs.RecoverBefore.{AreKin, hidden, hidden_append, hidden_far, kin_append}
 use Rattle.lfs_operations.proofs.RecoverMap.{count_used}
 use Rattle.lfs_operations.proofs.RecoverMoved.{in_directory}
 use Rattle.lfs_operations.proofs.RecoverPlaced.{IsAt, here_is, nothing_taken, placed_by, placed_device, set_state_is, with_is}
-use Rattle.lfs_operations.proofs.RecoverShares.{take_fits, take_made, without_content}
+use Rattle.lfs_operations.proofs.RecoverDeltas.{take_fits, take_made, without_content}
 
 -- the state without a move
 pub unset_fits : (g : Gstate) → FitsFields (unset g)
@@ -90,13 +90,13 @@ module _ (t : Kept) (can : CanEndMove t) (index : ℕ) (m : IsMovedAt t index) w
   held = ap (λ (z : Pair). z.content.slots) (sym here) ∙ m.held
 
   abbrev pub y : Pair
-  y = record { at = h.pair.at; content = record { slots = m.left ++ m.right; tail = h.pair.content.tail; move = share_of t index (unset (gstate_of t.pairs)) } }
+  y = record { at = h.pair.at; content = record { slots = m.left ++ m.right; tail = h.pair.content.tail; move = delta_of t index (unset (gstate_of t.pairs)) } }
 
   slots_are : remove (pair_in t index).content.slots G.id ≡ m.left ++ m.right
   slots_are = ap₂ (λ (s : List Slot) (i : ℕ). remove s i) m.held (sym m.number) ∙ remove_here m.left m.right m.slot
 
   content_is : without_content t index G.id (unset (gstate_of t.pairs)) ≡ y.content
-  content_is = ap₂ (λ (s : List Slot) (z : Pair). record { slots = s; tail = z.content.tail; move = share_of t index (unset (gstate_of t.pairs)) }) slots_are here
+  content_is = ap₂ (λ (s : List Slot) (z : Pair). record { slots = s; tail = z.content.tail; move = delta_of t index (unset (gstate_of t.pairs)) }) slots_are here
 
   accepted : IsAccepted t.disk (thread_at h.site (h.pair ∷ []))
   accepted = subst (IsAccepted t.disk) h.is can.accepted
@@ -201,8 +201,8 @@ module _ (t : Kept) (can : CanEndMove t) (index : ℕ) (m : IsMovedAt t index) w
   }
 
   -- a stop leaves the tree
-  pub stays_left : CanTakeSlot t index G.id (unset (gstate_of t.pairs)) → is_alone_at t index ≡ false → IsAddress (share_of t index (unset (gstate_of t.pairs))).pair
-      → (left : Blocks) → IsLeft t index (taking t index G.id (unset (gstate_of t.pairs))) left → IsLeftOf (with_blocks left t.disk) (tree_in t.disk t.pairs) (tree_in t.disk t.pairs)
+  pub stays_left : CanTakeSlot t index G.id (unset (gstate_of t.pairs)) → is_alone_at t index ≡ false → IsAddress (delta_of t index (unset (gstate_of t.pairs))).pair
+      → (left : Blocks) → IsLeftByChange t index (taking t index G.id (unset (gstate_of t.pairs))) left → IsLeftOf (with_blocks left t.disk) (tree_in t.disk t.pairs) (tree_in t.disk t.pairs)
   stays_left take alone address left is = subst (λ z. IsLeftOf (with_blocks left t.disk) (tree_in t.disk z) (tree_in t.disk z)) (sym h.is) (go is.is)
     where
       old : List Pair

@@ -4,7 +4,7 @@ use Rattle.std.proofs.lemmas.Option.{same_Some}
 use Rattle.lfs_model.specs.Blocks.{Blocks}
 use Rattle.lfs_model.specs.Disk.{Disk}
 use Rattle.lfs_model.specs.LoggedContent.{IsAddress}
-use Rattle.lfs_model.specs.PowerLoss.{IsLeft as IsLeftOf, with_blocks}
+use Rattle.lfs_model.specs.PowerLoss.{IsLeftByStop as IsLeftOf, with_blocks}
 use Rattle.lfs_model.specs.Slots.{FitsPair, Gstate, Tail, no_gstate, same_pair}
 use Rattle.lfs_model.specs.Thread.{Pair, gstate_of, is_hard, superblocks_before}
 use Rattle.lfs_model.specs.Tree.{Path}
@@ -23,12 +23,12 @@ use Rattle.lfs_model.proofs.Splices.{IsDevice, stays_shape}
 use Rattle.lfs_model.proofs.StepsTaken.{IsTaken, taken_before, within_at, within_same}
 use Rattle.lfs_model.proofs.Unthreaded.{IsReady, IsUnthreaded, Unthreads, unthread}
 use Rattle.lfs_thread.specs.Kept.{Kept}
-use Rattle.lfs_thread.specs.Steps.{IsLeft, IsWrittenAs, made_in_thread, pair_in, with_pair}
-use Rattle.lfs_operations.specs.Sharing.{CanSetState, CanTakeOver, IsAddressIfSome, setting, share_of, takes_share, taking_over, target_of}
+use Rattle.lfs_thread.specs.Steps.{IsLeftByChange, IsWrittenAs, made_in_thread, pair_in, with_pair}
+use Rattle.lfs_operations.specs.Deltas.{CanSetState, CanTakeOver, IsAddressIfSome, setting, delta_of, takes_delta, taking_over, target_of}
 use Rattle.lfs_operations.proofs.RecoverPlaced.{IsAt, dropped_device, dropped_state, here_is, next_is, nothing_taken, placed_device, set_state_is, with_is}
-use Rattle.lfs_operations.proofs.RecoverShares.{over_content, over_made, set_content, set_made, taken_tail, with_move}
+use Rattle.lfs_operations.proofs.RecoverDeltas.{over_content, over_made, set_content, set_made, taken_tail, with_move}
 
--- ---- a pair takes over the tail and the share of one that no path leads to
+-- ---- a pair takes over the tail and the delta of one that no path leads to
 
 -- no move is set then, and no path leads to the pair that goes
 pub record IsUnled (t : Kept) (g : Gstate) (before x : Pair) : Type 0 where
@@ -49,7 +49,7 @@ module _ (t : Kept) (chain front : List Pair) (before x : Pair) (todo : List Pai
   behind_is = ap (pair_in t) next ∙ next_is t chain front before x todo index k
 
   pub state_now : gstate_of (chain ++ (front ++ q ∷ todo)) ≡ g
-  state_now = dropped_state t chain front before x todo index k g q (ap (λ (i : ℕ). takes_share t index i g) next)
+  state_now = dropped_state t chain front before x todo index k g q (ap (λ (i : ℕ). takes_delta t index i g) next)
 
   soft_tail : (b : Bool) (tail : Option Tail) → taken_tail (false && b) tail ≡ softened tail
   soft_tail b None = refl
@@ -72,8 +72,8 @@ module _ (t : Kept) (chain front : List Pair) (before x : Pair) (todo : List Pai
   over_taken disk is = unthread t.disk disk chain front before x q todo ready (over_on disk is)
 
   -- a stop leaves the tree
-  pub over_left : CanTakeOver t index behind g → IsAddress (takes_share t index behind g).pair → IsAddressIfSome (target_of (pair_in t behind).content.tail)
-      → (left : Blocks) → IsLeft t index (taking_over t index behind g) left → IsLeftOf (with_blocks left t.disk) (tree_in t.disk t.pairs) (tree_in t.disk t.pairs)
+  pub over_left : CanTakeOver t index behind g → IsAddress (takes_delta t index behind g).pair → IsAddressIfSome (target_of (pair_in t behind).content.tail)
+      → (left : Blocks) → IsLeftByChange t index (taking_over t index behind g) left → IsLeftOf (with_blocks left t.disk) (tree_in t.disk t.pairs) (tree_in t.disk t.pairs)
   over_left can address words left is = subst (λ z. IsLeftOf (with_blocks left t.disk) (tree_in t.disk z) (tree_in t.disk z)) (sym k.there) (go is.is)
     where
       old : List Pair
@@ -91,7 +91,7 @@ module _ (t : Kept) (chain front : List Pair) (before x : Pair) (todo : List Pai
           taken_before t.disk old (with_blocks left t.disk) (chain ++ (front ++ q ∷ todo)) (λ d. d) (tree_in t.disk old)
           (over_taken (with_blocks left t.disk) (subst (λ c. IsWrittenAs t index c (with_blocks left t.disk)) same is.written)).taken
 
--- ---- a share changes, and with it the sync bit
+-- ---- a delta changes, and with it the sync bit
 
 -- no move is set and all directories are reached; the pair is one of a directory
 pub record CanClear (t : Kept) (index : ℕ) : Type 0 where
@@ -116,10 +116,10 @@ module _ (t : Kept) (index : ℕ) (can : CanClear t index) where
   place = record { there = h.is; number = sym h.number ∙ length-append h.site.chain (h.site.before ++ h.site.left) }
 
   abbrev pub y : Pair
-  y = record { at = h.pair.at; content = with_move h.pair.content (share_of t index no_gstate) }
+  y = record { at = h.pair.at; content = with_move h.pair.content (delta_of t index no_gstate) }
 
-  content_is : set_content t index no_gstate ≡ with_move h.pair.content (share_of t index no_gstate)
-  content_is = ap (λ (z : Pair). with_move z.content (share_of t index no_gstate)) (here_is t h.site.chain (h.site.before ++ h.site.left) h.pair (h.site.right ++ h.site.after) index place)
+  content_is : set_content t index no_gstate ≡ with_move h.pair.content (delta_of t index no_gstate)
+  content_is = ap (λ (z : Pair). with_move z.content (delta_of t index no_gstate)) (here_is t h.site.chain (h.site.before ++ h.site.left) h.pair (h.site.right ++ h.site.after) index place)
 
   accepted : IsAccepted t.disk (thread_at h.site (h.pair ∷ []))
   accepted = subst (IsAccepted t.disk) h.is can.accepted
@@ -131,7 +131,7 @@ module _ (t : Kept) (index : ℕ) (can : CanClear t index) where
   clear_state = set_state_is t h.site.chain (h.site.before ++ h.site.left) h.pair (h.site.right ++ h.site.after) index place no_gstate y refl
 
   pub clear_pairs : with_pair t index (set_content t index no_gstate) ≡ thread_at h.site (y ∷ [])
-  clear_pairs = ap (with_pair t index) content_is ∙ with_is t h.site.chain (h.site.before ++ h.site.left) h.pair (h.site.right ++ h.site.after) index place (with_move h.pair.content (share_of t index no_gstate))
+  clear_pairs = ap (with_pair t index) content_is ∙ with_is t h.site.chain (h.site.before ++ h.site.left) h.pair (h.site.right ++ h.site.after) index place (with_move h.pair.content (delta_of t index no_gstate))
 
   pub clear_alike : AreAlike t.pairs (thread_at h.site (y ∷ []))
   clear_alike = subst (λ z. AreAlike z (thread_at h.site (y ∷ []))) (sym h.is)
@@ -140,7 +140,7 @@ module _ (t : Kept) (index : ℕ) (can : CanClear t index) where
       (refl, refl, alike_itself (h.site.right ++ h.site.after))))
 
   pub device_on : (disk : Disk) → IsWrittenAs t index (set_content t index no_gstate) disk → IsDevice t.disk disk (thread_at h.site (h.pair ∷ [])) (thread_at h.site (y ∷ []))
-  device_on disk is = placed_device t h.site.chain (h.site.before ++ h.site.left) h.pair (h.site.right ++ h.site.after) index place disk (with_move h.pair.content (share_of t index no_gstate)) refl accepted
+  device_on disk is = placed_device t h.site.chain (h.site.before ++ h.site.left) h.pair (h.site.right ++ h.site.after) index place disk (with_move h.pair.content (delta_of t index no_gstate)) refl accepted
       (subst (λ c. IsWrittenAs t index c disk) content_is is)
 
   step : (disk : Disk) → IsWrittenAs t index (set_content t index no_gstate) disk → IsStep t.disk disk h.site h.pair [] y [] [] [] h.pair.content.slots [] [] []
@@ -164,8 +164,8 @@ module _ (t : Kept) (index : ℕ) (can : CanClear t index) where
   }
 
   -- a stop leaves the tree
-  pub clear_left : CanSetState t index no_gstate → IsAddress (share_of t index no_gstate).pair
-      → (left : Blocks) → IsLeft t index (setting t index no_gstate) left → IsLeftOf (with_blocks left t.disk) (tree_in t.disk t.pairs) (tree_in t.disk t.pairs)
+  pub clear_left : CanSetState t index no_gstate → IsAddress (delta_of t index no_gstate).pair
+      → (left : Blocks) → IsLeftByChange t index (setting t index no_gstate) left → IsLeftOf (with_blocks left t.disk) (tree_in t.disk t.pairs) (tree_in t.disk t.pairs)
   clear_left set address left is = subst (λ z. IsLeftOf (with_blocks left t.disk) (tree_in t.disk z) (tree_in t.disk z)) (sym h.is) (go is.is)
     where
       old : List Pair

@@ -9,7 +9,7 @@ use Rattle.lfs_model.specs.Disk.{Disk}
 use Rattle.lfs_model.specs.Layout.{begin_from, onward}
 use Rattle.lfs_model.specs.History.{EachSince}
 use Rattle.lfs_model.specs.LoggedContent.{IsAddress}
-use Rattle.lfs_model.specs.PowerLoss.{IsLeft as IsLeftOf, Survives, with_blocks}
+use Rattle.lfs_model.specs.PowerLoss.{IsLeftByStop as IsLeftOf, Survives, with_blocks}
 use Rattle.lfs_model.specs.Slots.{Gstate, Slot, no_gstate, same_pair}
 use Rattle.lfs_model.specs.Thread.{Pair, blocks_of, directory_pairs, first_at, gstate_of, superblocks_before}
 use Rattle.lfs_model.specs.View.{IsAccepted}
@@ -31,15 +31,15 @@ use Rattle.lfs_model.proofs.Splices.{files_of, slots_in}
 use Rattle.lfs_model.proofs.Unthreaded.{IsReady, IsUnthreaded, same_parts}
 use Rattle.lfs_thread.specs.Device.{StopsLeave, two_of}
 use Rattle.lfs_thread.specs.Kept.{Kept}
-use Rattle.lfs_thread.specs.Steps.{HasShape, IsDropped, IsLeft, IsWrittenAs, Writes, no_pair, pair_in, with_pair, without_pair}
-use Rattle.lfs_operations.specs.Sharing.{CanTakeOver, FitsFields, IsAddressIfSome, takes_share, taking_over, target_of}
+use Rattle.lfs_thread.specs.Steps.{HasShape, IsDropped, IsLeftByChange, IsWrittenAs, Writes, no_pair, pair_in, with_pair, without_pair}
+use Rattle.lfs_operations.specs.Deltas.{CanTakeOver, FitsFields, IsAddressIfSome, takes_delta, taking_over, target_of}
 use Rattle.lfs_operations.specs.Recovering.{AreUnreached, AreUnreachedFrom, CanDropUnreached, list_blocks_at, state_with}
 use Rattle.lfs_operations.specs.Dropping.{SameInFlight}
 use Rattle.lfs_operations.proofs.RecoverLists.{lists_kept, lists_more, numbered}
 use Rattle.lfs_operations.proofs.RecoverLoop.{FirstsOnly, IsAtDrop, IsAtEnd, IsOnWay, all_but, drops, goes_to, ready, soft, stands, sync_set, unled}
 use Rattle.lfs_operations.proofs.RecoverMap.{HasMap, blocks_count, files_count, map_drops, map_flies}
 use Rattle.lfs_operations.proofs.RecoverPlaced.{IsAt, next_below, next_is, without_is}
-use Rattle.lfs_operations.proofs.RecoverShares.{over_content, over_made}
+use Rattle.lfs_operations.proofs.RecoverDeltas.{over_content, over_made}
 use Rattle.lfs_operations.proofs.RecoverWrites.{two_fewer, writes_fewer, writes_none}
 use Rattle.lfs_operations.proofs.UnlinkedSteps.{writes_trans}
 use Rattle.lfs_operations.proofs.RecoverSteps.{IsUnled, over_left, over_on, state_now}
@@ -124,7 +124,7 @@ pub record IsUnderWay (old now : Kept) (dropped : ℕ) (numbers : List ℕ) : Ty
   pub map : HasMap now gone
   pub was : IsAccepted old.disk old.pairs
   pub took : List ℕ
-  pub told : AreUnreached old.pairs (took ++ numbers)
+  pub reported : AreUnreached old.pairs (took ++ numbers)
   pub gone_are : gone ≡ list_blocks_at old took
   pub lost : (b : ℕ) → count b gone + count b (files_of now.disk (slots_in now.pairs)) ≡ count b (files_of old.disk (slots_in old.pairs))
   pub flying : SameInFlight old.map now.map
@@ -137,7 +137,7 @@ begins t numbers can =
     let ok = can.accepted in
     let fits = can.writable in
     let none = can.none in
-    let told = can.told in
+    let reported = can.reported in
     let e = chain_of_thread t.pairs in
     let count : superblocks_before t.pairs ≡ length (take (superblocks_before t.pairs) t.pairs) + 0 + 0 = let a = ap superblocks_before e.0 in let b = e.1 in omega arith in
     record {
@@ -150,7 +150,7 @@ begins t numbers can =
         there = e.0;
         counted = refl;
         no_move = none;
-        told = subst (λ n. AreUnreachedFrom (IsReached t.pairs) n None (directory_pairs t.pairs) numbers) count told;
+        reported = subst (λ n. AreUnreachedFrom (IsReached t.pairs) n None (directory_pairs t.pairs) numbers) count reported;
         firsts = firsts_from t.disk t.pairs ok [] (directory_pairs t.pairs) refl;
         filled = fits.no_empty_pair;
         begins = tt;
@@ -162,7 +162,7 @@ begins t numbers can =
       gone = [];
       was = ok;
       took = [];
-      told = told;
+      reported = reported;
       gone_are = refl;
       map = record {
         owned = used_blocks t.disk t.pairs;
@@ -315,8 +315,8 @@ module _ (old now : Kept) (dropped number : ℕ) (rest : List ℕ) (n : IsNext o
     number_there = numbered old.pairs C n.seen n.x n.todo number n.way.is.are
         (let k = n.number_is in let c = n.way.counted in let a = ap length n.split in let b = length-append n.front (n.before ∷ []) in omega arith)
 
-    pub survives_on : (new : Kept) → IsUnderWay old now dropped (number ∷ rest) → IsAddress (takes_share now index behind g).pair → IsAddressIfSome (target_of (pair_in now behind).content.tail)
-        → StaysOn now new → StopsLeave now.history new.history (IsLeft now index (taking_over now index behind g))
+    pub survives_on : (new : Kept) → IsUnderWay old now dropped (number ∷ rest) → IsAddress (takes_delta now index behind g).pair → IsAddressIfSome (target_of (pair_in now behind).content.tail)
+        → StaysOn now new → StopsLeave now.history new.history (IsLeftByChange now index (taking_over now index behind g))
         → Survives old.disk old.history new.history (tree_in old.disk old.pairs) (tree_in old.disk old.pairs)
     survives_on new u address words on stops =
         survives_then old.disk old.history now.history new.history (tree_in old.disk old.pairs) (tree_in old.disk old.pairs) u.device.calls on.calls u.survives
@@ -330,8 +330,8 @@ module _ (old now : Kept) (dropped number : ℕ) (rest : List ℕ) (n : IsNext o
         let low : index < length now.pairs = let w = can.next in let z = can.below in omega arith in
         writes_trans u.writes (writes_fewer _ (blocks_of old.pairs) (λ b. let f = u.fewer b in let l = two_fewer now.pairs index low b in omega arith) writes)
 
-    pub moves_on : (new : Kept) → IsUnderWay old now dropped (number ∷ rest) → IsAddress (takes_share now index behind g).pair → IsAddressIfSome (target_of (pair_in now behind).content.tail)
-        → IsDropped now index (taking_over now index behind g) new → Writes (two_of (pair_in now index).at) now new → StopsLeave now.history new.history (IsLeft now index (taking_over now index behind g))
+    pub moves_on : (new : Kept) → IsUnderWay old now dropped (number ∷ rest) → IsAddress (takes_delta now index behind g).pair → IsAddressIfSome (target_of (pair_in now behind).content.tail)
+        → IsDropped now index (taking_over now index behind g) new → Writes (two_of (pair_in now index).at) now new → StopsLeave now.history new.history (IsLeftByChange now index (taking_over now index behind g))
         → IsUnderWay old new (suc dropped) rest
     moves_on new u address words is writes stops =
         let on = stays_by _ now new writes in
@@ -351,7 +351,7 @@ module _ (old now : Kept) (dropped number : ℕ) (rest : List ℕ) (n : IsNext o
           gone = u.gone ++ files_of now.disk n.x.content.slots;
           was = u.was;
           took = u.took ++ number ∷ [];
-          told = subst (AreUnreached old.pairs) (sym (append_assoc u.took (number ∷ []) rest)) u.told;
+          reported = subst (AreUnreached old.pairs) (sym (append_assoc u.took (number ∷ []) rest)) u.reported;
           gone_are = ap₂ (λ a b. a ++ b) u.gone_are (lists_kept old now C n.seen n.x n.todo n.way.is.are u.was n.way.no_move u.writes) ∙ sym (lists_more old u.took number n.x number_there);
           map = map_drops now new (C ++ n.front) n.before n.x q n.todo were are refl apart.slots now_none still apart.device.geometry files u.gone map_is on.shape.count u.map;
           lost = λ b.

@@ -37,11 +37,11 @@ use Rattle.lfs_model.proofs.Sites.{Site, begin_of, thread_at}
 use Rattle.lfs_model.proofs.Writable.{flag}
 use Rattle.lfs_thread.specs.Device.{StopsLeave}
 use Rattle.lfs_thread.specs.Kept.{Kept, State}
-use Rattle.lfs_thread.specs.Steps.{CanChange, HasTold, IsChanged, IsLeft, IsRefused, made_in_thread, pair_in}
+use Rattle.lfs_thread.specs.Steps.{CanChange, HasReported, IsChanged, IsLeftByChange, IsRefused, made_in_thread, pair_in}
 use Rattle.lfs_operations.specs.Editing.{CanEdit, slot_at}
 use Rattle.lfs_operations.specs.Dropping.{HasShrunk}
 use Rattle.lfs_operations.specs.Ready.{HasBecomeBut}
-use Rattle.lfs_operations.specs.Removing.{CanRemove, IsRemoved, TellsOfCalls, goes_whole, without_file}
+use Rattle.lfs_operations.specs.Removing.{CanRemove, IsRemoved, ReportsOfCalls, goes_whole, without_file}
 use Rattle.lfs_operations.proofs.Held.{CompletesTo, below, fits_there, here, raw_there}
 use Rattle.lfs_operations.proofs.Splicing.{Commits, IsSplicing}
 use Rattle.lfs_operations.proofs.Stepped.{HasStep, becomes, put_step, survives}
@@ -245,7 +245,7 @@ module _ (t : Kept) (index id first : ℕ) (take : CanRemove t index id first) (
         once = λ b. let e = x.used.same b in let o = x.once b in omega arith;
       }
 
-  pub remove_survives : (new : List Event) → StopsLeave t.history new (IsLeft t index (Delete id ∷ [])) → Survives t.disk t.history new (tree_in t.disk t.pairs) (without_file t take.can.path take.can.name)
+  pub remove_survives : (new : List Event) → StopsLeave t.history new (IsLeftByChange t index (Delete id ∷ [])) → Survives t.disk t.history new (tree_in t.disk t.pairs) (without_file t take.can.path take.can.name)
   remove_survives new stops = survives t index (Delete id ∷ []) w p l (u ∷ []) [] r (file_blocks t.disk u.struct) [] spliced turn (λ disk q more y. ((λ d. d), follows disk q more y)) filled new
       (λ clean. LeavesOnly-weaker (λ left x. inl x) (stops clean))
 
@@ -255,13 +255,13 @@ same_err : {A : Type 0} (a b : Error) (r : Result A Error) → r ≡ Err a → r
 same_err a b r h k = cc
 
 -- an error that is passed on
-pub tells_again : {X Y : Type 0} (old new : State) (e : Error) (result : Result X Error) (given : Result Y Error) → result ≡ Err e → given ≡ Err e → new.failed ≡ is_err result → HasTold old.kept new.kept result → TellsOfCalls old new given
-tells_again old new e result given is same failed told = record {
+pub reports_again : {X Y : Type 0} (old new : State) (e : Error) (result : Result X Error) (given : Result Y Error) → result ≡ Err e → given ≡ Err e → new.failed ≡ is_err result → HasReported old.kept new.kept result → ReportsOfCalls old new given
+reports_again old new e result given is same failed reported = record {
   failed = failed ∙ ap is_err is ∙ sym (ap is_err same);
-  told = record {
-    errors = subst (λ r. IfErr r (λ x. (x ≡ Io) ⊎ (x ≡ NoMemory))) (sym same) (subst (λ r. IfErr r (λ x. (x ≡ Io) ⊎ (x ≡ NoMemory))) is told.errors);
-    fault = λ io. told.fault (is ∙ ap Err (same_err e Io given same io));
-    no_fault = λ other. told.no_fault (λ io. other (same ∙ ap Err (same_err e Io result is io)));
-    unwritten = λ none. told.unwritten (is ∙ ap Err (same_err e NoMemory given same none));
+  reported = record {
+    errors = subst (λ r. IfErr r (λ x. (x ≡ Io) ⊎ (x ≡ NoMemory))) (sym same) (subst (λ r. IfErr r (λ x. (x ≡ Io) ⊎ (x ≡ NoMemory))) is reported.errors);
+    fault = λ io. reported.fault (is ∙ ap Err (same_err e Io given same io));
+    no_fault = λ other. reported.no_fault (λ io. other (same ∙ ap Err (same_err e Io result is io)));
+    unwritten = λ none. reported.unwritten (is ∙ ap Err (same_err e NoMemory given same none));
   };
 }

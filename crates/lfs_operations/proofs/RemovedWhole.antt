@@ -10,7 +10,7 @@ use Rattle.lfs_model.specs.Disk.{Disk}
 use Rattle.lfs_model.specs.History.{Event}
 use Rattle.lfs_model.specs.InDirectory.{BeginsAt}
 use Rattle.lfs_model.specs.Operations as ops
-use Rattle.lfs_model.specs.PowerLoss.{IsLeft as IsLeftOf, Survives, with_blocks}
+use Rattle.lfs_model.specs.PowerLoss.{IsLeftByStop as IsLeftOf, Survives, with_blocks}
 use Rattle.lfs_model.specs.Slots.{Content, FitsPair, Slot, Tail, no_gstate, same_pair}
 use Rattle.lfs_model.specs.Thread.{Pair, blocks_of, first_at, gstate_of, is_hard, superblocks_before}
 use Rattle.lfs_model.specs.Tree.{Tree, branch_of}

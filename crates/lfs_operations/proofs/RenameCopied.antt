@@ -8,11 +8,11 @@ use Rattle.lfs_model.specs.Content.{RawContent, RawSlot, complete, complete_all,
 use Rattle.lfs_model.specs.Log.{log_entries}
 use Rattle.lfs_model.specs.Slots.{Content, Slot}
 use Rattle.lfs_model.proofs.Completed.{complete_length, complete_parts, completed_parts}
-use Rattle.lfs_tag.specs.ContentSeen.{attribute_seen, content_seen, part_seen, slot_seen}
+use Rattle.lfs_tag.specs.ContentView.{attribute_view, content_view, part_view, slot_view}
 use Rattle.lfs_tag.specs.declared.content.Content as code
 use Rattle.lfs_tag.specs.declared.content.Part.{Part}
 use Rattle.lfs_tag.specs.declared.content.Slot as slots
-use Rattle.lfs_thread.specs.Lent.{IsBlockOf}
+use Rattle.lfs_thread.specs.CachedLog.{IsBlockOf}
 
 at_id : {X : Type 0} (f : X → RawSlot) (xs : List X) (i : ℕ) (x : X) (d : RawSlot) → i < length xs → x ≡ get_or xs i x → get_or (map f xs) i d ≡ f x
 at_id f [] i x d l e = absurd (omega arith)
@@ -28,35 +28,35 @@ complete_at_id [] us i h l = absurd (omega arith)
 complete_at_id (x ∷ xs) us zero h l = let p = complete_parts x xs us h in record { slot = p.first; is = p.is_first }
 complete_at_id (x ∷ xs) us (suc i) h l = let p = complete_parts x xs us h in complete_at_id xs p.others i p.are_others (omega arith)
 
-has_parts : (s : slots.Slot) (u : Slot) → complete (slot_seen s) ≡ Some u → IsSome s.name × IsSome s.structure
+has_parts : (s : slots.Slot) (u : Slot) → complete (slot_view s) ≡ Some u → IsSome s.name × IsSome s.structure
 has_parts s u h = go s.name s.structure h
   where
     go : (n p : Option Part) → option_and_then (λ name. option_map (λ struct. record {
       kind = kind_named name.0;
       name = name.1;
       struct = struct_typed struct.0 struct.1;
-      attributes = map attribute_seen s.attributes.items;
-    }) (option_map part_seen p)) (option_map part_seen n) ≡ Some u → IsSome n × IsSome p
+      attributes = map attribute_view s.attributes.items;
+    }) (option_map part_view p)) (option_map part_view n) ≡ Some u → IsSome n × IsSome p
     go None p k = absurd (cc)
     go (Some n) None k = absurd (cc)
     go (Some n) (Some p) k = (refl, refl)
 
-module _ (block : List ℕ) (content : Content) (is : IsBlockOf block content) (id : ℕ) (below : id < length content.slots) (read : code.Content) (log : content_after_all no_content (log_entries block) ≡ Some (content_seen read)) where
-  same_raw : content_seen read ≡ is.raw
-  same_raw = same_Some (content_seen read) is.raw (sym log ∙ is.log)
+module _ (block : List ℕ) (content : Content) (is : IsBlockOf block content) (id : ℕ) (below : id < length content.slots) (read : code.Content) (log : content_after_all no_content (log_entries block) ≡ Some (content_view read)) where
+  same_raw : content_view read ≡ is.raw
+  same_raw = same_Some (content_view read) is.raw (sym log ∙ is.log)
 
-  slots_are : map slot_seen read.slots.items ≡ is.raw.slots
+  slots_are : map slot_view read.slots.items ≡ is.raw.slots
   slots_are = ap (λ (r : RawContent). r.slots) same_raw
 
   all : complete_all is.raw.slots ≡ Some content.slots
   all = (completed_parts is.raw content is.complete).slots
 
   pub read_below : id < length read.slots.items
-  read_below = let a = complete_length is.raw.slots content.slots all in let b = ap length slots_are in let c = length-map read.slots.items slot_seen in omega arith
+  read_below = let a = complete_length is.raw.slots content.slots all in let b = ap length slots_are in let c = length-map read.slots.items slot_view in omega arith
 
   module _ (slot : slots.Slot) (at : slot ≡ get_or read.slots.items id slot) where
-    pub there_read : slot_of_id is.raw.slots id ≡ slot_seen slot
-    there_read = ap (λ (z : List RawSlot). slot_of_id z id) (sym slots_are) ∙ at_id slot_seen read.slots.items id slot empty_slot read_below at
+    pub there_read : slot_of_id is.raw.slots id ≡ slot_view slot
+    there_read = ap (λ (z : List RawSlot). slot_of_id z id) (sym slots_are) ∙ at_id slot_view read.slots.items id slot empty_slot read_below at
 
     both : IsSome slot.name × IsSome slot.structure
     both =

@@ -13,7 +13,7 @@ use Rattle.lfs_model.specs.History.{Event}
 use Rattle.lfs_model.specs.InDirectory.{StandsAt}
 use Rattle.lfs_model.specs.LoggedContent.{IsMoveState}
 use Rattle.lfs_model.specs.Names.{Name, is_name}
-use Rattle.lfs_model.specs.PowerLoss.{IsLeft as IsLeftOf, Survives, with_blocks}
+use Rattle.lfs_model.specs.PowerLoss.{IsLeftByStop as IsLeftOf, Survives, with_blocks}
 use Rattle.lfs_model.specs.SlotEdits.{with_slots}
 use Rattle.lfs_model.specs.Slots.{Content, FitsPair, Gstate, Slot, gstate_xor, no_gstate, same_pair, slot_size, struct_len}
 use Rattle.lfs_model.specs.Thread.{Pair, gstate_of, next_of, starts_with_superblock}
@@ -26,7 +26,7 @@ use Rattle.lfs_model.proofs.Committed.{no_move_from}
 use Rattle.lfs_model.proofs.Completed.{complete_insert, complete_length, completed_from, completed_parts}
 use Rattle.lfs_model.proofs.Effects.{does_first, puts_move}
 use Rattle.lfs_model.proofs.Files.{HasSameFile}
-use Rattle.lfs_model.proofs.Global.{HasNoMove, gstate_comm, gstate_cons, gstate_moved, gstate_right, sync_share, turned_is}
+use Rattle.lfs_model.proofs.Global.{HasNoMove, gstate_comm, gstate_cons, gstate_moved, gstate_right, sync_delta, turned_is}
 use Rattle.lfs_model.proofs.Histories.{LeavesOnly-weaker}
 use Rattle.lfs_model.proofs.Moves.{IsStep, insert_here}
 use Rattle.lfs_model.proofs.OneCommit.{some_filled}
@@ -39,7 +39,7 @@ use Rattle.lfs_model.proofs.Unchanged.{HasFirst}
 use Rattle.lfs_pair.specs.Commit.{OutsideKeeps}
 use Rattle.lfs_thread.specs.Device.{StopsLeave}
 use Rattle.lfs_thread.specs.Kept.{Kept}
-use Rattle.lfs_thread.specs.Steps.{CanChange, IsChanged, IsLeft, IsRefused, IsWrittenAs, SlotsHaveFirst, made_in_thread, pair_in, with_pair}
+use Rattle.lfs_thread.specs.Steps.{CanChange, IsChanged, IsLeftByChange, IsRefused, IsWrittenAs, SlotsHaveFirst, made_in_thread, pair_in, with_pair}
 use Rattle.lfs_operations.specs.Editing.{CanEdit}
 use Rattle.lfs_operations.specs.Renaming.{place_without, with_renamed}
 use Rattle.lfs_operations.specs.RenamingOver.{CanRenameOver, IsRenamedOver, rename_over_changes}
@@ -54,10 +54,10 @@ use Rattle.lfs_operations.proofs.RenameSlots.{IsOf, name_length, slot_comes, slo
 use Rattle.lfs_operations.proofs.RenameTarget as both
 use Rattle.lfs_operations.proofs.RenameTarget.{follower}
 
--- ---- a share that turns the sync bit
+-- ---- a delta that turns the sync bit
 
-turned_small : (g : Gstate) → IsMoveState g → IsMoveState (gstate_xor g sync_share)
-turned_small g h = subst IsMoveState (sym (gstate_comm g sync_share ∙ turned_is g)) (record { kind = h.kind; id = h.id; pair = h.pair })
+turned_small : (g : Gstate) → IsMoveState g → IsMoveState (gstate_xor g sync_delta)
+turned_small g h = subst IsMoveState (sym (gstate_comm g sync_delta ∙ turned_is g)) (record { kind = h.kind; id = h.id; pair = h.pair })
 
 -- ---- a slot comes into what is left
 
@@ -131,24 +131,24 @@ module _ (t : Kept) (index id place : ℕ) (name : Name) (rename : CanRenameOver
   entry_again : IsEntry u → IsEntry (with_name u name)
   entry_again = both.entry_again t index id place name can rename.target rename.differs
 
-  abbrev share : Gstate
-  share = gstate_xor (pair_in t index).content.move sync_share
+  abbrev delta : Gstate
+  delta = gstate_xor (pair_in t index).content.move sync_delta
 
   -- ---- what the changes make
 
   abbrev turned_raw : RawContent
-  turned_raw = record c.raw { move = share }
+  turned_raw = record c.raw { move = delta }
 
-  does_turn : (rest : List Change) (e : RawContent) → changed_by (record c.raw { move = share }) rest ≡ Some e → changed_by c.raw (PutMove share ∷ rest) ≡ Some e
-  does_turn rest e h = does_first (PutMove share) rest c.raw turned_raw e
-      (puts_move c.raw share (turned_small (pair_in t index).content.move
+  does_turn : (rest : List Change) (e : RawContent) → changed_by (record c.raw { move = delta }) rest ≡ Some e → changed_by c.raw (PutMove delta ∷ rest) ≡ Some e
+  does_turn rest e h = does_first (PutMove delta) rest c.raw turned_raw e
+      (puts_move c.raw delta (turned_small (pair_in t index).content.move
       (subst IsMoveState (sym (completed_parts c.raw p.content c.complete).move ∙ ap (λ (z : Pair). z.content.move) (sym (here t can.ready can.first index p can.stands.rest can.stands.place))) (can.logged c.raw c.is).move))) h
 
   abbrev pub IsLeftOver : List Slot → List Slot → Type 0
   IsLeftOver = both.IsLeftOver t index id place name can rename.target rename.differs
 
   abbrev pub over_content : List Slot → List Slot → Content
-  over_content x y = record { slots = x ++ with_name u name ∷ y; tail = p.content.tail; move = share }
+  over_content x y = record { slots = x ++ with_name u name ∷ y; tail = p.content.tail; move = delta }
 
   module _ (x y : List Slot) (over : IsLeftOver x y) where
     fits_two : FitsPair t.disk.block_size t.disk.page (record p.content { slots = x ++ y })
@@ -168,7 +168,7 @@ module _ (t : Kept) (index id place : ℕ) (name : Name) (rename : CanRenameOver
     raw_now = with_slot left_two.left (place_without id place) (slot_of_parts name (parts_of raw_here))
 
     changed_now : changed_by c.raw (rename_over_changes t index id place name) ≡ Some raw_now
-    changed_now = ap (λ (z : Parts). changed_by c.raw (PutMove share ∷ Delete id ∷ Delete (place_without id place) ∷ slot_changes (place_without id place) name z))
+    changed_now = ap (λ (z : Parts). changed_by c.raw (PutMove delta ∷ Delete id ∷ Delete (place_without id place) ∷ slot_changes (place_without id place) name z))
         (made.parts_are t index id can.ready can.first p can.stands.rest can.stands.place can.logged can.name s)
         ∙ does_turn (Delete id ∷ Delete (place_without id place) ∷ slot_changes (place_without id place) name (parts_of raw_here)) raw_now
         (comes_again turned_raw (Delete id ∷ Delete (place_without id place) ∷ []) x y left_two (place_without id place) over.1 fits_two.count name named raw_here u is_raw_slot)
@@ -205,7 +205,7 @@ module _ (t : Kept) (index id place : ℕ) (name : Name) (rename : CanRenameOver
         let count = fits_here.count in
         record { size = omega arith; count = omega arith }
 
-  -- ---- the slots that make way
+  -- ---- the slots that are replaced
 
   pub record HasOver : Type 1 where
     pub x : List Slot
@@ -340,12 +340,12 @@ module _ (t : Kept) (index id place : ℕ) (name : Name) (rename : CanRenameOver
     grouped : (z : Pair) → thread_at w (z ∷ []) ≡ (w.chain ++ (w.before ++ w.left)) ++ z ∷ (w.right ++ w.after)
     grouped z = sym (append_assoc w.chain (w.before ++ w.left) (z ∷ (w.right ++ w.after)))
 
-    pub gstate_now : gstate_of (thread_at w (q ∷ [])) ≡ sync_share
+    pub gstate_now : gstate_of (thread_at w (q ∷ [])) ≡ sync_delta
     gstate_now =
-        let turn : gstate_of (q ∷ []) ≡ gstate_xor sync_share (gstate_of (p ∷ []))
-        = gstate_cons q [] ∙ gstate_right q.content.move ∙ ap (λ (z : Pair). gstate_xor z.content.move sync_share) pair_there ∙ gstate_comm p.content.move sync_share
-        ∙ ap (gstate_xor sync_share) (sym (gstate_cons p [] ∙ gstate_right p.content.move)) in
-        ap gstate_of (grouped q) ∙ gstate_moved sync_share ahead (p ∷ []) (q ∷ []) behind turn ∙ ap (λ z. gstate_xor sync_share (gstate_of z)) (sym (grouped p)) ∙ ap (gstate_xor sync_share) settled ∙ gstate_right sync_share
+        let turn : gstate_of (q ∷ []) ≡ gstate_xor sync_delta (gstate_of (p ∷ []))
+        = gstate_cons q [] ∙ gstate_right q.content.move ∙ ap (λ (z : Pair). gstate_xor z.content.move sync_delta) pair_there ∙ gstate_comm p.content.move sync_delta
+        ∙ ap (gstate_xor sync_delta) (sym (gstate_cons p [] ∙ gstate_right p.content.move)) in
+        ap gstate_of (grouped q) ∙ gstate_moved sync_delta ahead (p ∷ []) (q ∷ []) behind turn ∙ ap (λ z. gstate_xor sync_delta (gstate_of z)) (sym (grouped p)) ∙ ap (gstate_xor sync_delta) settled ∙ gstate_right sync_delta
 
     no_move_now : HasNoMove (gstate_of (thread_at w (q ∷ [])))
     no_move_now = subst HasNoMove (sym gstate_now) (record { kind = refl; id = refl; pair = refl })
@@ -452,7 +452,7 @@ module _ (t : Kept) (index id place : ℕ) (name : Name) (rename : CanRenameOver
 
   -- ---- at a stop
 
-  left_over : (left : Blocks) → IsLeft t index (rename_over_changes t index id place name) left → IsLeftOf (with_blocks left t.disk) (tree_in t.disk t.pairs) (with_renamed t can.path can.name name)
+  left_over : (left : Blocks) → IsLeftByChange t index (rename_over_changes t index id place name) left → IsLeftOf (with_blocks left t.disk) (tree_in t.disk t.pairs) (with_renamed t can.path can.name name)
   left_over left is = go is.is
     where
       go : (is.content ≡ (pair_in t index).content) ⊎ ((made_in_thread t index (rename_over_changes t index id place name) ≡ Some is.content) × FitsPair t.disk.block_size t.disk.page is.content)
@@ -477,6 +477,6 @@ module _ (t : Kept) (index id place : ℕ) (name : Name) (rename : CanRenameOver
             tree = inr (done.follows.shows ∙ ap (λ z. renamed (can.path ++ can.name ∷ []) (can.path ++ name ∷ []) (tree_in t.disk z)) (sym there));
           }
 
-  pub over_survives : (new : List Event) → StopsLeave t.history new (IsLeft t index (rename_over_changes t index id place name))
+  pub over_survives : (new : List Event) → StopsLeave t.history new (IsLeftByChange t index (rename_over_changes t index id place name))
       → Survives t.disk t.history new (tree_in t.disk t.pairs) (with_renamed t rename.can.path rename.can.name name)
   over_survives new stops clean = LeavesOnly-weaker left_over (stops clean)

@@ -1,4 +1,4 @@
--- Slots that make way for the same ones, of which one has another name, or for fewer.
+-- Slots that are replaced by the same ones, of which one has another name, or for fewer.
 use Rattle.std.proofs.Common.{ℕ, ◌≡◌, ◌+◌, false, List, [], ◌∷◌, ◌++◌, length, Some, sym, ap, subst, ◌∙◌, arith, take, drop}
 use Rattle.std.specs.Prelude.{All}
 use Rattle.std.proofs.lemmas.List.{take-append-drop}
@@ -24,7 +24,7 @@ use Rattle.lfs_operations.proofs.Splicing.{IsSplicing}
 -- ---- what the others keep
 
 -- What holds of the old slots holds of the new ones. They name the same files but for those of the slots that are gone.
-pub record Carries (olds news gone : List Slot) (u moved : Slot) : Type 1 where
+pub record MovesSlots (olds news gone : List Slot) (u moved : Slot) : Type 1 where
   pub each : (P : Slot → Type 0) → (P u → P moved) → Each P olds → Each P news
   pub of_old : (P : Slot → Type 0) → Each P olds → P u
   pub files : (disk : Disk) (b : ℕ) → count b (files_of disk news) + count b (files_of disk gone) ≡ count b (files_of disk olds)
@@ -33,7 +33,7 @@ pub record Carries (olds news gone : List Slot) (u moved : Slot) : Type 1 where
 abbrev pub with_name : Slot → List ℕ → Slot
 with_name u name = record u { name = name }
 
-pub carries_behind : (u : Slot) (name : List ℕ) (passed gone : List Slot) → Carries (u ∷ (passed ++ gone)) (passed ++ with_name u name ∷ []) gone u (with_name u name)
+pub carries_behind : (u : Slot) (name : List ℕ) (passed gone : List Slot) → MovesSlots (u ∷ (passed ++ gone)) (passed ++ with_name u name ∷ []) gone u (with_name u name)
 carries_behind u name passed gone = record {
   each = λ P f h. each_append P passed (with_name u name ∷ []) (each_left P passed gone h.1) (f h.0, tt);
   of_old = λ P h. h.0;
@@ -45,7 +45,7 @@ carries_behind u name passed gone = record {
       omega arith;
 }
 
-pub carries_ahead : (u : Slot) (name : List ℕ) (gone passed : List Slot) → Carries (gone ++ (passed ++ u ∷ [])) (with_name u name ∷ passed) gone u (with_name u name)
+pub carries_ahead : (u : Slot) (name : List ℕ) (gone passed : List Slot) → MovesSlots (gone ++ (passed ++ u ∷ [])) (with_name u name ∷ passed) gone u (with_name u name)
 carries_ahead u name gone passed = record {
   each = λ P f h. let r = each_right P gone (passed ++ u ∷ []) h in (f (each_right P passed (u ∷ []) r).0, each_left P passed (u ∷ []) r);
   of_old = λ P h. (each_right P passed (u ∷ []) (each_right P gone (passed ++ u ∷ []) h)).0;
@@ -85,7 +85,7 @@ each_rests disk ps ok = subst (Each (λ p. HasRests p.content.slots)) (take-appe
 
 -- ---- the commit
 
--- At the site stands the pair of that number, whose slots make way; what the changes make of it is known.
+-- At the site stands the pair of that number, whose slots are replaced; what the changes make of it is known.
 pub record IsPlaced (t : Kept) (index : ℕ) (changes : List Change) (w : Site) (p : Pair) (l olds news r gone : List Slot) (u moved : Slot) : Type 1 where
   pub ready : IsReady t
   pub there : t.pairs ≡ thread_at w (p ∷ [])
@@ -97,7 +97,7 @@ pub record IsPlaced (t : Kept) (index : ℕ) (changes : List Change) (w : Site) 
   pub was : p.content.slots ≡ l ++ (olds ++ r)
   pub now : content.slots ≡ l ++ (news ++ r)
   pub front : starts_with_superblock (olds ++ r) ≡ false
-  pub carries : Carries olds news gone u moved
+  pub carries : MovesSlots olds news gone u moved
   pub entry : IsEntry u → IsEntry moved
   pub struct : moved.struct ≡ u.struct
   pub other : is_superblock moved ≡ false
@@ -111,7 +111,7 @@ module _ (t : Kept) (index : ℕ) (changes : List Change) (w : Site) (p : Pair) 
   of_slots : (P : Slot → Type 0) → Each P p.content.slots → Each P olds
   of_slots P h = each_left P olds r (each_right P l (olds ++ r) (subst (Each P) k.was h))
 
-  -- what holds of all slots holds of those that make way
+  -- what holds of all slots holds of those that are replaced
   pub of_olds : (P : Slot → Type 0) → Each P (all_slots t.pairs) → Each P olds
   of_olds P h =
       let on = subst (Each P) (unmoved_in (gstate_of t.pairs) (no_move_from t.pairs k.ready.settled) t.pairs) h in
@@ -144,7 +144,7 @@ module _ (t : Kept) (index : ℕ) (changes : List Change) (w : Site) (p : Pair) 
       let f = k.carries.files t.disk b in
       omega arith
 
-  -- where the share of the global state stays
+  -- where the delta of the global state stays
   pub splicing : k.content.move ≡ p.content.move → IsSplicing t index changes w p l olds news r (files_of t.disk gone) []
   splicing move = record {
     ready = k.ready;

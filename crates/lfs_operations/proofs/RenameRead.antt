@@ -16,12 +16,12 @@ use Rattle.lfs_model.specs.Shown.{tree_in}
 use Rattle.lfs_model.proofs.Histories.{LeavesOnly-weaker, LeavesOnly-trans, LeavesOnly-reads, EachSince-behind, Stops-read}
 use Rattle.lfs_thread.specs.Device.{StopsLeave}
 use Rattle.lfs_thread.specs.Kept.{Kept, State}
-use Rattle.lfs_thread.specs.Steps.{HasTold, IsChanged, IsOnlyRead, IsWrittenAs, pair_in}
-use Rattle.lfs_operations.specs.Changing.{CanPut, IsLeftByPut, IsPut, IsTooLarge, TellsPut, TellsSpace, WritesIn}
+use Rattle.lfs_thread.specs.Steps.{HasReported, IsChanged, IsOnlyRead, IsWrittenAs, pair_in}
+use Rattle.lfs_operations.specs.Changing.{CanPut, IsLeftByPut, IsPut, IsTooLarge, ReportsPut, ReportsSpace, WritesIn}
 use Rattle.lfs_operations.specs.Ready.{IsReady}
-use Rattle.lfs_operations.specs.Renaming.{TellsMove}
+use Rattle.lfs_operations.specs.Renaming.{ReportsMove}
 use Rattle.lfs_operations.proofs.Held.{here, holds}
-use Rattle.lfs_operations.proofs.Putting.{cut_later, left_later, read_is, tells_later, with_history, writes_later, writes_none}
+use Rattle.lfs_operations.proofs.Putting.{cut_later, left_later, read_is, reports_later, with_history, writes_later, writes_none}
 
 -- ---- only read
 
@@ -36,18 +36,18 @@ same_err : {A : Type 0} (a b : Error) (r : Result A Error) → r ≡ Err a → r
 same_err a b r h k = cc
 
 -- an error of a call that only reads, passed on
-pub tells_read : {X Y : Type 0} (t mid : Kept) (e : Error) (result : Result X Error) (given : Result Y Error) → result ≡ Err e → given ≡ Err e → HasTold t mid result → TellsSpace t mid given
-tells_read t mid e result given is same told = record {
+pub reports_read : {X Y : Type 0} (t mid : Kept) (e : Error) (result : Result X Error) (given : Result Y Error) → result ≡ Err e → given ≡ Err e → HasReported t mid result → ReportsSpace t mid given
+reports_read t mid e result given is same reported = record {
   errors = subst (λ r. IfErr r (λ x. (x ≡ Io) ⊎ ((x ≡ NoMemory) ⊎ (x ≡ NoSpace)))) (sym same) (widen is_one);
-  fault = λ io. told.fault (is ∙ ap Err (same_err e Io given same io));
-  no_fault = λ other. told.no_fault (λ io. other (same ∙ ap Err (same_err e Io result is io)));
-  unwritten = λ none. told.unwritten (is ∙ ap Err (same_err e NoMemory given same none));
+  fault = λ io. reported.fault (is ∙ ap Err (same_err e Io given same io));
+  no_fault = λ other. reported.no_fault (λ io. other (same ∙ ap Err (same_err e Io result is io)));
+  unwritten = λ none. reported.unwritten (is ∙ ap Err (same_err e NoMemory given same none));
   unchanged = λ none. absurd (not_space is_one (same_err e NoSpace given same none));
   no_space = λ none. absurd (not_space is_one (same_err e NoSpace given same none));
 }
   where
     is_one : (e ≡ Io) ⊎ (e ≡ NoMemory)
-    is_one = subst (λ r. IfErr r (λ x. (x ≡ Io) ⊎ (x ≡ NoMemory))) is told.errors
+    is_one = subst (λ r. IfErr r (λ x. (x ≡ Io) ⊎ (x ≡ NoMemory))) is reported.errors
 
     widen : (e ≡ Io) ⊎ (e ≡ NoMemory) → (e ≡ Io) ⊎ ((e ≡ NoMemory) ⊎ (e ≡ NoSpace))
     widen (inl a) = inl a
@@ -59,17 +59,17 @@ tells_read t mid e result given is same told = record {
 
 -- it couldn't be read
 pub moves_unread : {X Y : Type 0} (old new : State) (index : ℕ) (changes : List Change) (e : Error) (result : Result X Error) (given : Result Y Error) → result ≡ Err e → given ≡ Err e
-    → new.failed ≡ false → IsOnlyRead old.kept new.kept → HasTold old.kept new.kept result → TellsMove old new index changes given
-moves_unread old new index changes e result given is same works only told =
-    let tells = tells_read old.kept new.kept e result given is same told in
+    → new.failed ≡ false → IsOnlyRead old.kept new.kept → HasReported old.kept new.kept result → ReportsMove old new index changes given
+moves_unread old new index changes e result given is same works only reported =
+    let reports = reports_read old.kept new.kept e result given is same reported in
     record {
       failed = inr (works, only);
-      tells = tells;
+      reports = reports;
       too_large = λ none. absurd (not_space (same_err e NoSpace given same none));
     }
   where
     not_space : e ≡ NoSpace → ⊥
-    not_space k = go (subst (λ r. IfErr r (λ x. (x ≡ Io) ⊎ (x ≡ NoMemory))) is told.errors)
+    not_space k = go (subst (λ r. IfErr r (λ x. (x ≡ Io) ⊎ (x ≡ NoMemory))) is reported.errors)
       where
         go : (e ≡ Io) ⊎ (e ≡ NoMemory) → ⊥
         go (inl a) = absurd (cc)
@@ -77,10 +77,10 @@ moves_unread old new index changes e result given is same works only told =
 
 -- memory was lacking after it was read
 pub moves_unmade : {Y : Type 0} (old new : State) (index : ℕ) (changes : List Change) (given : Result Y Error) → given ≡ Err NoMemory
-    → new.failed ≡ false → IsOnlyRead old.kept new.kept → faults new.kept.history ≡ faults old.kept.history → TellsMove old new index changes given
+    → new.failed ≡ false → IsOnlyRead old.kept new.kept → faults new.kept.history ≡ faults old.kept.history → ReportsMove old new index changes given
 moves_unmade old new index changes given is works only same = record {
   failed = inr (works, only);
-  tells = record {
+  reports = record {
     errors = subst (λ r. IfErr r (λ x. (x ≡ Io) ⊎ ((x ≡ NoMemory) ⊎ (x ≡ NoSpace)))) (sym is) (inr (inl refl));
     fault = λ io. absurd (let z = sym is ∙ io in cc);
     no_fault = λ other. same;
@@ -151,9 +151,9 @@ can_after_read t mid index changes only can = subst (λ (k : Kept). CanPut k ind
 })
 
 pub moves_after_read : {X : Type 0} (old mid new : State) (index : ℕ) (changes : List Change) (result : Result X Error) → IsOnlyRead old.kept mid.kept → faults mid.kept.history ≡ faults old.kept.history
-    → TellsPut mid new index changes result → TellsMove old new index changes result
-moves_after_read old mid new index changes result only same told = record {
-  failed = inl told.tells.failed;
-  tells = tells_later old.kept mid.kept.history only.reads index changes new.kept result same (subst (λ (k : Kept). TellsSpace k new.kept result) (read_is old.kept mid.kept only) told.tells.tells);
-  too_large = λ none. subst (λ (k : Kept). IsTooLarge k index changes) (read_is old.kept mid.kept only) (told.too_large none);
+    → ReportsPut mid new index changes result → ReportsMove old new index changes result
+moves_after_read old mid new index changes result only same reported = record {
+  failed = inl reported.reports.failed;
+  reports = reports_later old.kept mid.kept.history only.reads index changes new.kept result same (subst (λ (k : Kept). ReportsSpace k new.kept result) (read_is old.kept mid.kept only) reported.reports.reports);
+  too_large = λ none. subst (λ (k : Kept). IsTooLarge k index changes) (read_is old.kept mid.kept only) (reported.too_large none);
 }

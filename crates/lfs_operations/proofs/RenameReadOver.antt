@@ -12,9 +12,9 @@ use Rattle.lfs_model.specs.Thread.{Pair}
 use Rattle.lfs_model.proofs.Histories.{AtWorst-read, EachSince-behind, LeavesOnly-reads, LeavesOnly-trans, LeavesOnly-weaker, OnlyReads-trans, StayUnprogrammed-reads, StayUnprogrammed-trans, Stops-read}
 use Rattle.lfs_thread.specs.Device.{StopsLeave}
 use Rattle.lfs_thread.specs.Kept.{Kept, State}
-use Rattle.lfs_thread.specs.Steps.{CanChange, HasTold, IsChanged, IsLeft, IsOnlyRead, IsRefused, Writes, pair_in}
+use Rattle.lfs_thread.specs.Steps.{CanChange, HasReported, IsChanged, IsLeftByChange, IsOnlyRead, IsRefused, Writes, pair_in}
 use Rattle.lfs_operations.specs.Ready.{IsReady}
-use Rattle.lfs_operations.specs.RenamingOver.{TellsOver}
+use Rattle.lfs_operations.specs.RenamingOver.{ReportsOver}
 use Rattle.lfs_operations.proofs.Held.{here, holds}
 use Rattle.lfs_operations.proofs.Putting.{read_is, with_history}
 use Rattle.lfs_operations.proofs.RenameRead.{changed_earlier, written_earlier}
@@ -56,7 +56,7 @@ only_read_writes t mid bs only = subst (λ (k : Kept). Writes bs t k) (sym (read
 })
 
 pub change_stops_after_read : (t mid new : Kept) (index : ℕ) (changes : List Change) (bs : List ℕ) → IsOnlyRead t mid → IsReady t → (first : ℕ) (p : Pair) (rest : List Pair) → IsBehind t.pairs first index p rest
-    → Writes bs mid new → StopsLeave mid.history new.history (IsLeft mid index changes) → StopsLeave t.history new.history (IsLeft t index changes)
+    → Writes bs mid new → StopsLeave mid.history new.history (IsLeftByChange mid index changes) → StopsLeave t.history new.history (IsLeftByChange t index changes)
 change_stops_after_read t mid new index changes bs only ready first p rest place writes stops clean =
     LeavesOnly-trans (LeavesOnly-reads Stops-read only.reads (record {
       content = (pair_in t index).content;
@@ -67,9 +67,9 @@ change_stops_after_read t mid new index changes bs only ready first p rest place
         shape = record { block_size = refl; page = refl; order = refl; count = refl };
         first = λ b k. b;
       };
-    })) (LeavesOnly-weaker (λ left l. earlier left (subst (λ (k : Kept). IsLeft k index changes left) (read_is t mid only) l)) (stops (EachSince-behind clean only.reads writes.at_worst)))
+    })) (LeavesOnly-weaker (λ left l. earlier left (subst (λ (k : Kept). IsLeftByChange k index changes left) (read_is t mid only) l)) (stops (EachSince-behind clean only.reads writes.at_worst)))
   where
-    earlier : (left : Blocks) → IsLeft (with_history t mid.history) index changes left → IsLeft t index changes left
+    earlier : (left : Blocks) → IsLeftByChange (with_history t mid.history) index changes left → IsLeftByChange t index changes left
     earlier left is = record { content = is.content; is = is.is; written = written_earlier t mid.history index is.content (with_blocks left t.disk) is.written }
 
 -- ---- what it tells
@@ -78,22 +78,22 @@ same_err : {A : Type 0} (a b : Error) (r : Result A Error) → r ≡ Err a → r
 same_err a b r h k = cc
 
 -- an error passed on
-told_again : {X Y : Type 0} (t new : Kept) (e : Error) (result : Result X Error) (given : Result Y Error) → result ≡ Err e → given ≡ Err e → HasTold t new result → HasTold t new given
-told_again t new e result given is same told = record {
-  errors = subst (λ r. IfErr r (λ x. (x ≡ Io) ⊎ (x ≡ NoMemory))) (sym same) (subst (λ r. IfErr r (λ x. (x ≡ Io) ⊎ (x ≡ NoMemory))) is told.errors);
-  fault = λ io. told.fault (is ∙ ap Err (same_err e Io given same io));
-  no_fault = λ other. told.no_fault (λ io. other (same ∙ ap Err (same_err e Io result is io)));
-  unwritten = λ none. told.unwritten (is ∙ ap Err (same_err e NoMemory given same none));
+reported_again : {X Y : Type 0} (t new : Kept) (e : Error) (result : Result X Error) (given : Result Y Error) → result ≡ Err e → given ≡ Err e → HasReported t new result → HasReported t new given
+reported_again t new e result given is same reported = record {
+  errors = subst (λ r. IfErr r (λ x. (x ≡ Io) ⊎ (x ≡ NoMemory))) (sym same) (subst (λ r. IfErr r (λ x. (x ≡ Io) ⊎ (x ≡ NoMemory))) is reported.errors);
+  fault = λ io. reported.fault (is ∙ ap Err (same_err e Io given same io));
+  no_fault = λ other. reported.no_fault (λ io. other (same ∙ ap Err (same_err e Io result is io)));
+  unwritten = λ none. reported.unwritten (is ∙ ap Err (same_err e NoMemory given same none));
 }
 
 pub over_unread : {X Y : Type 0} (old new : State) (e : Error) (result : Result X Error) (given : Result Y Error) → result ≡ Err e → given ≡ Err e → new.failed ≡ false → IsOnlyRead old.kept new.kept
-    → HasTold old.kept new.kept result → TellsOver old new given
-over_unread old new e result given is same works only told = record { failed = inr (works, only); told = told_again old.kept new.kept e result given is same told }
+    → HasReported old.kept new.kept result → ReportsOver old new given
+over_unread old new e result given is same works only reported = record { failed = inr (works, only); reported = reported_again old.kept new.kept e result given is same reported }
 
-pub over_unmade : {Y : Type 0} (old new : State) (given : Result Y Error) → given ≡ Err NoMemory → new.failed ≡ false → IsOnlyRead old.kept new.kept → faults new.kept.history ≡ faults old.kept.history → TellsOver old new given
+pub over_unmade : {Y : Type 0} (old new : State) (given : Result Y Error) → given ≡ Err NoMemory → new.failed ≡ false → IsOnlyRead old.kept new.kept → faults new.kept.history ≡ faults old.kept.history → ReportsOver old new given
 over_unmade old new given is works only same = record {
   failed = inr (works, only);
-  told = record {
+  reported = record {
     errors = subst (λ r. IfErr r (λ x. (x ≡ Io) ⊎ (x ≡ NoMemory))) (sym is) (inr refl);
     fault = λ io. absurd (let z = sym is ∙ io in cc);
     no_fault = λ other. same;
@@ -101,32 +101,32 @@ over_unmade old new given is works only same = record {
   };
 }
 
-later : {X : Type 0} (t : Kept) (h : List Event) (new : Kept) (result : Result X Error) → OnlyReads t.disk.blocks t.history h → faults h ≡ faults t.history → HasTold (with_history t h) new result → HasTold t new result
-later t h new result reads same told = record {
-  errors = told.errors;
-  fault = λ io. (let k = told.fault io in omega (arith, k, same));
-  no_fault = λ other. told.no_fault other ∙ same;
-  unwritten = λ none. (let u = told.unwritten none in record { disk = u.disk; reads = OnlyReads-trans reads u.reads refl });
+later : {X : Type 0} (t : Kept) (h : List Event) (new : Kept) (result : Result X Error) → OnlyReads t.disk.blocks t.history h → faults h ≡ faults t.history → HasReported (with_history t h) new result → HasReported t new result
+later t h new result reads same reported = record {
+  errors = reported.errors;
+  fault = λ io. (let k = reported.fault io in omega (arith, k, same));
+  no_fault = λ other. reported.no_fault other ∙ same;
+  unwritten = λ none. (let u = reported.unwritten none in record { disk = u.disk; reads = OnlyReads-trans reads u.reads refl });
 }
 
-told_later : {X : Type 0} (t mid new : Kept) (result : Result X Error) → IsOnlyRead t mid → faults mid.history ≡ faults t.history → HasTold mid new result → HasTold t new result
-told_later t mid new result only same told = later t mid.history new result only.reads same (subst (λ (k : Kept). HasTold k new result) (read_is t mid only) told)
+reported_later : {X : Type 0} (t mid new : Kept) (result : Result X Error) → IsOnlyRead t mid → faults mid.history ≡ faults t.history → HasReported mid new result → HasReported t new result
+reported_later t mid new result only same reported = later t mid.history new result only.reads same (subst (λ (k : Kept). HasReported k new result) (read_is t mid only) reported)
 
 pub over_failed : {X Y : Type 0} (old mid new : State) (e : Error) (result : Result X Error) (given : Result Y Error) → result ≡ Err e → given ≡ Err e → IsOnlyRead old.kept mid.kept
-    → faults mid.kept.history ≡ faults old.kept.history → new.failed ≡ is_err result → HasTold mid.kept new.kept result → TellsOver old new given
-over_failed old mid new e result given is same only faultless failed told = record {
+    → faults mid.kept.history ≡ faults old.kept.history → new.failed ≡ is_err result → HasReported mid.kept new.kept result → ReportsOver old new given
+over_failed old mid new e result given is same only faultless failed reported = record {
   failed = inl (failed ∙ ap is_err is ∙ sym (ap is_err same));
-  told = told_again old.kept new.kept e result given is same (told_later old.kept mid.kept new.kept result only faultless told);
+  reported = reported_again old.kept new.kept e result given is same (reported_later old.kept mid.kept new.kept result only faultless reported);
 }
 
 pub over_done : {X Y : Type 0} (old mid new : State) (x : X) (y : Y) (result : Result X Error) (given : Result Y Error) → result ≡ Ok x → given ≡ Ok y → IsOnlyRead old.kept mid.kept
-    → faults mid.kept.history ≡ faults old.kept.history → new.failed ≡ is_err result → HasTold mid.kept new.kept result → TellsOver old new given
-over_done old mid new x y result given is same only faultless failed told = record {
+    → faults mid.kept.history ≡ faults old.kept.history → new.failed ≡ is_err result → HasReported mid.kept new.kept result → ReportsOver old new given
+over_done old mid new x y result given is same only faultless failed reported = record {
   failed = inl (failed ∙ ap is_err is ∙ sym (ap is_err same));
-  told = record {
+  reported = record {
     errors = subst (λ r. IfErr r (λ x. (x ≡ Io) ⊎ (x ≡ NoMemory))) (sym same) tt;
     fault = λ io. absurd (let z = sym same ∙ io in cc);
-    no_fault = λ other. (let k = told_later old.kept mid.kept new.kept result only faultless told in k.no_fault (λ io. let z = sym is ∙ io in absurd (cc)));
+    no_fault = λ other. (let k = reported_later old.kept mid.kept new.kept result only faultless reported in k.no_fault (λ io. let z = sym is ∙ io in absurd (cc)));
     unwritten = λ none. absurd (let z = sym same ∙ none in cc);
   };
 }

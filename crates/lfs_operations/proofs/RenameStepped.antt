@@ -1,4 +1,4 @@
--- A rename within one pair as a step of the thread, whatever makes way for whatever.
+-- A rename within one pair as a step of the thread, whatever is replaced by whatever.
 use Rattle.std.proofs.Common.{ℕ, ◌≡◌, ◌≢◌, ◌≤◌, ◌+◌, List, [], ◌∷◌, ◌++◌, sym, ap, subst, ◌∙◌, arith}
 use Rattle.lfs_model.specs.TreeEdits.{renamed}
 use Rattle.lfs_model.specs.Changes.{Change}
@@ -28,7 +28,7 @@ use Rattle.lfs_operations.proofs.RenamePlaced.{IsPlaced, splicing}
 use Rattle.lfs_operations.proofs.Splicing.{IsSplicing}
 use Rattle.lfs_operations.proofs.Stepped.{HasStep, becomes, put_step, survives}
 
--- The slots that make way, and those for which they do; each commit of them is a rename.
+-- The slots that are replaced, and those by which they are; each commit of them is a rename.
 pub record IsMoving (t : Kept) (index : ℕ) (changes : List Change) (path : Path) (from to : Name) (gone : List Slot) : Type 1 where
   pub w : Site
   pub p : Pair

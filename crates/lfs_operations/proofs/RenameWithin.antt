@@ -31,7 +31,7 @@ use Rattle.lfs_operations.specs.RenamingSlots.{HasSlot}
 use Rattle.lfs_operations.proofs.Held.{CompletesTo, below, fits_there, here, raw_there}
 use Rattle.lfs_operations.proofs.RenameMade as made
 use Rattle.lfs_operations.proofs.RenameMade.{ComesAhead, ComesBehind, Leaves, behind_or_ahead, fits_without, leaves_without}
-use Rattle.lfs_operations.proofs.RenamePlaced.{Carries, carries_ahead, carries_behind, with_name}
+use Rattle.lfs_operations.proofs.RenamePlaced.{MovesSlots, carries_ahead, carries_behind, with_name}
 use Rattle.lfs_operations.proofs.RenameStepped.{IsMoving, moved_becomes, moved_completed, moved_survives}
 use Rattle.lfs_operations.proofs.Stepped.{ready_again}
 
@@ -159,7 +159,7 @@ module _ (t : Kept) (index id place : ℕ) (name : Name) (rename : CanRename t i
         was = s.held ∙ ap (λ z. s.left ++ u ∷ z) d.back;
         now = append_assoc s.left d.passed (with_name u name ∷ b.right) ∙ ap (λ z. s.left ++ z) (sym (append_assoc d.passed (with_name u name ∷ []) b.right));
         front = s.entry;
-        carries = subst (λ z. Carries (u ∷ z) (d.passed ++ with_name u name ∷ []) [] u (with_name u name)) (append-nil d.passed) (carries_behind u name d.passed []);
+        carries = subst (λ z. MovesSlots (u ∷ z) (d.passed ++ with_name u name ∷ []) [] u (with_name u name)) (append-nil d.passed) (carries_behind u name d.passed []);
         entry = entry_again;
         struct = refl;
         other = s.entry;

@@ -8,7 +8,7 @@ use Rattle.lfs_model.specs.Content.{content_at, holder_at}
 use Rattle.lfs_model.specs.Disk.{Disk}
 use Rattle.lfs_model.specs.InDirectory.{BeginsAt}
 use Rattle.lfs_model.specs.Operations as ops
-use Rattle.lfs_model.specs.PowerLoss.{IsLeft as IsLeftOf, with_blocks}
+use Rattle.lfs_model.specs.PowerLoss.{IsLeftByStop as IsLeftOf, with_blocks}
 use Rattle.lfs_model.specs.SlotEdits.{with_slots}
 use Rattle.lfs_model.specs.Slots.{Content, Gstate, Slot, gstate_xor, no_gstate, same_pair}
 use Rattle.lfs_model.specs.Thread.{Pair, blocks_of, gstate_of, is_hard, starts_with_superblock, superblocks_before}
@@ -18,7 +18,7 @@ use Rattle.lfs_model.specs.Shown.{Leads, entries_in, tree_in, used_blocks}
 use Rattle.lfs_model.proofs.Became.{fits_same}
 use Rattle.lfs_model.proofs.Committed.{IsCompleted, no_move_from}
 use Rattle.lfs_model.proofs.Counts.{count, once_from_distinct}
-use Rattle.lfs_model.proofs.Global.{HasNoMove, gstate_comm, gstate_cons, gstate_moved, gstate_right, sync_share}
+use Rattle.lfs_model.proofs.Global.{HasNoMove, gstate_comm, gstate_cons, gstate_moved, gstate_right, sync_delta}
 use Rattle.lfs_model.proofs.Indexes.{site_shows}
 use Rattle.lfs_model.proofs.Moves.{IsStep, directory_goes, entry_only, get_here, place_at, shown_before, shown_behind}
 use Rattle.lfs_model.proofs.RmdirSteps.{IsGone, step_chain}
@@ -171,12 +171,12 @@ module _ (t : Kept) (index id first gone : ℕ) (take : CanRemoveDirectory t ind
   number_ahead : length ahead ≡ index
   number_ahead = length-append w.chain (w.before ++ w.left) ∙ sym number_there
 
-  gstate_middle : gstate_of (thread_at w (q ∷ [])) ≡ sync_share
+  gstate_middle : gstate_of (thread_at w (q ∷ [])) ≡ sync_delta
   gstate_middle =
-      let turned : gstate_of (q ∷ []) ≡ gstate_xor sync_share (gstate_of (p ∷ []))
-      = gstate_cons q [] ∙ gstate_right q.content.move ∙ ap (λ (z : Pair). gstate_xor z.content.move sync_share) (pair_there t index id can) ∙ gstate_comm p.content.move sync_share
-      ∙ ap (gstate_xor sync_share) (sym (gstate_cons p [] ∙ gstate_right p.content.move)) in
-      ap gstate_of (grouped q) ∙ gstate_moved sync_share ahead (p ∷ []) (q ∷ []) behind turned ∙ ap (λ z. gstate_xor sync_share (gstate_of z)) (sym (grouped p)) ∙ ap (gstate_xor sync_share) settled ∙ gstate_right sync_share
+      let turned : gstate_of (q ∷ []) ≡ gstate_xor sync_delta (gstate_of (p ∷ []))
+      = gstate_cons q [] ∙ gstate_right q.content.move ∙ ap (λ (z : Pair). gstate_xor z.content.move sync_delta) (pair_there t index id can) ∙ gstate_comm p.content.move sync_delta
+      ∙ ap (gstate_xor sync_delta) (sym (gstate_cons p [] ∙ gstate_right p.content.move)) in
+      ap gstate_of (grouped q) ∙ gstate_moved sync_delta ahead (p ∷ []) (q ∷ []) behind turned ∙ ap (λ z. gstate_xor sync_delta (gstate_of z)) (sym (grouped p)) ∙ ap (gstate_xor sync_delta) settled ∙ gstate_right sync_delta
 
   no_move_middle : HasNoMove (gstate_of (thread_at w (q ∷ [])))
   no_move_middle = subst HasNoMove (sym gstate_middle) (record { kind = refl; id = refl; pair = refl })

@@ -1,4 +1,4 @@
--- A pair of an accepted image in which some slots make way for others, as a commit of the laws.
+-- A pair of an accepted image in which some slots are replaced by others, as a commit of the laws.
 use Rattle.std.proofs.Common.{ℕ, zero, suc, ◌≡◌, ◌+◌, ◌<◌, ◌≤◌, Bool, true, false, cond, eqb-true, nat_eq, List, [], ◌∷◌, ◌++◌, length, take, drop, Some, refl, sym, ap, ap₂, subst, ◌∙◌, arith, append_assoc, append-nil, length-append, get_or, set, insert}
 use Rattle.std.specs.List.{IsDistinct, flat_map}
 use Rattle.std.proofs.lemmas.List.{take-append-drop}
@@ -51,7 +51,7 @@ insert_at (x ∷ xs) q zs f =
 
 -- ---- what is known before
 
--- At the site stands the pair of that number. The changes make a content of it with the same tail and the same share of the
+-- At the site stands the pair of that number. The changes make a content of it with the same tail and the same delta of the
 -- global state, in which `news` stand where `olds` did.
 pub record IsSplicing (t : Kept) (index : ℕ) (changes : List Change) (w : Site) (p : Pair) (l olds news r : List Slot) (gone come : List ℕ) : Type 0 where
   pub ready : IsReady t
@@ -263,12 +263,12 @@ module _ (t : Kept) (index : ℕ) (changes : List Change) (w : Site) (p : Pair) 
 
   commit_from : (disk : Disk) (q : Pair) (more : List Pair) → q.at ≡ p.at → gstate_of (q ∷ more) ≡ gstate_of (p ∷ []) → slots_in (q ∷ more) ≡ l ++ (news ++ r) → Became t.disk p (with_slots (l ++ (news ++ r)) p) q more
       → IsDistinct nat_eq ((blocks_of more ++ come) ++ used_blocks t.disk ps) → Each (λ b. b < block_count t.disk) (blocks_of more) → IsPlaced t.disk disk p q more (blocks_of more) → Commits t w p l olds news r come disk q more
-  commit_from disk q more at share is became distinct range placed = record {
+  commit_from disk q more at delta is became distinct range placed = record {
     commit = record {
       accepted = accepted;
       writable = subst (IsWritable t.disk) k.there k.ready.writable;
       settled = ap gstate_of (sym k.there) ∙ k.ready.settled;
-      still = gstate_now q more share;
+      still = gstate_now q more delta;
       site = k.site;
       device = on;
       free = record {

@@ -9,7 +9,7 @@ use Rattle.lfs_model.specs.BlockSets.{AreUsed, IsFree, IsInFlight}
 use Rattle.lfs_model.specs.Changes.{Change}
 use Rattle.lfs_model.specs.Content.{content_at}
 use Rattle.lfs_model.specs.Disk.{Disk, block_count}
-use Rattle.lfs_model.specs.PowerLoss.{IsLeft as IsLeftOf, Survives, with_blocks}
+use Rattle.lfs_model.specs.PowerLoss.{IsLeftByStop as IsLeftOf, Survives, with_blocks}
 use Rattle.lfs_model.specs.Slots.{Slot, Content, FitsPair}
 use Rattle.lfs_model.specs.Thread.{Pair, blocks_of, gstate_of, superblocks_before}
 use Rattle.lfs_model.specs.Tree.{Tree}
@@ -29,7 +29,7 @@ use Rattle.lfs_model.proofs.Splices.{IsDevice}
 use Rattle.lfs_model.specs.History.{Event}
 use Rattle.lfs_thread.specs.Device.{StopsLeave}
 use Rattle.lfs_thread.specs.Kept.{Kept}
-use Rattle.lfs_thread.specs.Steps.{pair_in, made_in_thread, front_pair, back_pair, AreHalves, HasShape, IsAsBefore, IsChanged, IsLeft, IsWrittenAs}
+use Rattle.lfs_thread.specs.Steps.{pair_in, made_in_thread, front_pair, back_pair, AreHalves, HasShape, IsAsBefore, IsChanged, IsLeftByChange, IsWrittenAs}
 use Rattle.lfs_operations.specs.Changing.{IsCutIn, IsLeftByPut, IsPut, IsTooLarge}
 use Rattle.lfs_operations.specs.Ready.{AreUsedBut, HasBecome, HasBecomeBut, NoneComes, StayTaken}
 use Rattle.lfs_operations.proofs.Owning.{count_pairs, length_now, none_comes_now, stay_taken, used_count_now, used_more, used_same}
@@ -168,7 +168,7 @@ module _ (t : Kept) (index : ℕ) (changes : List Change) (w : Site) (p : Pair) 
   shape_of : (left : Blocks) → length left ≡ length t.disk.blocks → HasShape t.disk (with_blocks left t.disk)
   shape_of left e = record { block_size = refl; page = refl; order = refl; count = e }
 
-  left_one : (left : Blocks) → IsLeft t index changes left → Stays (with_blocks left t.disk) ⊎ HasCommit t w p l olds news r come (with_blocks left t.disk)
+  left_one : (left : Blocks) → IsLeftByChange t index changes left → Stays (with_blocks left t.disk) ⊎ HasCommit t w p l olds news r come (with_blocks left t.disk)
   left_one left is = go is.is
     where
       disk : Disk

@@ -37,7 +37,7 @@ use Rattle.lfs_thread.specs.Device.{StopsLeave}
 use Rattle.lfs_thread.specs.Kept.{Kept}
 use Rattle.lfs_operations.specs.Changing.{CanPut, IsLeftByPut, IsPut}
 use Rattle.lfs_operations.specs.Editing.{CanEdit, slot_at}
-use Rattle.lfs_operations.specs.Storing.{CanStore, IsStored, with_contents_at}
+use Rattle.lfs_operations.specs.Storing.{CanStore, IsStructSet, with_contents_at}
 use Rattle.lfs_operations.proofs.Held.{each_pair}
 use Rattle.lfs_operations.proofs.RawSlots.{complete_struct}
 use Rattle.lfs_operations.proofs.Replacing as replacing
@@ -191,10 +191,10 @@ module _ (t : Kept) (index id kind : ℕ) (bytes : List ℕ) (store : CanStore t
       → IsCompleted t.disk t.pairs z op new.disk new.pairs
   completed_there new x z op h = subst (λ y. IsCompleted t.disk y z op new.disk new.pairs) (sym there_now) (subst (λ y. IsCompleted t.disk (thread_at w (p ∷ [])) z op new.disk y) (sym x.pairs) h)
 
-  pub stored : (new : Kept) → IsPut t index (PutStruct id kind bytes ∷ []) new → IsStored t new store.can.path store.can.name store.contents store.gone store.come
+  pub stored : (new : Kept) → IsPut t index (PutStruct id kind bytes ∷ []) new → IsStructSet t new store.can.path store.can.name store.contents store.gone store.come
   stored new is = go (put_step t index (change ∷ []) w p l (u ∷ []) (v ∷ []) r store.gone store.come spliced new is)
     where
-      go : HasStep t w p l (u ∷ []) (v ∷ []) r store.gone store.come new → IsStored t new can.path can.name store.contents store.gone store.come
+      go : HasStep t w p l (u ∷ []) (v ∷ []) r store.gone store.come new → IsStructSet t new can.path can.name store.contents store.gone store.come
       go x = record {
         now = becomes t index (change ∷ []) w p l (u ∷ []) (v ∷ []) r store.gone store.come spliced turn (λ disk q more c. ((λ d. d), follows disk q more c)) (λ e. some_filled l r v) new x;
         synced = λ z fd writer tree is. completed_there new x z (ops.Sync fd)

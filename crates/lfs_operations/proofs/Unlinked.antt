@@ -11,16 +11,16 @@ use Rattle.lfs_model.specs.Slots.{FitsPair, Gstate, Slot, gstate_xor, slot_size}
 use Rattle.lfs_model.specs.Thread.{Pair}
 use Rattle.lfs_model.proofs.Completed.{complete_length, complete_remove, completed_from, completed_parts}
 use Rattle.lfs_model.proofs.Effects.{deletes, does_first, does_nothing, puts_move}
-use Rattle.lfs_model.proofs.Global.{sync_share}
+use Rattle.lfs_model.proofs.Global.{sync_delta}
 use Rattle.lfs_model.proofs.Moves.{remove_here}
 use Rattle.lfs_thread.specs.Kept.{Kept}
-use Rattle.lfs_thread.specs.Steps.{CanChange, IsChanged, IsLeft, IsRefused, IsWrittenAs, made_in_thread, pair_in, with_pair}
+use Rattle.lfs_thread.specs.Steps.{CanChange, IsChanged, IsLeftByChange, IsRefused, IsWrittenAs, made_in_thread, pair_in, with_pair}
 use Rattle.lfs_operations.specs.Editing.{CanEdit}
 use Rattle.lfs_operations.specs.Unlinking.{IsLeftByUnlink, IsUnlinked, unlink_changes, without_entry}
 use Rattle.lfs_operations.proofs.DroppedTails.{move_xor}
 use Rattle.lfs_operations.proofs.Held.{CompletesTo, below, fits_there, here, raw_there}
 
-sync_small : IsMoveState sync_share
+sync_small : IsMoveState sync_delta
 sync_small = record { kind = omega arith; id = omega arith; pair = (omega arith, omega arith) }
 
 module _ (t : Kept) (index id : ℕ) (can : CanEdit t index id) where
@@ -51,16 +51,16 @@ module _ (t : Kept) (index id : ℕ) (can : CanEdit t index id) where
   c : CompletesTo (raw_at t.disk (pair_in t index).at) (pair_in t index).content
   c = subst (λ (z : Pair). CompletesTo (raw_at t.disk (pair_in t index).at) z.content) (sym pair_there) (raw_there t can.ready can.first index can.stands.pair can.stands.rest can.stands.place)
 
-  abbrev share : Gstate
-  share = gstate_xor (pair_in t index).content.move sync_share
+  abbrev delta : Gstate
+  delta = gstate_xor (pair_in t index).content.move sync_delta
 
-  small : IsMoveState share
+  small : IsMoveState delta
   small =
       let parts = completed_parts c.raw (pair_in t index).content c.complete in
-      move_xor (pair_in t index).content.move sync_share (subst IsMoveState (sym parts.move) (can.logged c.raw c.is).move) sync_small
+      move_xor (pair_in t index).content.move sync_delta (subst IsMoveState (sym parts.move) (can.logged c.raw c.is).move) sync_small
 
   abbrev raw_now : RawContent
-  raw_now = record { slots = remove c.raw.slots id; tail = c.raw.tail; move = share }
+  raw_now = record { slots = remove c.raw.slots id; tail = c.raw.tail; move = delta }
 
   changed_now : changed_by c.raw (unlink_changes t index id) ≡ Some raw_now
   changed_now =
@@ -68,8 +68,8 @@ module _ (t : Kept) (index id : ℕ) (can : CanEdit t index id) where
       let n = complete_length c.raw.slots (pair_in t index).content.slots (completed_parts c.raw (pair_in t index).content c.complete).slots in
       let m = within in
       let middle : RawContent = record c.raw { slots = remove c.raw.slots id } in
-      does_first (Delete id) (PutMove share ∷ []) c.raw middle raw_now (deletes c.raw id (omega arith) (omega arith))
-      (does_first (PutMove share) [] middle raw_now raw_now (puts_move middle share small) (does_nothing raw_now))
+      does_first (Delete id) (PutMove delta ∷ []) c.raw middle raw_now (deletes c.raw id (omega arith) (omega arith))
+      (does_first (PutMove delta) [] middle raw_now raw_now (puts_move middle delta small) (does_nothing raw_now))
 
   pub unlink_made : made_in_thread t index (unlink_changes t index id) ≡ Some (without_entry t index id)
   unlink_made =
@@ -77,7 +77,7 @@ module _ (t : Kept) (index id : ℕ) (can : CanEdit t index id) where
       ap (λ o. option_and_then completed (option_and_then (λ (x : RawContent). changed_by x (unlink_changes t index id)) o)) c.is
       ∙ ap (λ o. option_and_then completed o) changed_now
       ∙ completed_from raw_now (remove (pair_in t index).content.slots id) (complete_remove c.raw.slots (pair_in t index).content.slots id parts.slots)
-      ∙ ap (λ z. Some (record { slots = remove (pair_in t index).content.slots id; tail = z; move = share })) (sym parts.tail)
+      ∙ ap (λ z. Some (record { slots = remove (pair_in t index).content.slots id; tail = z; move = delta })) (sym parts.tail)
 
   pub can_unlink : CanChange t index (unlink_changes t index id)
   can_unlink = record {
@@ -115,7 +115,7 @@ module _ (t : Kept) (index id : ℕ) (can : CanEdit t index id) where
         map = is.map;
       }
 
-  pub left_by_unlink : (left : Blocks) → IsLeft t index (unlink_changes t index id) left → IsLeftByUnlink t index id left
+  pub left_by_unlink : (left : Blocks) → IsLeftByChange t index (unlink_changes t index id) left → IsLeftByUnlink t index id left
   left_by_unlink left is = record { content = is.content; is = go is.is; written = is.written }
     where
       go : (is.content ≡ (pair_in t index).content) ⊎ ((made_in_thread t index (unlink_changes t index id) ≡ Some is.content) × FitsPair t.disk.block_size t.disk.page is.content)

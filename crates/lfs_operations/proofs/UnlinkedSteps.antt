@@ -14,12 +14,12 @@ use Rattle.lfs_thread.specs.Device.{StopsLeave, four_of, two_of}
 use Rattle.lfs_thread.specs.Kept.{Kept, State}
 use Rattle.lfs_thread.specs.Steps.{Writes, no_pair, pair_in}
 use Rattle.lfs_operations.specs.Dropping.{HasDroppedBehind, IsLeftByDrop}
-use Rattle.lfs_operations.specs.Removing.{TellsOfCalls, goes_whole, without_file, written_at}
-use Rattle.lfs_operations.specs.Unlinking.{CanRemoveDirectory, IsLeftByUnlink, IsUnlinked, TellsOfSteps, number_without, without_entry}
+use Rattle.lfs_operations.specs.Removing.{ReportsOfCalls, goes_whole, without_file, written_at}
+use Rattle.lfs_operations.specs.Unlinking.{CanRemoveDirectory, IsLeftByUnlink, IsUnlinked, ReportsOfSteps, number_without, without_entry}
 use Rattle.lfs_operations.proofs.RemovedWhole.{StandsWhole}
 use Rattle.lfs_operations.proofs.RmdirThread.{left_first, left_second}
 use Rattle.lfs_operations.proofs.UnlinkedWhole.{whole_first, whole_second, written_then}
-use Rattle.lfs_model.proofs.Global.{sync_share}
+use Rattle.lfs_model.proofs.Global.{sync_delta}
 
 -- ---- blocks
 
@@ -74,17 +74,17 @@ writes_two t m new index id gone h first second =
 
 -- ---- what they tell
 
-pub steps_from : {X : Type 0} (old new : State) (result : Result X Error) → TellsOfCalls old new result → TellsOfSteps old new result
-steps_from old new result h = record { failed = h.failed; errors = h.told.errors; fault = h.told.fault; no_fault = h.told.no_fault }
+pub steps_from : {X : Type 0} (old new : State) (result : Result X Error) → ReportsOfCalls old new result → ReportsOfSteps old new result
+steps_from old new result h = record { failed = h.failed; errors = h.reported.errors; fault = h.reported.fault; no_fault = h.reported.no_fault }
 
-pub steps_then : {X Y : Type 0} (old mid new : State) (a : X) (first : Result X Error) (second : Result Y Error) → first ≡ Ok a → TellsOfCalls old mid first → TellsOfCalls mid new second → TellsOfSteps old new second
+pub steps_then : {X Y : Type 0} (old mid new : State) (a : X) (first : Result X Error) (second : Result Y Error) → first ≡ Ok a → ReportsOfCalls old mid first → ReportsOfCalls mid new second → ReportsOfSteps old new second
 steps_then old mid new a first second ok one two =
-    let same : faults mid.kept.history ≡ faults old.kept.history = one.told.no_fault (λ io. absurd (let z = sym ok ∙ io in cc)) in
+    let same : faults mid.kept.history ≡ faults old.kept.history = one.reported.no_fault (λ io. absurd (let z = sym ok ∙ io in cc)) in
     record {
       failed = two.failed;
-      errors = two.told.errors;
-      fault = λ io. subst (λ n. n < faults new.kept.history) same (two.told.fault io);
-      no_fault = λ other. two.told.no_fault other ∙ same;
+      errors = two.reported.errors;
+      fault = λ io. subst (λ n. n < faults new.kept.history) same (two.reported.fault io);
+      no_fault = λ other. two.reported.no_fault other ∙ same;
     }
 
 -- ---- at a stop
@@ -101,16 +101,16 @@ module _ (t : Kept) (index id first gone : ℕ) (take : CanRemoveDirectory t ind
         (LeavesOnly-weaker (left_second t index id first gone take goes m h) (after (EachSince-behind clean one.at_worst two.at_worst)))
 
   module _ (s : StandsWhole t index id take.can) where
-    pub first_survives_whole : (new : List Event) → StopsLeave t.history new (IsLeftByDrop t (index - 1) sync_share) → Survives t.disk t.history new (tree_in t.disk t.pairs) (without_file t take.can.path take.can.name)
+    pub first_survives_whole : (new : List Event) → StopsLeave t.history new (IsLeftByDrop t (index - 1) sync_delta) → Survives t.disk t.history new (tree_in t.disk t.pairs) (without_file t take.can.path take.can.name)
     first_survives_whole new stops clean = LeavesOnly-weaker (whole_first t index id first gone take s) (stops clean)
 
-    pub both_survive_whole : (m new : Kept) (bs cs : List ℕ) → HasDroppedBehind t (index - 1) sync_share m → Writes bs t m → Writes cs m new → StopsLeave t.history m.history (IsLeftByDrop t (index - 1) sync_share)
+    pub both_survive_whole : (m new : Kept) (bs cs : List ℕ) → HasDroppedBehind t (index - 1) sync_delta m → Writes bs t m → Writes cs m new → StopsLeave t.history m.history (IsLeftByDrop t (index - 1) sync_delta)
         → StopsLeave m.history new.history (IsLeftByDrop m (number_without index gone - 1) no_gstate) → Survives t.disk t.history new.history (tree_in t.disk t.pairs) (without_file t take.can.path take.can.name)
     both_survive_whole m new bs cs h one two before after clean = LeavesOnly-trans
         (LeavesOnly-weaker (whole_first t index id first gone take s) (before (EachSince-until clean one.at_worst two.at_worst)))
         (LeavesOnly-weaker (whole_second t index id first gone take s m h) (after (EachSince-behind clean one.at_worst two.at_worst)))
 
-    pub writes_whole : (m new : Kept) → HasDroppedBehind t (index - 1) sync_share m → Writes (two_of (pair_in t (index - 1)).at) t m → Writes (two_of (pair_in m (number_without index gone - 1)).at) m new
+    pub writes_whole : (m new : Kept) → HasDroppedBehind t (index - 1) sync_delta m → Writes (two_of (pair_in t (index - 1)).at) t m → Writes (two_of (pair_in m (number_without index gone - 1)).at) m new
         → Writes (four_of (pair_in t (index - 1)).at (pair_in t (gone - 1)).at) t new
     writes_whole m new h one two = go (written_then t index id first gone take s m h)
       where

@@ -9,7 +9,7 @@ use Rattle.lfs_model.specs.Blocks.{Blocks}
 use Rattle.lfs_model.specs.BlockSets.{AreUsed}
 use Rattle.lfs_model.specs.Disk.{Disk}
 use Rattle.lfs_model.specs.Operations as ops
-use Rattle.lfs_model.specs.PowerLoss.{IsLeft as IsLeftOf, with_blocks}
+use Rattle.lfs_model.specs.PowerLoss.{IsLeftByStop as IsLeftOf, with_blocks}
 use Rattle.lfs_model.specs.Slots.{Content, FitsPair, Gstate, Slot, no_gstate}
 use Rattle.lfs_model.specs.Thread.{Pair, gstate_of, is_hard, starts_with_superblock, superblocks_before}
 use Rattle.lfs_model.specs.Tree.{branch_of}
@@ -18,7 +18,7 @@ use Rattle.lfs_model.specs.Profile.{IsWritable}
 use Rattle.lfs_model.specs.Shown.{Leads, entries_in, tree_in, used_blocks}
 use Rattle.lfs_model.proofs.Committed.{IsCompleted, no_move_from}
 use Rattle.lfs_model.proofs.Counts.{Each, count, each_right, once_from_distinct}
-use Rattle.lfs_model.proofs.Global.{HasNoMove, sync_share}
+use Rattle.lfs_model.proofs.Global.{HasNoMove, sync_delta}
 use Rattle.lfs_model.proofs.Moves.{IsStep, directory_goes}
 use Rattle.lfs_model.proofs.RmdirSteps.{IsGone, step_chain}
 use Rattle.lfs_model.proofs.Searches.{slot_of_stands}
@@ -126,7 +126,7 @@ module _ (t : Kept) (index id first gone : ℕ) (take : CanRemoveDirectory t ind
   e_there : pair_in t (index - 1 + 1) ≡ e
   e_there = gone_is t (index - 1) ahead x0 e behind is number
 
-  pub can_drop_entry : CanDropAt t index sync_share
+  pub can_drop_entry : CanDropAt t index sync_delta
   can_drop_entry = record {
     above = let n = s.number in omega arith;
     below =
@@ -142,7 +142,7 @@ module _ (t : Kept) (index id first gone : ℕ) (take : CanRemoveDirectory t ind
   }
 
   abbrev c : Content
-  c = with_tail_taken t (index - 1) sync_share
+  c = with_tail_taken t (index - 1) sync_delta
 
   abbrev q : Pair
   q = record { at = x0.at; content = c }
@@ -153,8 +153,8 @@ module _ (t : Kept) (index id first gone : ℕ) (take : CanRemoveDirectory t ind
   tail_same : q.content.tail ≡ e.content.tail
   tail_same = ap₂ (λ (y z : Pair). taken_over y.content.tail z.content.tail) x0_there e_there ∙ over_hard x0.content.tail e.content.tail s.hard
 
-  gstate_middle : gstate_of (thread_at w (q ∷ [])) ≡ sync_share
-  gstate_middle = ap gstate_of (grouped (q ∷ [])) ∙ gstate_is t (index - 1) ahead x0 e behind is number sync_share q refl
+  gstate_middle : gstate_of (thread_at w (q ∷ [])) ≡ sync_delta
+  gstate_middle = ap gstate_of (grouped (q ∷ [])) ∙ gstate_is t (index - 1) ahead x0 e behind is number sync_delta q refl
 
   no_move_middle : HasNoMove (gstate_of (thread_at w (q ∷ [])))
   no_move_middle = subst HasNoMove (sym gstate_middle) (record { kind = refl; id = refl; pair = refl })
@@ -209,7 +209,7 @@ module _ (t : Kept) (index id first gone : ℕ) (take : CanRemoveDirectory t ind
   abbrev now : ℕ
   now = number_without index gone
 
-  module _ (m : Kept) (h : HasDroppedBehind t (index - 1) sync_share m) where
+  module _ (m : Kept) (h : HasDroppedBehind t (index - 1) sync_delta m) where
     abbrev k : HasPlaceWhole t.disk m.disk w x0 e q u can.path o (length front.front) front.before
     k = place m.disk h.written
 
@@ -449,10 +449,10 @@ module _ (t : Kept) (index id first gone : ℕ) (take : CanRemoveDirectory t ind
 
   -- ---- at a stop in the first step
 
-  pub whole_first : (left : Blocks) → IsLeftByDrop t (index - 1) sync_share left → IsLeftOf (with_blocks left t.disk) (tree_in t.disk t.pairs) (without_file t can.path can.name)
+  pub whole_first : (left : Blocks) → IsLeftByDrop t (index - 1) sync_delta left → IsLeftOf (with_blocks left t.disk) (tree_in t.disk t.pairs) (without_file t can.path can.name)
   whole_first left g = go g.is
     where
-      go : (g.content ≡ (pair_in t (index - 1)).content) ⊎ (g.content ≡ with_tail_taken t (index - 1) sync_share) → IsLeftOf (with_blocks left t.disk) (tree_in t.disk t.pairs) (without_file t can.path can.name)
+      go : (g.content ≡ (pair_in t (index - 1)).content) ⊎ (g.content ≡ with_tail_taken t (index - 1) sync_delta) → IsLeftOf (with_blocks left t.disk) (tree_in t.disk t.pairs) (without_file t can.path can.name)
       go (inl z) =
           let same = z ∙ ap (λ (z : Pair). z.content) x0_there in
           let on = device_kept t (index - 1) ahead x0 e behind is number accepted_is (with_blocks left t.disk) x0.content refl (subst (λ z. IsWrittenAs t (index - 1) z (with_blocks left t.disk)) same g.written) in

@@ -17,7 +17,7 @@ use Rattle.lfs_pair.specs.Commit.{made_at}
 use Rattle.lfs_pair.specs.Split.{OutsideBothKeeps}
 use Rattle.lfs_thread.specs.Device.{four_of}
 use Rattle.lfs_thread.specs.Kept.{Kept, State}
-use Rattle.lfs_thread.specs.Steps.{pair_in, made_in_thread, CanChange, HasShape, IsChanged, IsLeft, IsLeftBySplit, IsOnlyRead, IsUnwritten, ArePartsOf, Writes, front_pair, back_pair, settled, with_two}
+use Rattle.lfs_thread.specs.Steps.{pair_in, made_in_thread, CanChange, HasShape, IsChanged, IsLeftByChange, IsLeftBySplit, IsOnlyRead, IsUnwritten, ArePartsOf, Writes, front_pair, back_pair, settled, with_two}
 
 -- ---- free blocks
 
@@ -43,7 +43,7 @@ has_failed (Err _) = true
 
 -- `Io` comes with a fault of the device, and any other result with none. At `NoMemory` nothing was written. At `NoSpace`, which
 -- comes where fewer than two blocks are free, everything is as it was.
-pub record TellsSpace {X : Type 0} (old new : Kept) (result : Result X Error) : Type 0 where
+pub record ReportsSpace {X : Type 0} (old new : Kept) (result : Result X Error) : Type 0 where
   pub errors : IfErr result (λ e. (e ≡ Io) ⊎ ((e ≡ NoMemory) ⊎ (e ≡ NoSpace)))
   pub fault : IsErrOf result Io → faults old.history < faults new.history
   pub no_fault : ¬ IsErrOf result Io → faults new.history ≡ faults old.history
@@ -109,17 +109,17 @@ abbrev pub IsLeftByCut : Kept → ℕ → List Change → Blocks → Type 0
 IsLeftByCut old index changes left = (fresh : ℕ × ℕ) × (AreTwoFree old.map fresh × IsLeftBySplit old index fresh changes left)
 
 abbrev pub IsLeftByPut : Kept → ℕ → List Change → Blocks → Type 0
-IsLeftByPut old index changes left = IsLeft old index changes left ⊎ (IsTooLarge old index changes × IsLeftByCut old index changes left)
+IsLeftByPut old index changes left = IsLeftByChange old index changes left ⊎ (IsTooLarge old index changes × IsLeftByCut old index changes left)
 
 -- What a step of an operation reports, and whether the thread has failed after it.
-pub record Tells {X : Type 0} (old new : State) (result : Result X Error) : Type 0 where
+pub record Reports {X : Type 0} (old new : State) (result : Result X Error) : Type 0 where
   pub failed : new.failed ≡ has_failed result
-  pub tells : TellsSpace old.kept new.kept result
+  pub reports : ReportsSpace old.kept new.kept result
 
 -- The same of a step that splits the pair only if it has to: `NoSpace` comes only where what the changes make doesn't fit the
 -- pair.
-pub record TellsPut {X : Type 0} (old new : State) (index : ℕ) (changes : List Change) (result : Result X Error) : Type 0 where
-  pub tells : Tells old new result
+pub record ReportsPut {X : Type 0} (old new : State) (index : ℕ) (changes : List Change) (result : Result X Error) : Type 0 where
+  pub reports : Reports old new result
   pub too_large : result ≡ Err NoSpace → IsTooLarge old.kept index changes
 
 -- the pair doesn't stay with what it held

@@ -1,4 +1,4 @@
--- A pair that is dropped from the thread: the pair before it takes over its tail and its share of the global state.
+-- A pair that is dropped from the thread: the pair before it takes over its tail and its delta of the global state.
 use Rattle.std.specs.Prelude.{ℕ, ◌≡◌, ◌⊎◌, ◌<◌, ◌+◌, ◌-◌, ◌↔◌, ◌&&◌, List, [], ◌∷◌, length, Option, Some, None}
 use Rattle.std.specs.List.{remove}
 use Rattle.lfs_model.specs.Blocks.{Blocks}
@@ -21,19 +21,19 @@ abbrev pub taken_over : Option Tail → Option Tail → Option Tail
 taken_over front None = None
 taken_over front (Some t) = Some (record { hard = is_hard front && t.hard; to = t.to })
 
--- the share that the pair of that number gets, so that the global state is g once the pair after it is dropped
-abbrev pub share_taken : Kept → ℕ → Gstate → Gstate
-share_taken t front state = gstate_xor (gstate_xor (pair_in t front).content.move (pair_in t (front + 1)).content.move) (gstate_xor (gstate_of t.pairs) state)
+-- the delta that the pair of that number gets, so that the global state is g once the pair after it is dropped
+abbrev pub delta_taken : Kept → ℕ → Gstate → Gstate
+delta_taken t front state = gstate_xor (gstate_xor (pair_in t front).content.move (pair_in t (front + 1)).content.move) (gstate_xor (gstate_of t.pairs) state)
 
 abbrev pub tail_taken : Kept → ℕ → Option Tail
 tail_taken t front = taken_over (pair_in t front).content.tail (pair_in t (front + 1)).content.tail
 
--- what the pair before the dropped one then holds: its slots, the dropped pair's tail, and that share
+-- what the pair before the dropped one then holds: its slots, the dropped pair's tail, and that delta
 abbrev pub with_tail_taken : Kept → ℕ → Gstate → Content
-with_tail_taken t front state = record { slots = (pair_in t front).content.slots; tail = tail_taken t front; move = share_taken t front state }
+with_tail_taken t front state = record { slots = (pair_in t front).content.slots; tail = tail_taken t front; move = delta_taken t front state }
 
 abbrev pub taking_changes : Kept → ℕ → Gstate → List Change
-taking_changes t front state = put_tail (tail_taken t front) ∷ PutMove (share_taken t front state) ∷ []
+taking_changes t front state = put_tail (tail_taken t front) ∷ PutMove (delta_taken t front state) ∷ []
 
 -- The pair of that number isn't the first of the thread, and what the pair before it holds fits a pair. The new global state can
 -- be written.

@@ -17,11 +17,11 @@ use Rattle.lfs_thread.specs.Kept.{Kept}
 use Rattle.lfs_thread.specs.Steps.{pair_in}
 use Rattle.lfs_operations.specs.Dropping.{SameInFlight}
 use Rattle.lfs_operations.specs.Ready.{KeepsRoot}
-use Rattle.lfs_operations.specs.Sharing.{share_of, goes_on_at, CanSetState}
+use Rattle.lfs_operations.specs.Deltas.{delta_of, goes_on_at, CanSetState}
 
--- the slot at the id is removed, and the share changes
+-- the slot at the id is removed, and the delta changes
 abbrev pub taking : Kept → ℕ → ℕ → Gstate → List Change
-taking t index id g = Delete id ∷ PutMove (share_of t index g) ∷ []
+taking t index id g = Delete id ∷ PutMove (delta_of t index g) ∷ []
 
 -- there is a pair of that number with a slot of that id
 pub record CanTakeSlot (t : Kept) (index id : ℕ) (g : Gstate) : Type 0 where

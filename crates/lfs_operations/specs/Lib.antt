@@ -12,10 +12,10 @@ pub mod MovingAcross
 pub mod MovingOnto
 pub mod Making
 pub mod RenamingSlots
-pub mod RenamingSeen
+pub mod RenamingView
 pub mod Renaming
 pub mod Unlinking
-pub mod Sharing
+pub mod Deltas
 pub mod Recovering
 pub mod EndingMove
 pub mod RenamingOver

@@ -88,7 +88,7 @@ pub record AltersUpTo (old : Kept) (pair : ℕ) (new : Kept) : Type 0 where
   pub end : (last : ℕ) → IsLastFrom old.pairs pair last → Alters old last new
 
 -- `Io` comes with a fault of the device, and any other result with none. After an error the thread has failed.
-pub record TellsOfSteps {X : Type 0} (old new : State) (result : Result X Error) : Type 0 where
+pub record ReportsOfSteps {X : Type 0} (old new : State) (result : Result X Error) : Type 0 where
   pub failed : new.failed ≡ is_err result
   pub errors : IfErr result (λ e. (e ≡ Io) ⊎ (e ≡ NoMemory))
   pub fault : IsErrOf result Io → faults old.kept.history < faults new.kept.history

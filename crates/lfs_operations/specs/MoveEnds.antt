@@ -32,12 +32,12 @@ sync_in g = record no_gstate { sync = g.sync }
 abbrev pub is_led : List Pair → ℕ → Bool
 is_led ps pair = flag false (take (pair - superblocks_before ps) (directory_pairs ps))
 
--- the pair's share without the move that is set
-abbrev pub share_without_move : Kept → ℕ → Gstate
-share_without_move t pair = gstate_xor (move_in (gstate_of t.pairs)) (pair_in t pair).content.move
+-- the pair's delta without the move that is set
+abbrev pub delta_without_move : Kept → ℕ → Gstate
+delta_without_move t pair = gstate_xor (move_in (gstate_of t.pairs)) (pair_in t pair).content.move
 
 abbrev pub end_changes : Kept → ℕ → ℕ → List Change
-end_changes t pair id = Delete id ∷ PutMove (share_without_move t pair) ∷ []
+end_changes t pair id = Delete id ∷ PutMove (delta_without_move t pair) ∷ []
 
 -- The image is accepted and in the writing profile, and a set move names the slot at the id of the pair. `goes` says whether the
 -- pair is dropped with it: it has no other slot, and a hard tail names it. The sync bit may be set.
@@ -60,7 +60,7 @@ abbrev pub content_without : Kept → ℕ → ℕ → Content
 content_without t pair id = record {
   slots = remove (pair_in t pair).content.slots id;
   tail = (pair_in t pair).content.tail;
-  move = share_without_move t pair;
+  move = delta_without_move t pair;
 }
 
 -- the pair that is written: the slot's, or the one before it where that is dropped

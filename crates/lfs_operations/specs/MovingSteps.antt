@@ -50,7 +50,7 @@ SurvivesBoth old new_pair changes new = (before after : Tree)
 -- What an operation of several steps reports. `Io` comes with a fault of the device, and any other result with none. At `NoSpace`
 -- everything is as it was; it comes only where what the changes make doesn't fit the pair and fewer than two blocks are free. At
 -- any other error the thread has failed, unless it was only read by then.
-pub record TellsInSteps {X : Type 0} (old new : State) (index : ℕ) (changes : List Change) (result : Result X Error) : Type 0 where
+pub record ReportsInSteps {X : Type 0} (old new : State) (index : ℕ) (changes : List Change) (result : Result X Error) : Type 0 where
   pub failed : (new.failed ≡ has_failed result) ⊎ ((new.failed ≡ false) × IsOnlyRead old.kept new.kept)
   pub errors : IfErr result (λ e. (e ≡ Io) ⊎ ((e ≡ NoMemory) ⊎ (e ≡ NoSpace)))
   pub fault : IsErrOf result Io → faults old.kept.history < faults new.kept.history

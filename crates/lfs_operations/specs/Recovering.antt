@@ -42,7 +42,7 @@ pub record CanDropUnreached (t : Kept) (numbers : List ℕ) : Type 0 where
   pub size : length t.map ≡ block_count t.disk
   pub large : 1024 ≤ t.disk.block_size
   pub none : HasNoMove (gstate_of t.pairs)
-  pub told : AreUnreached t.pairs numbers
+  pub reported : AreUnreached t.pairs numbers
 
 -- no move is set, and a path leads to each directory
 pub record CanClearSync (t : Kept) : Type 0 where
@@ -52,7 +52,7 @@ pub record CanClearSync (t : Kept) : Type 0 where
   pub reached : AreReached t.pairs
 
 -- `Io` comes with a fault of the device, and any other result with none. After an error the thread has failed.
-pub record TellsOfSteps {X : Type 0} (old new : State) (result : Result X Error) : Type 0 where
+pub record ReportsOfSteps {X : Type 0} (old new : State) (result : Result X Error) : Type 0 where
   pub failed : new.failed ≡ is_err result
   pub errors : IfErr result (λ e. (e ≡ Io) ⊎ (e ≡ NoMemory))
   pub fault : IsErrOf result Io → faults old.kept.history < faults new.kept.history

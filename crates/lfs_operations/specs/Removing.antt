@@ -11,7 +11,7 @@ use Rattle.lfs_model.specs.Tree.{Path, Tree, branch_of}
 use Rattle.lfs_model.specs.Shown.{file_blocks, tree_in, used_blocks}
 use Rattle.lfs_model.specs.Steps.{IsCompleted, count}
 use Rattle.lfs_thread.specs.Kept.{Kept, State}
-use Rattle.lfs_thread.specs.Steps.{HasTold, pair_in}
+use Rattle.lfs_thread.specs.Steps.{HasReported, pair_in}
 use Rattle.lfs_operations.specs.Editing.{CanEdit, slot_at}
 use Rattle.lfs_operations.specs.Dropping.{HasShrunk}
 
@@ -41,6 +41,6 @@ pub record IsRemoved (old new : Kept) (path : Path) (name : Name) (struct : Stru
   pub once : (b : ℕ) → count b (used_blocks new.disk new.pairs) + count b (file_blocks old.disk struct) ≤ 1
 
 -- what a step reports that takes no block, and whether the thread has failed after it
-pub record TellsOfCalls {X : Type 0} (old new : State) (result : Result X Error) : Type 0 where
+pub record ReportsOfCalls {X : Type 0} (old new : State) (result : Result X Error) : Type 0 where
   pub failed : new.failed ≡ is_err result
-  pub told : HasTold old.kept new.kept result
+  pub reported : HasReported old.kept new.kept result

@@ -16,7 +16,7 @@ use Rattle.lfs_model.specs.Shown.{file_blocks, tree_in, used_blocks}
 use Rattle.lfs_model.specs.Steps.{IsCompleted, count}
 use Rattle.lfs_thread.specs.Kept.{Kept, State}
 use Rattle.lfs_thread.specs.Steps.{IsOnlyRead}
-use Rattle.lfs_operations.specs.Changing.{IsTooLarge, TellsSpace, has_failed}
+use Rattle.lfs_operations.specs.Changing.{IsTooLarge, ReportsSpace, has_failed}
 use Rattle.lfs_operations.specs.Editing.{CanEdit, slot_at}
 use Rattle.lfs_operations.specs.Ready.{HasBecome, HasBecomeBut}
 use Rattle.lfs_operations.specs.RenamingSlots.{parts_at, slot_changes}
@@ -70,9 +70,9 @@ pub record IsRenamedOnto (old new : Kept) (path : Path) (from to : Name) (struct
   pub once : (b : ℕ) → count b (used_blocks new.disk new.pairs) + count b (file_blocks old.disk struct) ≤ 1
   pub completed : IsRenameOf old new path from to
 
--- What an operation reports that reads a slot before it changes or splits the pair: as `TellsPut`, except that the thread works
+-- What an operation reports that reads a slot before it changes or splits the pair: as `ReportsPut`, except that the thread works
 -- on and is as it was where the slot couldn't be read.
-pub record TellsMove {X : Type 0} (old new : State) (index : ℕ) (changes : List Change) (result : Result X Error) : Type 0 where
+pub record ReportsMove {X : Type 0} (old new : State) (index : ℕ) (changes : List Change) (result : Result X Error) : Type 0 where
   pub failed : (new.failed ≡ has_failed result) ⊎ ((new.failed ≡ false) × IsOnlyRead old.kept new.kept)
-  pub tells : TellsSpace old.kept new.kept result
+  pub reports : ReportsSpace old.kept new.kept result
   pub too_large : result ≡ Err NoSpace → IsTooLarge old.kept index changes

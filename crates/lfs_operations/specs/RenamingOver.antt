@@ -13,17 +13,17 @@ use Rattle.lfs_model.specs.Slots.{Branch, Content, gstate_xor, same_pair}
 use Rattle.lfs_model.specs.Thread.{IsThread, gstate_of, is_hard}
 use Rattle.lfs_model.specs.Tree.{Path}
 use Rattle.lfs_model.specs.Profile.{FitsEntry}
-use Rattle.lfs_model.specs.Steps.{sync_share, rename_walk, IsTaken}
+use Rattle.lfs_model.specs.Steps.{sync_delta, rename_walk, IsTaken}
 use Rattle.lfs_thread.specs.Kept.{Kept, State}
-use Rattle.lfs_thread.specs.Steps.{HasTold, IsChanged, IsOnlyRead, IsWrittenAs, pair_in, with_pair}
+use Rattle.lfs_thread.specs.Steps.{HasReported, IsChanged, IsOnlyRead, IsWrittenAs, pair_in, with_pair}
 use Rattle.lfs_operations.specs.Dropping.{HasShrunk}
 use Rattle.lfs_operations.specs.Editing.{CanEdit, slot_at}
 use Rattle.lfs_operations.specs.Renaming.{IsRenameOf, place_without, with_renamed}
 use Rattle.lfs_operations.specs.RenamingSlots.{parts_at, slot_changes}
 
--- the pair's share turns the sync bit, both slots are removed, and the entry's is put in at the other's place
+-- the pair's delta turns the sync bit, both slots are removed, and the entry's is put in at the other's place
 abbrev pub rename_over_changes : Kept → ℕ → ℕ → ℕ → Name → List Change
-rename_over_changes t pair id place name = PutMove (gstate_xor (pair_in t pair).content.move sync_share) ∷ Delete id ∷ Delete (place_without id place)
+rename_over_changes t pair id place name = PutMove (gstate_xor (pair_in t pair).content.move sync_delta) ∷ Delete id ∷ Delete (place_without id place)
     ∷ slot_changes (place_without id place) name (parts_at t pair id)
 
 -- The image may be changed. An entry is at the id of the pair, and a directory of another name at a place of the same pair and
@@ -45,14 +45,14 @@ pub record IsRenamedOver (old new : Kept) (pair id place : ℕ) (path : Path) (f
   pub pairs : new.pairs ≡ with_pair old pair content
   pub thread : IsThread (content_at new.disk) (block_count new.disk) new.pairs
   pub map : new.map ≡ old.map
-  pub gstate : gstate_of new.pairs ≡ sync_share
+  pub gstate : gstate_of new.pairs ≡ sync_delta
   pub taken : IsTaken old.disk old.pairs new.disk new.pairs (renamed (path ++ from ∷ []) (path ++ to ∷ [])) (rename_walk (path ++ from ∷ []) (path ++ to ∷ []))
 
 -- What a step reports that reads a slot first and takes no block: after an error the thread has failed, except that it works on
 -- and is as it was where the slot couldn't be read.
-pub record TellsOver {X : Type 0} (old new : State) (result : Result X Error) : Type 0 where
+pub record ReportsOver {X : Type 0} (old new : State) (result : Result X Error) : Type 0 where
   pub failed : (new.failed ≡ is_err result) ⊎ ((new.failed ≡ false) × IsOnlyRead old.kept new.kept)
-  pub told : HasTold old.kept new.kept result
+  pub reported : HasReported old.kept new.kept result
 
 -- ---- the operation
 
@@ -73,7 +73,7 @@ pub record IsRenamedOntoDirectory (old new : Kept) (path : Path) (from to : Name
 -- What several steps report that take no block, where the first one reads a slot. `Io` comes with a fault of the device, and any
 -- other result with none. After an error the thread has failed, except that it works on and is as it was where the slot couldn't
 -- be read.
-pub record TellsOverSteps {X : Type 0} (old new : State) (result : Result X Error) : Type 0 where
+pub record ReportsOverSteps {X : Type 0} (old new : State) (result : Result X Error) : Type 0 where
   pub failed : (new.failed ≡ is_err result) ⊎ ((new.failed ≡ false) × IsOnlyRead old.kept new.kept)
   pub errors : IfErr result (λ e. (e ≡ Io) ⊎ (e ≡ NoMemory))
   pub fault : IsErrOf result Io → faults old.kept.history < faults new.kept.history

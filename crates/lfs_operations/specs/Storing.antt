@@ -44,7 +44,7 @@ IsWriterOf s fd path contents writer = (file_of s.files fd ≡ Some (Writing wri
 -- The tree has the file with those contents, and its slot is where the layout wants it. So a sync or a close of a file that was
 -- written is completed. The blocks `gone` are distinct, and none of them is the image's. A block of the pairs was one before, or
 -- was free.
-pub record IsStored (old new : Kept) (path : Path) (name : Name) (contents gone come : List ℕ) : Type 0 where
+pub record IsStructSet (old new : Kept) (path : Path) (name : Name) (contents gone come : List ℕ) : Type 0 where
   pub now : HasBecomeBut old new (with_contents_at old path name contents) gone come
   pub synced : (s : Session) (fd : ℕ) (writer : Writer) → s.tree ≡ tree_in old.disk old.pairs → IsWriterOf s fd (path ++ name ∷ []) contents writer
       → IsCompleted old.disk old.pairs s (ops.Sync fd) new.disk new.pairs

@@ -16,7 +16,7 @@ use Rattle.lfs_model.specs.Refusals.{as_path}
 use Rattle.lfs_model.specs.Thread.{IsThread, is_hard}
 use Rattle.lfs_model.specs.Tree.{Path}
 use Rattle.lfs_model.specs.Shown.{tree_in}
-use Rattle.lfs_model.specs.Steps.{IsCompleted, sync_share}
+use Rattle.lfs_model.specs.Steps.{IsCompleted, sync_delta}
 use Rattle.lfs_thread.specs.Kept.{Kept, State}
 use Rattle.lfs_thread.specs.Steps.{IsWrittenAs, pair_in, with_pair}
 use Rattle.lfs_operations.specs.Changing.{Alters}
@@ -26,16 +26,16 @@ use Rattle.lfs_operations.specs.Removing.{goes_whole, without_file}
 
 -- ---- the entry is removed
 
--- what the entry's pair holds without it; the pair's share turns the sync bit
+-- what the entry's pair holds without it; the pair's delta turns the sync bit
 abbrev pub without_entry : Kept → ℕ → ℕ → Content
 without_entry t pair id = record {
   slots = remove (pair_in t pair).content.slots id;
   tail = (pair_in t pair).content.tail;
-  move = gstate_xor (pair_in t pair).content.move sync_share;
+  move = gstate_xor (pair_in t pair).content.move sync_delta;
 }
 
 abbrev pub unlink_changes : Kept → ℕ → ℕ → List Change
-unlink_changes t pair id = Delete id ∷ PutMove (gstate_xor (pair_in t pair).content.move sync_share) ∷ []
+unlink_changes t pair id = Delete id ∷ PutMove (gstate_xor (pair_in t pair).content.move sync_delta) ∷ []
 
 -- the pair holds that, and everything else is as it was
 pub record IsUnlinked (old : Kept) (pair id : ℕ) (new : Kept) : Type 0 where
@@ -83,7 +83,7 @@ pub record AltersInFront (old : Kept) (pair first gone : ℕ) (new : Kept) : Typ
 
 -- What several steps report that take no block: `Io` comes with a fault of the device, and any other result with none. After an
 -- error the thread has failed.
-pub record TellsOfSteps {X : Type 0} (old new : State) (result : Result X Error) : Type 0 where
+pub record ReportsOfSteps {X : Type 0} (old new : State) (result : Result X Error) : Type 0 where
   pub failed : new.failed ≡ is_err result
   pub errors : IfErr result (λ e. (e ≡ Io) ⊎ (e ≡ NoMemory))
   pub fault : IsErrOf result Io → faults old.kept.history < faults new.kept.history

@@ -4,10 +4,10 @@ ghost use Rattle.std.specs.Prelude.{◌≡◌, ◌≤◌, ◌+◌, false, OnOk};
 ghost use Rattle.lfs_model.specs.History.{reads};
 ghost use Rattle.lfs_model.specs.PowerLoss.{Survives};
 ghost use Rattle.lfs_model.specs.Shown.{tree_in};
-ghost use Rattle.lfs_operations.specs.Changing.{Alters, TellsPut, WritesIn};
+ghost use Rattle.lfs_operations.specs.Changing.{Alters, ReportsPut, WritesIn};
 ghost use Rattle.lfs_operations.specs.Creating.{CanCreate, IsCreated, file_changes, with_file};
 
-use crate::changing::put;
+use crate::changes::put;
 use lfs_device::{BlockDevice, Error};
 use lfs_pair::Change;
 use lfs_tag::kinds::{FILE_NAME, INLINE_STRUCT};
@@ -33,7 +33,7 @@ pub fn create<D: BlockDevice>(
     requires can { CanCreate thread.old.kept pair id name.now }
     ensures created { OnOk result ((can : CanCreate thread.old.kept pair id name.now) → IsCreated thread.old.kept thread.new.kept can.path name.now) }
     ensures alters { OnOk result (Alters thread.old.kept pair thread.new.kept) }
-    ensures errors { TellsPut thread.old thread.new pair (file_changes id name.now) result }
+    ensures errors { ReportsPut thread.old thread.new pair (file_changes id name.now) result }
     ensures device { WritesIn thread.old.kept pair thread.new.kept }
     ensures few { reads thread.new.kept.history ≤ reads thread.old.kept.history + 6 }
     ensures survives { (can : CanCreate thread.old.kept pair id name.now) → Survives thread.old.kept.disk thread.old.kept.history thread.new.kept.history

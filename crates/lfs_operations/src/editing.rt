@@ -7,11 +7,11 @@ ghost use Rattle.lfs_model.specs.PowerLoss.{Survives};
 ghost use Rattle.lfs_model.specs.Shown.{tree_in};
 ghost use Rattle.lfs_thread.specs.Device.{two_of};
 ghost use Rattle.lfs_thread.specs.Steps.{Writes, pair_in};
-ghost use Rattle.lfs_operations.specs.Changing.{TellsPut, WritesIn};
+ghost use Rattle.lfs_operations.specs.Changing.{ReportsPut, WritesIn};
 ghost use Rattle.lfs_operations.specs.Editing.{CanEdit, CanSetAttribute, HasRemovedAttribute, HasSetAttribute, with_attributes_at};
-ghost use Rattle.lfs_operations.specs.Removing.{TellsOfCalls};
+ghost use Rattle.lfs_operations.specs.Removing.{ReportsOfCalls};
 
-use crate::changing::put;
+use crate::changes::put;
 use lfs_device::{BlockDevice, Error};
 use lfs_pair::Change;
 use lfs_thread::Thread;
@@ -34,7 +34,7 @@ pub fn set_attribute<D: BlockDevice>(
     requires works { thread.old.failed ≡ false }
     requires can { CanSetAttribute thread.old.kept pair id kind bytes.now }
     ensures is_set { OnOk result ((set : CanSetAttribute thread.old.kept pair id kind bytes.now) → HasSetAttribute thread.old.kept thread.new.kept set.can.path set.can.name kind bytes.now) }
-    ensures errors { TellsPut thread.old thread.new pair (PutAttribute id kind bytes.now ∷ []) result }
+    ensures errors { ReportsPut thread.old thread.new pair (PutAttribute id kind bytes.now ∷ []) result }
     ensures device { WritesIn thread.old.kept pair thread.new.kept }
     ensures survives { (set : CanSetAttribute thread.old.kept pair id kind bytes.now) → Survives thread.old.kept.disk thread.old.kept.history thread.new.kept.history
         (tree_in thread.old.kept.disk thread.old.kept.pairs) (with_attributes_at thread.old.kept set.can.path set.can.name (put_attribute kind bytes.now)) }
@@ -61,7 +61,7 @@ pub fn remove_attribute<D: BlockDevice>(
     requires works { thread.old.failed ≡ false }
     requires can { CanEdit thread.old.kept pair id }
     ensures is_removed { OnOk result ((can : CanEdit thread.old.kept pair id) → HasRemovedAttribute thread.old.kept thread.new.kept can.path can.name kind) }
-    ensures errors { TellsOfCalls thread.old thread.new result }
+    ensures errors { ReportsOfCalls thread.old thread.new result }
     ensures device { Writes (two_of (pair_in thread.old.kept pair).at) thread.old.kept thread.new.kept }
     ensures survives { (can : CanEdit thread.old.kept pair id) → Survives thread.old.kept.disk thread.old.kept.history thread.new.kept.history
         (tree_in thread.old.kept.disk thread.old.kept.pairs) (with_attributes_at thread.old.kept can.path can.name (without_attribute kind)) }

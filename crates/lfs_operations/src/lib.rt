@@ -2,7 +2,7 @@
 //! power.
 #![tactic(auto)]
 
-mod changing;
+mod changes;
 mod creating;
 mod dropping;
 mod editing;
@@ -13,7 +13,7 @@ mod removing;
 mod renaming;
 mod renaming_copy;
 mod renaming_over;
-mod storing;
+mod structs;
 mod unlinking;
 
 pub use creating::create;
@@ -24,5 +24,5 @@ pub use recovering::{drop_unreached, end_move};
 pub use removing::remove_file;
 pub use renaming::{rename, rename_onto_file};
 pub use renaming_over::rename_onto_directory;
-pub use storing::set_struct;
+pub use structs::set_struct;
 pub use unlinking::remove_directory;

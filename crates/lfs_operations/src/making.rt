@@ -3,17 +3,17 @@
 ghost use Rattle.std.specs.Prelude.{◌≡◌, ◌<◌, ◌^◌, ℕ, false, is_err, length, Err, OnOk};
 ghost use Rattle.lfs_device.specs.Bytes.{HasBytes};
 ghost use Rattle.lfs_model.specs.Disk.{block_count};
-ghost use Rattle.lfs_model.specs.PowerLoss.{IsLeft, Survives};
+ghost use Rattle.lfs_model.specs.PowerLoss.{IsLeftByStop, Survives};
 ghost use Rattle.lfs_model.specs.Slots.{address_of};
 ghost use Rattle.lfs_model.specs.Shown.{tree_in};
 ghost use Rattle.lfs_model.specs.Steps.{turned};
-ghost use Rattle.lfs_tag.specs.FieldsSeen.{move_seen};
+ghost use Rattle.lfs_tag.specs.FieldsView.{move_view};
 ghost use Rattle.lfs_thread.specs.Device.{StopsLeave, four_of, two_of};
-ghost use Rattle.lfs_thread.specs.Steps.{CanJoin, HasToldBeside, IsJoined, IsLeftByJoin, Writes, pair_in};
-ghost use Rattle.lfs_operations.specs.Changing.{CanPut, IsLeftByPut, IsPut, TellsPut, WritesIn};
-ghost use Rattle.lfs_operations.specs.Making.{AltersUpTo, CanMake, FitsJoined, IsLastFrom, IsMade, TellsOfSteps, WritesUpTo, entering, naming, threading, with_directory};
+ghost use Rattle.lfs_thread.specs.Steps.{CanJoin, HasReportedBeside, IsJoined, IsLeftByJoin, Writes, pair_in};
+ghost use Rattle.lfs_operations.specs.Changing.{CanPut, IsLeftByPut, IsPut, ReportsPut, WritesIn};
+ghost use Rattle.lfs_operations.specs.Making.{AltersUpTo, CanMake, FitsJoined, IsLastFrom, IsMade, ReportsOfSteps, WritesUpTo, entering, naming, threading, with_directory};
 
-use crate::changing::{put, take_two};
+use crate::changes::{put, take_two};
 use lfs_device::{BlockDevice, Error};
 use lfs_pair::Change;
 use lfs_tag::kinds::{DIRECTORY_NAME, DIRECTORY_STRUCT};
@@ -44,16 +44,16 @@ fn last_from<D: BlockDevice>(thread: &Thread<D>, index: usize) -> usize
     last
 }
 
-// Returns a share with its sync bit turned. Set in its pair, it turns the sync bit of the global
+// Returns a delta with its sync bit turned. Set in its pair, it turns the sync bit of the global
 // state.
-fn turned(share: &MoveState) -> MoveState
-    ensures { move_seen result ≡ turned (move_seen share.now) }
+fn turned(delta: &MoveState) -> MoveState
+    ensures { move_view result ≡ turned (move_view delta.now) }
 {
     MoveState {
-        sync: !share.sync,
-        kind: share.kind,
-        id: share.id,
-        pair: share.pair,
+        sync: !delta.sync,
+        kind: delta.kind,
+        id: delta.id,
+        pair: delta.pair,
     }
 }
 
@@ -70,7 +70,7 @@ fn thread_behind<D: BlockDevice>(
     requires fits { FitsJoined thread.old.kept last (address_of fresh) }
     ensures is_joined { OnOk result (IsJoined thread.old.kept last (address_of fresh) (threading thread.old.kept last (address_of fresh)) thread.new.kept) }
     ensures failed { thread.new.failed ≡ is_err result }
-    ensures errors { HasToldBeside (two_of (address_of fresh)) thread.old.kept thread.new.kept result }
+    ensures errors { HasReportedBeside (two_of (address_of fresh)) thread.old.kept thread.new.kept result }
     ensures device { Writes (four_of (pair_in thread.old.kept last).at (address_of fresh)) thread.old.kept thread.new.kept }
     ensures stops { StopsLeave thread.old.kept.history thread.new.kept.history (IsLeftByJoin thread.old.kept last (address_of fresh) (threading thread.old.kept last (address_of fresh))) }
 {
@@ -80,10 +80,10 @@ fn thread_behind<D: BlockDevice>(
             pair: Some(fresh),
         },
         Change::Move {
-            state: turned(&thread.share(last)),
+            state: turned(&thread.delta(last)),
         },
     ];
-    // The pair has room of its own for tail and share, so the commit is never refused.
+    // The pair has room of its own for tail and delta, so the commit is never refused.
     thread.thread_in(alloc, last, fresh, &changes)?;
     Ok(())
 }
@@ -100,7 +100,7 @@ fn put_entry<'a, D: BlockDevice>(
     requires works { thread.old.failed ≡ false }
     requires can { CanPut thread.old.kept pair (entering thread.old.kept pair id name.now branch.now) }
     ensures is_put { OnOk result (IsPut thread.old.kept pair (entering thread.old.kept pair id name.now branch.now) thread.new.kept) }
-    ensures errors { TellsPut thread.old thread.new pair (entering thread.old.kept pair id name.now branch.now) result }
+    ensures errors { ReportsPut thread.old thread.new pair (entering thread.old.kept pair id name.now branch.now) result }
     ensures device { WritesIn thread.old.kept pair thread.new.kept }
     ensures stops { StopsLeave thread.old.kept.history thread.new.kept.history (IsLeftByPut thread.old.kept pair (entering thread.old.kept pair id name.now branch.now)) }
 {
@@ -116,7 +116,7 @@ fn put_entry<'a, D: BlockDevice>(
             bytes: branch,
         },
         Change::Move {
-            state: turned(&thread.share(pair)),
+            state: turned(&thread.delta(pair)),
         },
     ];
     put(alloc, thread, pair, &changes)?;
@@ -135,7 +135,7 @@ fn name_directory<D: BlockDevice>(
     requires works { thread.old.failed ≡ false }
     requires can { CanPut thread.old.kept pair (naming thread.old.kept pair id name.now (address_of at)) }
     ensures is_put { OnOk result (IsPut thread.old.kept pair (naming thread.old.kept pair id name.now (address_of at)) thread.new.kept) }
-    ensures errors { TellsPut thread.old thread.new pair (naming thread.old.kept pair id name.now (address_of at)) result }
+    ensures errors { ReportsPut thread.old thread.new pair (naming thread.old.kept pair id name.now (address_of at)) result }
     ensures device { WritesIn thread.old.kept pair thread.new.kept }
     ensures stops { StopsLeave thread.old.kept.history thread.new.kept.history (IsLeftByPut thread.old.kept pair (naming thread.old.kept pair id name.now (address_of at))) }
 {
@@ -164,9 +164,9 @@ pub fn make_directory<D: BlockDevice>(
     requires can { CanMake thread.old.kept pair id name.now }
     ensures made { OnOk result ((can : CanMake thread.old.kept pair id name.now) → IsMade thread.old.kept thread.new.kept can.path name.now) }
     ensures alters { OnOk result (AltersUpTo thread.old.kept pair thread.new.kept) }
-    ensures errors { TellsOfSteps thread.old thread.new result }
+    ensures errors { ReportsOfSteps thread.old thread.new result }
     ensures device { WritesUpTo thread.old.kept pair thread.new.kept }
-    ensures stands { result ≡ Err Error.NoMemory → (can : CanMake thread.old.kept pair id name.now) → IsLeft thread.new.kept.disk
+    ensures stands { result ≡ Err Error.NoMemory → (can : CanMake thread.old.kept pair id name.now) → IsLeftByStop thread.new.kept.disk
         (tree_in thread.old.kept.disk thread.old.kept.pairs) (with_directory thread.old.kept can.path name.now) }
     ensures survives { (can : CanMake thread.old.kept pair id name.now) → Survives thread.old.kept.disk thread.old.kept.history thread.new.kept.history
         (tree_in thread.old.kept.disk thread.old.kept.pairs) (with_directory thread.old.kept can.path name.now) }

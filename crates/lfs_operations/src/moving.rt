@@ -3,26 +3,26 @@
 ghost use Rattle.std.specs.Prelude.{◌≡◌, ◌<◌, ◌-◌, ◌^◌, ◌∷◌, true, false, length, IfOk, OnOk};
 ghost use Rattle.lfs_model.specs.Changes.{Delete, PutMove};
 ghost use Rattle.lfs_model.specs.Slots.{gstate_xor};
-ghost use Rattle.lfs_operations.specs.RenamingSeen.{copied};
+ghost use Rattle.lfs_operations.specs.RenamingView.{copied};
 ghost use Rattle.lfs_operations.specs.RenamingSlots.{slot_changes};
 ghost use Rattle.lfs_model.specs.LoggedContent.{IsAddress};
 ghost use Rattle.lfs_model.specs.PowerLoss.{Survives};
 ghost use Rattle.lfs_model.specs.Thread.{gstate_of};
 ghost use Rattle.lfs_model.specs.Shown.{tree_in};
-ghost use Rattle.lfs_tag.specs.FieldsSeen.{move_seen};
+ghost use Rattle.lfs_tag.specs.FieldsView.{move_view};
 ghost use Rattle.lfs_thread.specs.Device.{four_of, two_of};
 ghost use Rattle.lfs_thread.specs.Kept.{Kept};
 ghost use Rattle.lfs_thread.specs.Steps.{Writes, pair_in};
-ghost use Rattle.lfs_pair.specs.ChangeSeen.{changes_seen};
+ghost use Rattle.lfs_pair.specs.ChangeView.{changes_view};
 ghost use Rattle.lfs_operations.specs.Altering.{AltersBut};
 ghost use Rattle.lfs_operations.specs.Changing.{CanPut, IsPut, WritesInPairs};
-ghost use Rattle.lfs_operations.specs.MoveEnds.{CanEnd, HasEnded, end_at, move_of, share_without_move, sync_in};
-ghost use Rattle.lfs_operations.specs.MovingSteps.{EndsAfter, IsPutAndEnded, SurvivesBoth, TellsInSteps, WritesInTwo, left_at, place_after};
+ghost use Rattle.lfs_operations.specs.MoveEnds.{CanEnd, HasEnded, end_at, move_of, delta_without_move, sync_in};
+ghost use Rattle.lfs_operations.specs.MovingSteps.{EndsAfter, IsPutAndEnded, SurvivesBoth, ReportsInSteps, WritesInTwo, left_at, place_after};
 ghost use Rattle.lfs_operations.specs.MovingAcross.{CanRenameAcross, IsRenamedAcross, moving_changes, with_moved};
 ghost use Rattle.lfs_operations.specs.MovingOnto.{CanPutOnto, CanReplaceAcross, CanReplaceDirectory, IsMovedOnto, IsReplacedAcross, onto_changes, replacing_changes};
-ghost use Rattle.lfs_operations.specs.Removing.{TellsOfCalls};
+ghost use Rattle.lfs_operations.specs.Removing.{ReportsOfCalls};
 
-use crate::changing::put;
+use crate::changes::put;
 use crate::dropping::drop_at;
 use crate::removing::goes_with_slot;
 use crate::renaming_copy::{SlotCopy, copy_at, push_slot};
@@ -30,20 +30,20 @@ use lfs_device::{BlockDevice, Error};
 use lfs_pair::Change;
 use lfs_tag::MoveState;
 use lfs_tag::kinds::DELETE;
-use lfs_thread::{Thread, number_of, with_share};
+use lfs_thread::{Thread, number_of, with_delta};
 use std::alloc::{AllocError, Global};
 
-// Returns a pair's share of the global state, changed so that no move is set.
-fn share_without_move<D: BlockDevice>(thread: &Thread<D>, pair: usize) -> MoveState
+// Returns a pair's delta of the global state, changed so that no move is set.
+fn delta_without_move<D: BlockDevice>(thread: &Thread<D>, pair: usize) -> MoveState
     requires works { thread.now.failed ≡ false }
     requires below { pair < length thread.now.kept.pairs }
-    ensures share { move_seen result ≡ share_without_move thread.now.kept pair }
-    ensures address { IsAddress (move_seen result).pair }
+    ensures delta { move_view result ≡ delta_without_move thread.now.kept pair }
+    ensures address { IsAddress (move_view result).pair }
 {
     let mut state = thread.state();
     state.sync = false;
-    let share = thread.share(pair);
-    with_share(&state, &share)
+    let delta = thread.delta(pair);
+    with_delta(&state, &delta)
 }
 
 // Removes the slot that a set move names from its pair, which stays, and ends the move.
@@ -56,12 +56,12 @@ fn end_in_place<D: BlockDevice>(
     requires works { thread.old.failed ≡ false }
     requires can { CanEnd thread.old.kept pair id false }
     ensures ended { OnOk result (HasEnded thread.old.kept pair id false thread.new.kept) }
-    ensures errors { TellsOfCalls thread.old thread.new result }
+    ensures errors { ReportsOfCalls thread.old thread.new result }
     ensures device { Writes (two_of (pair_in thread.old.kept pair).at) thread.old.kept thread.new.kept }
     ensures survives { Survives thread.old.kept.disk thread.old.kept.history thread.new.kept.history
         (tree_in thread.old.kept.disk thread.old.kept.pairs) (tree_in thread.old.kept.disk thread.old.kept.pairs) }
 {
-    let state = share_without_move(thread, pair);
+    let state = delta_without_move(thread, pair);
     // What is left fits, so the commit is never refused.
     thread.change(
         alloc,
@@ -74,7 +74,7 @@ fn end_in_place<D: BlockDevice>(
 // Returns the global state without the move that is set.
 fn state_without_move<D: BlockDevice>(thread: &Thread<D>) -> MoveState
     requires { thread.now.failed ≡ false }
-    ensures { move_seen result ≡ sync_in (gstate_of thread.now.kept.pairs) }
+    ensures { move_view result ≡ sync_in (gstate_of thread.now.kept.pairs) }
 {
     let mut state = MoveState::none();
     state.sync = thread.state().sync;
@@ -91,7 +91,7 @@ fn end_with_pair<D: BlockDevice>(
     requires works { thread.old.failed ≡ false }
     requires can { CanEnd thread.old.kept pair id true }
     ensures ended { OnOk result (HasEnded thread.old.kept pair id true thread.new.kept) }
-    ensures errors { TellsOfCalls thread.old thread.new result }
+    ensures errors { ReportsOfCalls thread.old thread.new result }
     ensures device { Writes (two_of (pair_in thread.old.kept (pair - 1)).at) thread.old.kept thread.new.kept }
     ensures survives { Survives thread.old.kept.disk thread.old.kept.history thread.new.kept.history
         (tree_in thread.old.kept.disk thread.old.kept.pairs) (tree_in thread.old.kept.disk thread.old.kept.pairs) }
@@ -113,7 +113,7 @@ pub(crate) fn end_move<D: BlockDevice>(
     requires works { thread.old.failed ≡ false }
     requires can { CanEnd thread.old.kept pair id goes }
     ensures ended { OnOk result (HasEnded thread.old.kept pair id goes thread.new.kept) }
-    ensures errors { TellsOfCalls thread.old thread.new result }
+    ensures errors { ReportsOfCalls thread.old thread.new result }
     ensures device { Writes (two_of (pair_in thread.old.kept (end_at pair goes)).at) thread.old.kept thread.new.kept }
     ensures survives { Survives thread.old.kept.disk thread.old.kept.history thread.new.kept.history
         (tree_in thread.old.kept.disk thread.old.kept.pairs) (tree_in thread.old.kept.disk thread.old.kept.pairs) }
@@ -145,12 +145,12 @@ fn put_and_end<D: BlockDevice>(
     changes: &[Change<'_>],
 ) -> Result<(), Error>
     requires works { thread.old.failed ≡ false }
-    requires can { CanPut thread.old.kept new_pair (changes_seen changes.now) }
-    requires ends { (mid : Kept) → IsPut thread.old.kept new_pair (changes_seen changes.now) mid → EndsAfter thread.old.kept old_pair old_id goes new_pair mid }
-    ensures done { OnOk result (IsPutAndEnded thread.old.kept old_pair old_id goes new_pair (changes_seen changes.now) thread.new.kept) }
-    ensures errors { TellsInSteps thread.old thread.new new_pair (changes_seen changes.now) result }
+    requires can { CanPut thread.old.kept new_pair (changes_view changes.now) }
+    requires ends { (mid : Kept) → IsPut thread.old.kept new_pair (changes_view changes.now) mid → EndsAfter thread.old.kept old_pair old_id goes new_pair mid }
+    ensures done { OnOk result (IsPutAndEnded thread.old.kept old_pair old_id goes new_pair (changes_view changes.now) thread.new.kept) }
+    ensures errors { ReportsInSteps thread.old thread.new new_pair (changes_view changes.now) result }
     ensures device { WritesInTwo thread.old.kept (end_at old_pair goes) new_pair thread.new.kept }
-    ensures survives { SurvivesBoth thread.old.kept new_pair (changes_seen changes.now) thread.new.kept }
+    ensures survives { SurvivesBoth thread.old.kept new_pair (changes_view changes.now) thread.new.kept }
 {
     let before = thread.len();
     put(alloc, thread, new_pair, changes)?;
@@ -160,9 +160,9 @@ fn put_and_end<D: BlockDevice>(
     Ok(())
 }
 
-// Returns the share of a pair that sets a move, which names a slot of another pair. With `sync` it
+// Returns the delta of a pair that sets a move, which names a slot of another pair. With `sync` it
 // sets the sync bit, too. No move is set before.
-fn share_with_move<D: BlockDevice>(
+fn delta_with_move<D: BlockDevice>(
     thread: &Thread<D>,
     old_pair: usize,
     old_id: u16,
@@ -172,7 +172,7 @@ fn share_with_move<D: BlockDevice>(
     requires works { thread.now.failed ≡ false }
     requires old_below { old_pair < length thread.now.kept.pairs }
     requires new_below { new_pair < length thread.now.kept.pairs }
-    ensures share { move_seen result ≡ gstate_xor (move_of sync (pair_in thread.now.kept old_pair).at old_id) (pair_in thread.now.kept new_pair).content.move }
+    ensures delta { move_view result ≡ gstate_xor (move_of sync (pair_in thread.now.kept old_pair).at old_id) (pair_in thread.now.kept new_pair).content.move }
     ensures address { IsAddress (pair_in thread.now.kept old_pair).at }
 {
     let pair = thread.address(old_pair);
@@ -182,11 +182,11 @@ fn share_with_move<D: BlockDevice>(
         id: old_id,
         pair,
     };
-    let share = thread.share(new_pair);
-    with_share(&state, &share)
+    let delta = thread.delta(new_pair);
+    with_delta(&state, &delta)
 }
 
-// Returns the changes that set a share of the global state, and put in a copied slot at an id.
+// Returns the changes that set a delta of the global state, and put in a copied slot at an id.
 fn changes_of<'a>(
     alloc: Global,
     state: MoveState,
@@ -194,7 +194,7 @@ fn changes_of<'a>(
     name: &'a [u8],
     copy: &'a SlotCopy,
 ) -> Result<Vec<Change<'a>>, AllocError>
-    ensures { IfOk result (λ changes. changes_seen changes.items ≡ PutMove (move_seen state) ∷ slot_changes id name.now (copied copy.now)) }
+    ensures { IfOk result (λ changes. changes_view changes.items ≡ PutMove (move_view state) ∷ slot_changes id name.now (copied copy.now)) }
 {
     let mut changes = Vec::new(alloc);
     changes.push(Change::Move { state })?;
@@ -232,20 +232,20 @@ pub fn rename_across<D: BlockDevice>(
     ensures renamed { OnOk result ((rename : CanRenameAcross thread.old.kept old_pair old_id first new_pair new_id name.now)
         → IsRenamedAcross thread.old.kept thread.new.kept rename.old.path rename.old.name rename.path name.now) }
     ensures alters { OnOk result (AltersBut thread.old.kept (two_of (pair_in thread.old.kept old_pair).at) thread.new.kept) }
-    ensures errors { TellsInSteps thread.old thread.new new_pair (moving_changes thread.old.kept old_pair old_id new_pair new_id name.now) result }
+    ensures errors { ReportsInSteps thread.old thread.new new_pair (moving_changes thread.old.kept old_pair old_id new_pair new_id name.now) result }
     ensures device { WritesInTwo thread.old.kept (left_at thread.old.kept old_pair first) new_pair thread.new.kept }
     ensures survives { (rename : CanRenameAcross thread.old.kept old_pair old_id first new_pair new_id name.now) → Survives thread.old.kept.disk thread.old.kept.history thread.new.kept.history
         (tree_in thread.old.kept.disk thread.old.kept.pairs) (with_moved thread.old.kept rename.old.path rename.old.name rename.path name.now) }
 {
     let goes = goes_with_slot(thread, old_pair, first);
     let copy = copy_at(alloc, thread, old_pair, old_id)?;
-    let state = share_with_move(thread, old_pair, old_id, new_pair, false);
+    let state = delta_with_move(thread, old_pair, old_id, new_pair, false);
     let changes = changes_of(alloc, state, new_id, name, &copy)?;
     put_and_end(alloc, thread, old_pair, old_id, goes, new_pair, &changes)?;
     Ok(())
 }
 
-// Returns the changes that set a share of the global state, and put a copied slot in place of the
+// Returns the changes that set a delta of the global state, and put a copied slot in place of the
 // slot at an id.
 fn changes_onto<'a>(
     alloc: Global,
@@ -254,7 +254,7 @@ fn changes_onto<'a>(
     name: &'a [u8],
     copy: &'a SlotCopy,
 ) -> Result<Vec<Change<'a>>, AllocError>
-    ensures { IfOk result (λ changes. changes_seen changes.items ≡ PutMove (move_seen state) ∷ Delete id ∷ slot_changes id name.now (copied copy.now)) }
+    ensures { IfOk result (λ changes. changes_view changes.items ≡ PutMove (move_view state) ∷ Delete id ∷ slot_changes id name.now (copied copy.now)) }
 {
     let mut changes = Vec::new(alloc);
     changes.push(Change::Move { state })?;
@@ -279,14 +279,14 @@ fn put_onto<D: BlockDevice>(
     requires works { thread.old.failed ≡ false }
     requires can { CanPutOnto thread.old.kept sync old_pair old_id first new_pair new_id name.now }
     ensures moved { OnOk result (IsMovedOnto thread.old.kept sync old_pair old_id first new_pair new_id name.now thread.new.kept) }
-    ensures errors { TellsInSteps thread.old thread.new new_pair (onto_changes sync thread.old.kept old_pair old_id new_pair new_id name.now) result }
+    ensures errors { ReportsInSteps thread.old thread.new new_pair (onto_changes sync thread.old.kept old_pair old_id new_pair new_id name.now) result }
     ensures device { WritesInTwo thread.old.kept (left_at thread.old.kept old_pair first) new_pair thread.new.kept }
     ensures survives { (rename : CanPutOnto thread.old.kept sync old_pair old_id first new_pair new_id name.now) → Survives thread.old.kept.disk thread.old.kept.history thread.new.kept.history
         (tree_in thread.old.kept.disk thread.old.kept.pairs) (with_moved thread.old.kept rename.old.path rename.old.name rename.path name.now) }
 {
     let goes = goes_with_slot(thread, old_pair, first);
     let copy = copy_at(alloc, thread, old_pair, old_id)?;
-    let state = share_with_move(thread, old_pair, old_id, new_pair, sync);
+    let state = delta_with_move(thread, old_pair, old_id, new_pair, sync);
     let changes = changes_onto(alloc, state, new_id, name, &copy)?;
     put_and_end(alloc, thread, old_pair, old_id, goes, new_pair, &changes)?;
     Ok(())
@@ -313,7 +313,7 @@ pub fn rename_onto_file_across<D: BlockDevice>(
     ensures replaced { OnOk result ((rename : CanReplaceAcross thread.old.kept old_pair old_id first new_pair new_id name.now)
         → IsReplacedAcross thread.old.kept thread.new.kept rename.old.path rename.old.name rename.path name.now rename.target.stands.slot.struct) }
     ensures alters { OnOk result (AltersBut thread.old.kept (four_of (pair_in thread.old.kept old_pair).at (pair_in thread.old.kept new_pair).at) thread.new.kept) }
-    ensures errors { TellsInSteps thread.old thread.new new_pair (replacing_changes thread.old.kept old_pair old_id new_pair new_id name.now) result }
+    ensures errors { ReportsInSteps thread.old thread.new new_pair (replacing_changes thread.old.kept old_pair old_id new_pair new_id name.now) result }
     ensures device { WritesInTwo thread.old.kept (left_at thread.old.kept old_pair first) new_pair thread.new.kept }
     ensures survives { (rename : CanReplaceAcross thread.old.kept old_pair old_id first new_pair new_id name.now) → Survives thread.old.kept.disk thread.old.kept.history thread.new.kept.history
         (tree_in thread.old.kept.disk thread.old.kept.pairs) (with_moved thread.old.kept rename.old.path rename.old.name rename.path name.now) }
@@ -346,7 +346,7 @@ pub fn rename_onto_directory_across<D: BlockDevice>(
     ensures renamed { OnOk result ((rename : CanReplaceDirectory thread.old.kept old_pair old_id first new_pair new_id name.now gone)
         → IsRenamedAcross thread.old.kept thread.new.kept rename.old.path rename.old.name rename.path name.now) }
     ensures alters { OnOk result (AltersBut thread.old.kept (four_of (pair_in thread.old.kept old_pair).at (pair_in thread.old.kept new_pair).at) thread.new.kept) }
-    ensures errors { TellsInSteps thread.old thread.new new_pair (onto_changes true thread.old.kept old_pair old_id new_pair new_id name.now) result }
+    ensures errors { ReportsInSteps thread.old thread.new new_pair (onto_changes true thread.old.kept old_pair old_id new_pair new_id name.now) result }
     ensures device { WritesInPairs thread.old.kept thread.new.kept }
     ensures survives { (rename : CanReplaceDirectory thread.old.kept old_pair old_id first new_pair new_id name.now gone) → Survives thread.old.kept.disk thread.old.kept.history thread.new.kept.history
         (tree_in thread.old.kept.disk thread.old.kept.pairs) (with_moved thread.old.kept rename.old.path rename.old.name rename.path name.now) }

@@ -10,20 +10,20 @@ ghost use Rattle.lfs_model.specs.Thread.{blocks_of, gstate_of, is_hard};
 ghost use Rattle.lfs_model.specs.View.{IsAccepted};
 ghost use Rattle.lfs_model.specs.Shown.{tree_in};
 ghost use Rattle.lfs_model.specs.Steps.{HasNoMove};
-ghost use Rattle.lfs_tag.specs.ContentSeen.{tail_seen};
-ghost use Rattle.lfs_tag.specs.FieldsSeen.{move_seen};
+ghost use Rattle.lfs_tag.specs.ContentView.{tail_view};
+ghost use Rattle.lfs_tag.specs.FieldsView.{move_view};
 ghost use Rattle.lfs_thread.specs.Device.{StopsLeave, two_of};
-ghost use Rattle.lfs_thread.specs.Steps.{IsChanged, IsDropped, IsLeft, Writes, pair_in};
-ghost use Rattle.lfs_operations.specs.Sharing.{CanSetState, CanTakeOver, IsAddressIfSome, goes_on_at, setting, share_of, taking_over, takes_share, target_of};
-ghost use Rattle.lfs_operations.specs.Recovering.{CanClearSync, CanDropUnreached, HasRecovered, IsCleared, TellsOfSteps, state_with};
+ghost use Rattle.lfs_thread.specs.Steps.{IsChanged, IsDropped, IsLeftByChange, Writes, pair_in};
+ghost use Rattle.lfs_operations.specs.Deltas.{CanSetState, CanTakeOver, IsAddressIfSome, goes_on_at, setting, delta_of, taking_over, takes_delta, target_of};
+ghost use Rattle.lfs_operations.specs.Recovering.{CanClearSync, CanDropUnreached, HasRecovered, IsCleared, ReportsOfSteps, state_with};
 ghost use Rattle.lfs_operations.specs.EndingMove.{CanEndMove, CanTakeSlot, HasEndedMove, IsMovedAt, is_alone_at, taking, unset};
-ghost use Rattle.lfs_operations.specs.Removing.{TellsOfCalls};
+ghost use Rattle.lfs_operations.specs.Removing.{ReportsOfCalls};
 
 use lfs_device::{BlockDevice, Error};
 use lfs_pair::Change;
 use lfs_tag::kinds::DELETE;
 use lfs_tag::{MoveState, Tail};
-use lfs_thread::{Thread, number_of, with_share};
+use lfs_thread::{Thread, number_of, with_delta};
 use std::alloc::Global;
 
 // Returns the address as it is. For the proof, its blocks are words of 32 bits.
@@ -34,20 +34,20 @@ fn is_address(pair: [u32; 2]) -> [u32; 2]
     [pair[0], pair[1]]
 }
 
-// Returns the share that a pair gets, so that the global state becomes `wanted`.
-fn share_for<D: BlockDevice>(thread: &Thread<D>, index: usize, wanted: &MoveState) -> MoveState
+// Returns the delta that a pair gets, so that the global state becomes `wanted`.
+fn delta_for<D: BlockDevice>(thread: &Thread<D>, index: usize, wanted: &MoveState) -> MoveState
     requires works { thread.now.failed ≡ false }
     requires below { index < length thread.now.kept.pairs }
-    ensures { move_seen result ≡ share_of thread.now.kept index (move_seen wanted.now) }
+    ensures { move_view result ≡ delta_of thread.now.kept index (move_view wanted.now) }
 {
-    let change = with_share(wanted, &thread.state());
-    with_share(&change, &thread.share(index))
+    let change = with_delta(wanted, &thread.state());
+    with_delta(&change, &thread.delta(index))
 }
 
 // Returns a global state as it can be stored.
 fn storable(state: MoveState) -> MoveState
-    ensures same { move_seen result ≡ move_seen state }
-    ensures words { IsAddress (move_seen result).pair }
+    ensures same { move_view result ≡ move_view state }
+    ensures words { IsAddress (move_view result).pair }
 {
     let pair = is_address(state.pair);
     MoveState {
@@ -69,7 +69,7 @@ fn goes_on<D: BlockDevice>(thread: &Thread<D>, index: usize) -> bool
 
 // Returns the address of the pair that a tail names.
 fn target(tail: Option<Tail>) -> Option<[u32; 2]>
-    ensures same { option_map address_of result ≡ target_of (option_map tail_seen tail) }
+    ensures same { option_map address_of result ≡ target_of (option_map tail_view tail) }
     ensures words { IsAddressIfSome (option_map address_of result) }
 {
     match tail {
@@ -88,7 +88,7 @@ fn both_go_on<D: BlockDevice>(thread: &Thread<D>, index: usize, behind: usize) -
     goes_on(thread, index) && goes_on(thread, behind)
 }
 
-// Changes a pair's share, so that the global state becomes `wanted`.
+// Changes a pair's delta, so that the global state becomes `wanted`.
 fn set_state<D: BlockDevice>(
     alloc: Global,
     thread: &mut Thread<D>,
@@ -96,21 +96,21 @@ fn set_state<D: BlockDevice>(
     wanted: &MoveState,
 ) -> Result<(), Error>
     requires works { thread.old.failed ≡ false }
-    requires can { CanSetState thread.old.kept index (move_seen wanted.now) }
-    ensures is_set { OnOk result (IsChanged thread.old.kept index (setting thread.old.kept index (move_seen wanted.now)) thread.new.kept) }
-    ensures errors { TellsOfCalls thread.old thread.new result }
-    ensures words { IsAddress (share_of thread.old.kept index (move_seen wanted.now)).pair }
+    requires can { CanSetState thread.old.kept index (move_view wanted.now) }
+    ensures is_set { OnOk result (IsChanged thread.old.kept index (setting thread.old.kept index (move_view wanted.now)) thread.new.kept) }
+    ensures errors { ReportsOfCalls thread.old thread.new result }
+    ensures words { IsAddress (delta_of thread.old.kept index (move_view wanted.now)).pair }
     ensures device { Writes (two_of (pair_in thread.old.kept index).at) thread.old.kept thread.new.kept }
-    ensures stops { StopsLeave thread.old.kept.history thread.new.kept.history (IsLeft thread.old.kept index (setting thread.old.kept index (move_seen wanted.now))) }
+    ensures stops { StopsLeave thread.old.kept.history thread.new.kept.history (IsLeftByChange thread.old.kept index (setting thread.old.kept index (move_view wanted.now))) }
 {
-    let state = storable(share_for(thread, index, wanted));
+    let state = storable(delta_for(thread, index, wanted));
     // The pair has the slots that it had, so the commit is never refused.
     thread.change(alloc, index, &[Change::Move { state }])?;
     Ok(())
 }
 
 // Drops the pair after the one at the index, so that the global state becomes `wanted`. The pair at
-// the index takes over its share and its tail, which is hard only where both tails are.
+// the index takes over its delta and its tail, which is hard only where both tails are.
 fn drop_behind<D: BlockDevice>(
     alloc: Global,
     thread: &mut Thread<D>,
@@ -119,15 +119,15 @@ fn drop_behind<D: BlockDevice>(
     wanted: &MoveState,
 ) -> Result<(), Error>
     requires works { thread.old.failed ≡ false }
-    requires can { CanTakeOver thread.old.kept index behind (move_seen wanted.now) }
-    ensures is_dropped { OnOk result (IsDropped thread.old.kept index (taking_over thread.old.kept index behind (move_seen wanted.now)) thread.new.kept) }
-    ensures errors { TellsOfCalls thread.old thread.new result }
-    ensures words { IsAddress (takes_share thread.old.kept index behind (move_seen wanted.now)).pair × IsAddressIfSome (target_of (pair_in thread.old.kept behind).content.tail) }
+    requires can { CanTakeOver thread.old.kept index behind (move_view wanted.now) }
+    ensures is_dropped { OnOk result (IsDropped thread.old.kept index (taking_over thread.old.kept index behind (move_view wanted.now)) thread.new.kept) }
+    ensures errors { ReportsOfCalls thread.old thread.new result }
+    ensures words { IsAddress (takes_delta thread.old.kept index behind (move_view wanted.now)).pair × IsAddressIfSome (target_of (pair_in thread.old.kept behind).content.tail) }
     ensures device { Writes (two_of (pair_in thread.old.kept index).at) thread.old.kept thread.new.kept }
-    ensures stops { StopsLeave thread.old.kept.history thread.new.kept.history (IsLeft thread.old.kept index (taking_over thread.old.kept index behind (move_seen wanted.now))) }
+    ensures stops { StopsLeave thread.old.kept.history thread.new.kept.history (IsLeftByChange thread.old.kept index (taking_over thread.old.kept index behind (move_view wanted.now))) }
 {
-    let share = share_for(thread, index, wanted);
-    let state = storable(with_share(&share, &thread.share(behind)));
+    let delta = delta_for(thread, index, wanted);
+    let state = storable(with_delta(&delta, &thread.delta(behind)));
     let hard = both_go_on(thread, index, behind);
     let pair = target(thread.tail(behind));
     // The pair has the slots that it had, so the commit is never refused.
@@ -142,7 +142,7 @@ fn drop_behind<D: BlockDevice>(
 // Returns the global state that is wanted after a pair is dropped: zero after the last one.
 fn state_after<D: BlockDevice>(thread: &Thread<D>, is_last: bool) -> MoveState
     requires { thread.now.failed ≡ false }
-    ensures { move_seen result ≡ state_with thread.now.kept is_last }
+    ensures { move_view result ≡ state_with thread.now.kept is_last }
 {
     if is_last {
         MoveState::none()
@@ -157,7 +157,7 @@ fn clear_sync<D: BlockDevice>(alloc: Global, thread: &mut Thread<D>) -> Result<(
     requires can { CanClearSync thread.old.kept }
     ensures nothing { gstate_of thread.old.kept.pairs ≡ no_gstate → thread.new.kept ≡ thread.old.kept }
     ensures is_cleared { OnOk result (IsCleared thread.old.kept thread.new.kept) }
-    ensures errors { TellsOfCalls thread.old thread.new result }
+    ensures errors { ReportsOfCalls thread.old thread.new result }
     ensures device { Writes (blocks_of thread.old.kept.pairs) thread.old.kept thread.new.kept }
     ensures survives { Survives thread.old.kept.disk thread.old.kept.history thread.new.kept.history
         (tree_in thread.old.kept.disk thread.old.kept.pairs) (tree_in thread.old.kept.disk thread.old.kept.pairs) }
@@ -189,7 +189,7 @@ pub fn drop_unreached<D: BlockDevice>(
     requires can { CanDropUnreached thread.old.kept unreached.now }
     ensures nothing { IsRecovered thread.old.kept.pairs → thread.new.kept ≡ thread.old.kept }
     ensures recovered { OnOk result (HasRecovered thread.old.kept unreached.now thread.new.kept) }
-    ensures errors { TellsOfSteps thread.old thread.new result }
+    ensures errors { ReportsOfSteps thread.old thread.new result }
     ensures device { Writes (blocks_of thread.old.kept.pairs) thread.old.kept thread.new.kept }
     ensures survives { Survives thread.old.kept.disk thread.old.kept.history thread.new.kept.history
         (tree_in thread.old.kept.disk thread.old.kept.pairs) (tree_in thread.old.kept.disk thread.old.kept.pairs) }
@@ -206,7 +206,7 @@ pub fn drop_unreached<D: BlockDevice>(
 // Returns the number of the pair whose slot a set move names. Returns None where no move is set.
 fn moved_pair<D: BlockDevice>(thread: &Thread<D>, state: &MoveState) -> Option<usize>
     requires accepted { IsAccepted thread.now.kept.disk thread.now.kept.pairs }
-    requires state { move_seen state.now ≡ gstate_of thread.now.kept.pairs }
+    requires state { move_view state.now ≡ gstate_of thread.now.kept.pairs }
     ensures there { IfSome result (IsMovedAt thread.now.kept) }
     ensures none { IfNone result (HasNoMove (gstate_of thread.now.kept.pairs)) }
 {
@@ -218,7 +218,7 @@ fn moved_pair<D: BlockDevice>(thread: &Thread<D>, state: &MoveState) -> Option<u
 
 // Returns the global state without a move.
 fn without_move(state: &MoveState) -> MoveState
-    ensures { move_seen result ≡ unset (move_seen state.now) }
+    ensures { move_view result ≡ unset (move_view state.now) }
 {
     MoveState {
         sync: state.sync,
@@ -246,14 +246,14 @@ fn take_slot<D: BlockDevice>(
     wanted: &MoveState,
 ) -> Result<(), Error>
     requires works { thread.old.failed ≡ false }
-    requires can { CanTakeSlot thread.old.kept index id (move_seen wanted.now) }
-    ensures is_taken { OnOk result (IsChanged thread.old.kept index (taking thread.old.kept index id (move_seen wanted.now)) thread.new.kept) }
-    ensures errors { TellsOfCalls thread.old thread.new result }
-    ensures words { IsAddress (share_of thread.old.kept index (move_seen wanted.now)).pair }
+    requires can { CanTakeSlot thread.old.kept index id (move_view wanted.now) }
+    ensures is_taken { OnOk result (IsChanged thread.old.kept index (taking thread.old.kept index id (move_view wanted.now)) thread.new.kept) }
+    ensures errors { ReportsOfCalls thread.old thread.new result }
+    ensures words { IsAddress (delta_of thread.old.kept index (move_view wanted.now)).pair }
     ensures device { Writes (two_of (pair_in thread.old.kept index).at) thread.old.kept thread.new.kept }
-    ensures stops { StopsLeave thread.old.kept.history thread.new.kept.history (IsLeft thread.old.kept index (taking thread.old.kept index id (move_seen wanted.now))) }
+    ensures stops { StopsLeave thread.old.kept.history thread.new.kept.history (IsLeftByChange thread.old.kept index (taking thread.old.kept index id (move_view wanted.now))) }
 {
-    let state = storable(share_for(thread, index, wanted));
+    let state = storable(delta_for(thread, index, wanted));
     // The pair has a slot less than before, so the commit is never refused.
     thread.change(
         alloc,
@@ -274,7 +274,7 @@ pub fn end_move<D: BlockDevice>(alloc: Global, thread: &mut Thread<D>) -> Result
     requires can { CanEndMove thread.old.kept }
     ensures nothing { HasNoMove (gstate_of thread.old.kept.pairs) → thread.new.kept ≡ thread.old.kept }
     ensures ended { OnOk result (HasEndedMove thread.old.kept thread.new.kept) }
-    ensures errors { TellsOfSteps thread.old thread.new result }
+    ensures errors { ReportsOfSteps thread.old thread.new result }
     ensures device { Writes (blocks_of thread.old.kept.pairs) thread.old.kept thread.new.kept }
     ensures survives { Survives thread.old.kept.disk thread.old.kept.history thread.new.kept.history
         (tree_in thread.old.kept.disk thread.old.kept.pairs) (tree_in thread.old.kept.disk thread.old.kept.pairs) }

@@ -7,7 +7,7 @@ ghost use Rattle.lfs_thread.specs.Device.{two_of};
 ghost use Rattle.lfs_thread.specs.Steps.{Writes};
 ghost use Rattle.lfs_operations.specs.Changing.{Alters};
 ghost use Rattle.lfs_operations.specs.Editing.{slot_at};
-ghost use Rattle.lfs_operations.specs.Removing.{CanRemove, IsRemoved, TellsOfCalls, goes_whole, without_file, written_at};
+ghost use Rattle.lfs_operations.specs.Removing.{CanRemove, IsRemoved, ReportsOfCalls, goes_whole, without_file, written_at};
 
 use crate::dropping::drop_at;
 use lfs_device::{BlockDevice, Error};
@@ -44,7 +44,7 @@ pub fn remove_file<D: BlockDevice>(
     requires can { CanRemove thread.old.kept pair id first }
     ensures is_removed { OnOk result ((take : CanRemove thread.old.kept pair id first) → IsRemoved thread.old.kept thread.new.kept take.can.path take.can.name (slot_at take.can).struct) }
     ensures alters { OnOk result (goes_whole thread.old.kept pair first ≡ true → Alters thread.old.kept (pair - 1) thread.new.kept) }
-    ensures errors { TellsOfCalls thread.old thread.new result }
+    ensures errors { ReportsOfCalls thread.old thread.new result }
     ensures device { Writes (two_of (written_at thread.old.kept pair first)) thread.old.kept thread.new.kept }
     ensures survives { (take : CanRemove thread.old.kept pair id first) → Survives thread.old.kept.disk thread.old.kept.history thread.new.kept.history
         (tree_in thread.old.kept.disk thread.old.kept.pairs) (without_file thread.old.kept take.can.path take.can.name) }

@@ -4,13 +4,13 @@ ghost use Rattle.std.specs.Prelude.{◌≡◌, ◌∷◌, IfOk, OnOk, false};
 ghost use Rattle.lfs_model.specs.Changes.{Delete};
 ghost use Rattle.lfs_model.specs.PowerLoss.{Survives};
 ghost use Rattle.lfs_model.specs.Shown.{tree_in};
-ghost use Rattle.lfs_pair.specs.ChangeSeen.{changes_seen};
+ghost use Rattle.lfs_pair.specs.ChangeView.{changes_view};
 ghost use Rattle.lfs_operations.specs.Changing.{WritesIn};
-ghost use Rattle.lfs_operations.specs.Renaming.{CanRename, CanRenameOnto, IsRenamed, IsRenamedOnto, TellsMove, place_without, rename_changes, rename_onto_changes, with_renamed};
-ghost use Rattle.lfs_operations.specs.RenamingSeen.{copied};
+ghost use Rattle.lfs_operations.specs.Renaming.{CanRename, CanRenameOnto, IsRenamed, IsRenamedOnto, ReportsMove, place_without, rename_changes, rename_onto_changes, with_renamed};
+ghost use Rattle.lfs_operations.specs.RenamingView.{copied};
 ghost use Rattle.lfs_operations.specs.RenamingSlots.{slot_changes};
 
-use crate::changing::put;
+use crate::changes::put;
 use crate::renaming_copy::{SlotCopy, copy_at, push_slot};
 use lfs_device::{BlockDevice, Error};
 use lfs_pair::Change;
@@ -32,7 +32,7 @@ fn changes_of<'a>(
     name: &'a [u8],
     copy: &'a SlotCopy,
 ) -> Result<Vec<Change<'a>>, AllocError>
-    ensures { IfOk result (λ changes. changes_seen changes.items ≡ Delete id ∷ slot_changes (place_without id place) name.now (copied copy.now)) }
+    ensures { IfOk result (λ changes. changes_view changes.items ≡ Delete id ∷ slot_changes (place_without id place) name.now (copied copy.now)) }
 {
     let mut changes = Vec::new(alloc);
     changes.push(Change::Delete { id })?;
@@ -61,7 +61,7 @@ pub fn rename<D: BlockDevice>(
     requires works { thread.old.failed ≡ false }
     requires can { CanRename thread.old.kept pair id place name.now }
     ensures renamed { OnOk result ((rename : CanRename thread.old.kept pair id place name.now) → IsRenamed thread.old.kept thread.new.kept rename.can.path rename.can.name name.now) }
-    ensures errors { TellsMove thread.old thread.new pair (rename_changes thread.old.kept pair id place name.now) result }
+    ensures errors { ReportsMove thread.old thread.new pair (rename_changes thread.old.kept pair id place name.now) result }
     ensures device { WritesIn thread.old.kept pair thread.new.kept }
     ensures survives { (rename : CanRename thread.old.kept pair id place name.now) → Survives thread.old.kept.disk thread.old.kept.history thread.new.kept.history
         (tree_in thread.old.kept.disk thread.old.kept.pairs) (with_renamed thread.old.kept rename.can.path rename.can.name name.now) }
@@ -81,7 +81,7 @@ fn changes_onto<'a>(
     name: &'a [u8],
     copy: &'a SlotCopy,
 ) -> Result<Vec<Change<'a>>, AllocError>
-    ensures { IfOk result (λ changes. changes_seen changes.items ≡ Delete id ∷ Delete (place_without id place) ∷ slot_changes (place_without id place) name.now (copied copy.now)) }
+    ensures { IfOk result (λ changes. changes_view changes.items ≡ Delete id ∷ Delete (place_without id place) ∷ slot_changes (place_without id place) name.now (copied copy.now)) }
 {
     let place = place_without(id, place);
     let mut changes = Vec::new(alloc);
@@ -109,7 +109,7 @@ pub fn rename_onto_file<D: BlockDevice>(
     requires can { CanRenameOnto thread.old.kept pair id place name.now }
     ensures renamed { OnOk result ((rename : CanRenameOnto thread.old.kept pair id place name.now)
         → IsRenamedOnto thread.old.kept thread.new.kept rename.can.path rename.can.name name.now rename.target.stands.slot.struct) }
-    ensures errors { TellsMove thread.old thread.new pair (rename_onto_changes thread.old.kept pair id place name.now) result }
+    ensures errors { ReportsMove thread.old thread.new pair (rename_onto_changes thread.old.kept pair id place name.now) result }
     ensures device { WritesIn thread.old.kept pair thread.new.kept }
     ensures survives { (rename : CanRenameOnto thread.old.kept pair id place name.now) → Survives thread.old.kept.disk thread.old.kept.history thread.new.kept.history
         (tree_in thread.old.kept.disk thread.old.kept.pairs) (with_renamed thread.old.kept rename.can.path rename.can.name name.now) }

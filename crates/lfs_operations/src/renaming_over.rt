@@ -4,14 +4,14 @@ ghost use Rattle.std.specs.Prelude.{◌≡◌, ◌-◌, ◌∷◌, IfOk, OnOk, f
 ghost use Rattle.lfs_model.specs.Changes.{Delete, PutMove};
 ghost use Rattle.lfs_model.specs.PowerLoss.{Survives};
 ghost use Rattle.lfs_model.specs.Shown.{tree_in};
-ghost use Rattle.lfs_tag.specs.FieldsSeen.{move_seen};
-ghost use Rattle.lfs_pair.specs.ChangeSeen.{changes_seen};
+ghost use Rattle.lfs_tag.specs.FieldsView.{move_view};
+ghost use Rattle.lfs_pair.specs.ChangeView.{changes_view};
 ghost use Rattle.lfs_thread.specs.Device.{four_of, two_of};
 ghost use Rattle.lfs_thread.specs.Steps.{Writes, pair_in};
 ghost use Rattle.lfs_operations.specs.Altering.{AltersBut};
 ghost use Rattle.lfs_operations.specs.Renaming.{place_without, with_renamed};
-ghost use Rattle.lfs_operations.specs.RenamingOver.{CanRenameOntoDirectory, CanRenameOver, IsRenamedOntoDirectory, IsRenamedOver, TellsOver, TellsOverSteps};
-ghost use Rattle.lfs_operations.specs.RenamingSeen.{copied};
+ghost use Rattle.lfs_operations.specs.RenamingOver.{CanRenameOntoDirectory, CanRenameOver, IsRenamedOntoDirectory, IsRenamedOver, ReportsOver, ReportsOverSteps};
+ghost use Rattle.lfs_operations.specs.RenamingView.{copied};
 ghost use Rattle.lfs_operations.specs.RenamingSlots.{slot_changes};
 
 use crate::dropping::drop_at;
@@ -21,10 +21,10 @@ use crate::unlinking::sync_bit;
 use lfs_device::{BlockDevice, Error};
 use lfs_pair::Change;
 use lfs_tag::MoveState;
-use lfs_thread::{Thread, with_share};
+use lfs_thread::{Thread, with_delta};
 use std::alloc::{AllocError, Global};
 
-// Returns the changes that set a share, remove the slots at an id and a place, and put in a copy of
+// Returns the changes that set a delta, remove the slots at an id and a place, and put in a copy of
 // the first at the place.
 fn changes_over<'a>(
     alloc: Global,
@@ -34,7 +34,7 @@ fn changes_over<'a>(
     name: &'a [u8],
     copy: &'a SlotCopy,
 ) -> Result<Vec<Change<'a>>, AllocError>
-    ensures { IfOk result (λ changes. changes_seen changes.items ≡ PutMove (move_seen state) ∷ Delete id ∷ Delete (place_without id place) ∷ slot_changes (place_without id place) name.now (copied copy.now)) }
+    ensures { IfOk result (λ changes. changes_view changes.items ≡ PutMove (move_view state) ∷ Delete id ∷ Delete (place_without id place) ∷ slot_changes (place_without id place) name.now (copied copy.now)) }
 {
     let place = place_without(id, place);
     let mut changes = Vec::new(alloc);
@@ -63,13 +63,13 @@ pub(crate) fn rename_over<D: BlockDevice>(
     requires works { thread.old.failed ≡ false }
     requires can { CanRenameOver thread.old.kept pair id place name.now }
     ensures renamed { OnOk result ((rename : CanRenameOver thread.old.kept pair id place name.now) → IsRenamedOver thread.old.kept thread.new.kept pair id place rename.can.path rename.can.name name.now) }
-    ensures errors { TellsOver thread.old thread.new result }
+    ensures errors { ReportsOver thread.old thread.new result }
     ensures device { Writes (two_of (pair_in thread.old.kept pair).at) thread.old.kept thread.new.kept }
     ensures survives { (rename : CanRenameOver thread.old.kept pair id place name.now) → Survives thread.old.kept.disk thread.old.kept.history thread.new.kept.history
         (tree_in thread.old.kept.disk thread.old.kept.pairs) (with_renamed thread.old.kept rename.can.path rename.can.name name.now) }
 {
     let copy = copy_at(alloc, thread, pair, id)?;
-    let state = with_share(&thread.share(pair), &sync_bit());
+    let state = with_delta(&thread.delta(pair), &sync_bit());
     let changes = changes_over(alloc, state, id, place, name, &copy)?;
     // Two slots are replaced by one, with the name of the one and the rest of the other. So the
     // commit is never refused.
@@ -101,7 +101,7 @@ pub fn rename_onto_directory<D: BlockDevice>(
     ensures renamed { OnOk result ((rename : CanRenameOntoDirectory thread.old.kept pair id place name.now gone)
         → IsRenamedOntoDirectory thread.old.kept thread.new.kept rename.over.can.path rename.over.can.name name.now) }
     ensures alters { OnOk result (AltersBut thread.old.kept (two_of (pair_in thread.old.kept pair).at) thread.new.kept) }
-    ensures errors { TellsOverSteps thread.old thread.new result }
+    ensures errors { ReportsOverSteps thread.old thread.new result }
     ensures device { Writes (four_of (pair_in thread.old.kept pair).at (pair_in thread.old.kept (gone - 1)).at) thread.old.kept thread.new.kept }
     ensures survives { (rename : CanRenameOntoDirectory thread.old.kept pair id place name.now gone) → Survives thread.old.kept.disk thread.old.kept.history thread.new.kept.history
         (tree_in thread.old.kept.disk thread.old.kept.pairs) (with_renamed thread.old.kept rename.over.can.path rename.over.can.name name.now) }

@@ -3,25 +3,25 @@
 ghost use Rattle.std.specs.Prelude.{◌≡◌, ◌-◌, true, false, OnOk};
 ghost use Rattle.lfs_model.specs.PowerLoss.{Survives};
 ghost use Rattle.lfs_model.specs.Shown.{tree_in};
-ghost use Rattle.lfs_model.specs.Steps.{sync_share};
-ghost use Rattle.lfs_tag.specs.FieldsSeen.{move_seen};
+ghost use Rattle.lfs_model.specs.Steps.{sync_delta};
+ghost use Rattle.lfs_tag.specs.FieldsView.{move_view};
 ghost use Rattle.lfs_thread.specs.Device.{StopsLeave, four_of, two_of};
 ghost use Rattle.lfs_thread.specs.Steps.{Writes, pair_in};
 ghost use Rattle.lfs_operations.specs.Editing.{CanEdit};
-ghost use Rattle.lfs_operations.specs.Removing.{TellsOfCalls, goes_whole, without_file, written_at};
-ghost use Rattle.lfs_operations.specs.Unlinking.{AltersInFront, CanRemoveDirectory, IsDirectoryRemoved, IsLeftByUnlink, IsUnlinked, TellsOfSteps, number_without};
+ghost use Rattle.lfs_operations.specs.Removing.{ReportsOfCalls, goes_whole, without_file, written_at};
+ghost use Rattle.lfs_operations.specs.Unlinking.{AltersInFront, CanRemoveDirectory, IsDirectoryRemoved, IsLeftByUnlink, IsUnlinked, ReportsOfSteps, number_without};
 
 use crate::dropping::drop_at;
 use crate::removing::goes_with_slot;
 use lfs_device::{BlockDevice, Error};
 use lfs_pair::Change;
 use lfs_tag::MoveState;
-use lfs_thread::{Thread, with_share};
+use lfs_thread::{Thread, with_delta};
 use std::alloc::Global;
 
-// Returns the share that turns the sync bit.
+// Returns the delta that turns the sync bit.
 pub(crate) fn sync_bit() -> MoveState
-    ensures { move_seen result ≡ sync_share }
+    ensures { move_view result ≡ sync_delta }
 {
     MoveState {
         sync: true,
@@ -42,11 +42,11 @@ fn unlink<D: BlockDevice>(
     requires works { thread.old.failed ≡ false }
     requires can { CanEdit thread.old.kept pair id }
     ensures is_unlinked { OnOk result (IsUnlinked thread.old.kept pair id thread.new.kept) }
-    ensures errors { TellsOfCalls thread.old thread.new result }
+    ensures errors { ReportsOfCalls thread.old thread.new result }
     ensures device { Writes (two_of (pair_in thread.old.kept pair).at) thread.old.kept thread.new.kept }
     ensures stops { StopsLeave thread.old.kept.history thread.new.kept.history (IsLeftByUnlink thread.old.kept pair id) }
 {
-    let state = with_share(&thread.share(pair), &sync_bit());
+    let state = with_delta(&thread.delta(pair), &sync_bit());
     let changes = [Change::Delete { id }, Change::Move { state }];
     // What is left fits, so the commit is never refused.
     thread.change(alloc, pair, &changes)?;
@@ -74,7 +74,7 @@ fn remove_beside<D: BlockDevice>(
     requires stays { goes_whole thread.old.kept pair first ≡ false }
     ensures is_removed { OnOk result ((take : CanRemoveDirectory thread.old.kept pair id first gone) → IsDirectoryRemoved thread.old.kept thread.new.kept take.can.path take.can.name) }
     ensures alters { OnOk result (AltersInFront thread.old.kept pair first gone thread.new.kept) }
-    ensures errors { TellsOfSteps thread.old thread.new result }
+    ensures errors { ReportsOfSteps thread.old thread.new result }
     ensures device { Writes (four_of (written_at thread.old.kept pair first) (pair_in thread.old.kept (gone - 1)).at) thread.old.kept thread.new.kept }
     ensures survives { (take : CanRemoveDirectory thread.old.kept pair id first gone) → Survives thread.old.kept.disk thread.old.kept.history thread.new.kept.history
         (tree_in thread.old.kept.disk thread.old.kept.pairs) (without_file thread.old.kept take.can.path take.can.name) }
@@ -98,7 +98,7 @@ fn remove_with_pair<D: BlockDevice>(
     requires goes { goes_whole thread.old.kept pair first ≡ true }
     ensures is_removed { OnOk result ((take : CanRemoveDirectory thread.old.kept pair id first gone) → IsDirectoryRemoved thread.old.kept thread.new.kept take.can.path take.can.name) }
     ensures alters { OnOk result (AltersInFront thread.old.kept pair first gone thread.new.kept) }
-    ensures errors { TellsOfSteps thread.old thread.new result }
+    ensures errors { ReportsOfSteps thread.old thread.new result }
     ensures device { Writes (four_of (written_at thread.old.kept pair first) (pair_in thread.old.kept (gone - 1)).at) thread.old.kept thread.new.kept }
     ensures survives { (take : CanRemoveDirectory thread.old.kept pair id first gone) → Survives thread.old.kept.disk thread.old.kept.history thread.new.kept.history
         (tree_in thread.old.kept.disk thread.old.kept.pairs) (without_file thread.old.kept take.can.path take.can.name) }
@@ -129,7 +129,7 @@ pub fn remove_directory<D: BlockDevice>(
     requires can { CanRemoveDirectory thread.old.kept pair id first gone }
     ensures is_removed { OnOk result ((take : CanRemoveDirectory thread.old.kept pair id first gone) → IsDirectoryRemoved thread.old.kept thread.new.kept take.can.path take.can.name) }
     ensures alters { OnOk result (AltersInFront thread.old.kept pair first gone thread.new.kept) }
-    ensures errors { TellsOfSteps thread.old thread.new result }
+    ensures errors { ReportsOfSteps thread.old thread.new result }
     ensures device { Writes (four_of (written_at thread.old.kept pair first) (pair_in thread.old.kept (gone - 1)).at) thread.old.kept thread.new.kept }
     ensures survives { (take : CanRemoveDirectory thread.old.kept pair id first gone) → Survives thread.old.kept.disk thread.old.kept.history thread.new.kept.history
         (tree_in thread.old.kept.disk thread.old.kept.pairs) (without_file thread.old.kept take.can.path take.can.name) }

@@ -5,7 +5,7 @@ use Rattle.lfs_model.specs.Geometry.{IsGeometry}
 use Rattle.lfs_model.specs.Content.{RawContent, no_content}
 use Rattle.lfs_model.specs.Commit.{entries_size, page_end}
 use Rattle.lfs_model.specs.WrittenContent.{FitsRaw, written_entries}
-use Rattle.lfs_model.specs.LoggedContent.{HaveNames, IsLogged, IsSound}
+use Rattle.lfs_model.specs.LoggedContent.{HaveNames, IsLogged, IsSoundContent}
 use Rattle.lfs_model.specs.History.{Event, event, Erase, EachSince, LeavesOnly}
 use Rattle.lfs_model.specs.Stops.{LeftByErase, ErasesCleanly, Stops}
 use Rattle.lfs_model.proofs.Appended.{appended_content}
@@ -15,7 +15,7 @@ use Rattle.lfs_model.proofs.Pages.{page_positive, page_end-below}
 use Rattle.lfs_model.proofs.WrittenAnew.{entries_of-reads}
 use Rattle.lfs_model.proofs.WrittenSizes.{written_size}
 use Rattle.lfs_tag.specs.Builder.{Building, padded_end}
-use Rattle.lfs_pair.specs.Writing.{with_entries, Gets, Holds, LeftByCommit, LeftByWriting, LeftInBlock}
+use Rattle.lfs_pair.specs.Writing.{with_entries, Gets, HoldsLogContent, LeftByCommit, LeftByWriting, LeftInBlock}
 use Rattle.lfs_pair.proofs.Committed.{Gets-has_commit}
 
 -- the commit, in a buffer of a block
@@ -47,10 +47,10 @@ anew_within {size = size} {page} {count} {revision} {c} is valid fits =
 
 -- ---- what the block then holds
 
-pub fits_sound : {c : RawContent} {size page : ℕ} → IsLogged c → HaveNames c.slots → FitsRaw size page c → IsSound c
+pub fits_sound : {c : RawContent} {size page : ℕ} → IsLogged c → HaveNames c.slots → FitsRaw size page c → IsSoundContent c
 fits_sound logged names fits = record { logged = logged; names = names; few = omega (arith, fits.count) }
 
-pub anew_holds : {b : Building} {size page revision : ℕ} {c : RawContent} {old : List ℕ} (new : List ℕ) → b ≡ anew size page revision c → IsSound c → Gets b old new → Holds revision c new
+pub anew_holds : {b : Building} {size page revision : ℕ} {c : RawContent} {old : List ℕ} (new : List ℕ) → b ≡ anew size page revision c → IsSoundContent c → Gets b old new → HoldsLogContent revision c new
 anew_holds {c = c} {old = old} new is sound gets =
     let got = subst (λ (d : Building). Gets d old new) is gets in
     record {
@@ -72,7 +72,7 @@ pub leaves_erase : {block revision : ℕ} {c : RawContent} {old mid : Blocks} {f
     → LeavesOnly Stops before after (LeftInBlock block (LeftByWriting revision c) old)
 leaves_erase is = goes_on began is left_by_erase
 
-left_anew : {b : Building} {size page revision : ℕ} {c : RawContent} (old mid left : List ℕ) → b ≡ anew size page revision c → IsSound c → LeftByErase old mid
+left_anew : {b : Building} {size page revision : ℕ} {c : RawContent} (old mid left : List ℕ) → b ≡ anew size page revision c → IsSoundContent c → LeftByErase old mid
     → LeftByCommit b 0 mid left → LeftByWriting revision c old left
 left_anew old mid left is sound erased stopped = elim stopped [
   | inl same ↦ elim erased [ inl was ↦ inl (same ∙ was) | inr none ↦ inr (inl (same ∙ none)) ]
@@ -83,7 +83,7 @@ left_anew old mid left is sound erased stopped = elim stopped [
 ]
 
 -- of an erase that leaves the old log or none, and of the commit behind it
-pub leaves_anew : {b : Building} {size page revision block : ℕ} {c : RawContent} {old mid : Blocks} {before erased after : List Event} → b ≡ anew size page revision c → IsSound c
+pub leaves_anew : {b : Building} {size page revision block : ℕ} {c : RawContent} {old mid : Blocks} {before erased after : List Event} → b ≡ anew size page revision c → IsSoundContent c
     → SameBut block old mid → erased ≡ event (Erase block) old mid false ∷ before → LeavesOnly Stops erased after (LeftInBlock block (LeftByCommit b 0) mid) → EachSince ErasesCleanly before after
     → LeavesOnly Stops before after (LeftInBlock block (LeftByWriting revision c) old)
 leaves_anew {revision = revision} {block = block} {c = c} {old = old} {mid = mid} {before = before} {erased = erased} is sound same here behind clean =

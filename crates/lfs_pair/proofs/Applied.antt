@@ -9,7 +9,7 @@ use Rattle.lfs_model.specs.Changes.{Change, entries_of_change, entries_of_change
 use Rattle.lfs_model.proofs.WrittenAnew.{then, content_after_all-append}
 use Rattle.lfs_tag.specs.declared.content.ContentError.{ContentError}
 use Rattle.lfs_tag.specs.declared.content.ContentError.TheVariants.{Malformed, NoMemory}
-use Rattle.lfs_tag.specs.ContentGives.{Fails}
+use Rattle.lfs_tag.specs.ContentGives.{ContentFails}
 use Rattle.std.specs.Option.{option_and_then}
 
 pub all_at : {X Y : Type 0} (p : Y → Bool) (f : X → Y) (xs : List X) (i : ℕ) (d : X) → list_all p (map f xs) ≡ true → i < length xs → p (f (get_or xs i d)) ≡ true
@@ -47,6 +47,6 @@ one_fails c mid front change others so_far here =
     (content_after_all-append mid (entries_of_change change) (entries_of_changes others) ∙ ap (option_and_then (λ d. content_after_all d (entries_of_changes others))) here)
 
 -- an error of one step is one of all
-pub fails_on : {X Y : Type 0} (e : ContentError) (o : Option X) (p : Option Y) → (o ≡ None → p ≡ None) → Fails e o → Fails e p
+pub fails_on : {X Y : Type 0} (e : ContentError) (o : Option X) (p : Option Y) → (o ≡ None → p ≡ None) → ContentFails e o → ContentFails e p
 fails_on Malformed o p h f = h f
 fails_on NoMemory o p h f = tt

@@ -14,7 +14,7 @@ use Rattle.lfs_model.specs.Changes.{Change}
 use Rattle.lfs_model.proofs.Histories.{EachSince-behind, erases-reads, programs-reads}
 use Rattle.lfs_pair.specs.declared.pair.Pair.{Pair}
 use Rattle.lfs_pair.specs.Pair.{address_in}
-use Rattle.lfs_pair.specs.Commit.{Commits, Fails, IsFull, made_at}
+use Rattle.lfs_pair.specs.Commit.{Commits, CommitFails, IsFull, made_at}
 use Rattle.lfs_pair.specs.Fresh.{ClearsLogs}
 use Rattle.lfs_pair.specs.Split.{Splits}
 use Rattle.lfs_pair.proofs.Calls.{reads_none, reads_trans}
@@ -62,7 +62,7 @@ full_behind {g = g} {changes = changes} {was = was} reads is = record {
   device = reads_trans reads is.device;
 }
 
-pub fails_behind : {D : Type 0} {g : Ghosts D} {old mid new : D} {was now : Pair} {e : Error} → ReadsOnly g old mid → Fails g mid new was now e → Fails g old new was now e
+pub fails_behind : {D : Type 0} {g : Ghosts D} {old mid new : D} {was now : Pair} {e : Error} → ReadsOnly g old mid → CommitFails g mid new was now e → CommitFails g old new was now e
 fails_behind reads is = record { errors = is.errors; pair = is.pair; no_memory = λ lacks. reads_trans reads (is.no_memory lacks) }
 
 pub clears_behind : {count : ℕ} {blocks : Blocks} {before mid history : List Event} {P : Event → Type 0} → OnlyReads blocks before mid → EachSince P mid history → ClearsLogs count mid history → ClearsLogs count before history

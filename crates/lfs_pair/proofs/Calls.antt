@@ -9,7 +9,7 @@ use Rattle.lfs_model.specs.Blocks.{Blocks, SameBut, SameButThese}
 use Rattle.lfs_model.specs.History.{Event, Read, Program, Erase, event, reads}
 use Rattle.lfs_model.proofs.Histories.{began, goes_on, goes_on_by, AtWorst-read, LeavesOnly-reads, LeavesOnly-weaker, OnlyReads-read, OnlyReads-trans, StayUnprogrammed-erase, StayUnprogrammed-program, StayUnprogrammed-reads, StayUnprogrammed-trans, StayUnprogrammed-wider}
 use Rattle.lfs_model.proofs.Overwrites.{SameBut-refl, SameBut-trans, SameButThese-refl, SameButThese-trans, SameButThese-wider}
-use Rattle.lfs_pair.specs.Commit.{blocks_of}
+use Rattle.lfs_pair.specs.Commit.{both_blocks}
 use Rattle.lfs_pair.specs.Writing.{ChangesReading}
 use Rattle.lfs_pair.proofs.Changed.{stays_outside}
 use Rattle.lfs_pair.proofs.TwoBlocks.{outside_one}
@@ -96,7 +96,7 @@ only_wider cs among only = record {
 }
 
 -- one block of a pair
-pub only_block : {D : Type 0} {g : Ghosts D} {b : ℕ} {old new : D} (at : ℕ × ℕ) → (b ≡ at.0) ⊎ (b ≡ at.1) → ChangesBlock g b old new → ChangesOnly g (blocks_of at) old new
+pub only_block : {D : Type 0} {g : Ghosts D} {b : ℕ} {old new : D} (at : ℕ × ℕ) → (b ≡ at.0) ⊎ (b ≡ at.1) → ChangesBlock g b old new → ChangesOnly g (both_blocks at) old new
 only_block {b = b} at is block = record {
   others = outside_one at b _ _ is block.others;
   elsewhere = stays_outside at b _ _ is block.elsewhere;

@@ -22,7 +22,7 @@ use Rattle.lfs_tag.specs.Builder.{Building, earlier}
 use Rattle.lfs_model.specs.History.{Event, AllUnprogrammed, StayUnprogrammed}
 use Rattle.lfs_pair.specs.declared.pair.Pair.{Pair}
 use Rattle.lfs_pair.specs.Pair.{EndsWith, IsPair, SumsUp, second_holds, active_at, address_in, other_in}
-use Rattle.lfs_pair.specs.Writing.{Gets, Holds, IsWritten, LeftByCommit, LeftByWriting, LeftInBlock}
+use Rattle.lfs_pair.specs.Writing.{Gets, HoldsLogContent, IsWritten, LeftByCommit, LeftByWriting, LeftInBlock}
 use Rattle.lfs_pair.specs.Commit.{IsActive, IsAddressOn, IsMade, IsNow, IsStill, KeepsFirst, LeftByChange, LeftWith, NowHolds, OutsideStays, made_of, made_in, made_at}
 use Rattle.lfs_pair.proofs.SameLogs.{entries_same}
 use Rattle.lfs_pair.proofs.TwoBlocks.{active_block, Sides, Stays, sides, raw_is, still_active, other_active, stays_same, stays_log, weaker_same, weaker_log, weaker_none, active_is, other_is, outside_one, sides_apart, below_count}
@@ -92,7 +92,7 @@ gets_first b old left e none gets h =
     ∙ first_of (flat_map (λ c. c) (earlier b.revision old)) (flat_map (λ c. c) ((b.entries ++ gets.checksum ∷ []) ∷ [])) e
     (ap (λ r. slice_get (flat_map (λ c. c) (earlier r old)) 0) none ∙ h)
 
-holds_first : (revision : ℕ) (c : RawContent) (block : List ℕ) (e : LogEntry) → Holds revision c block → slice_get (written_entries c) 0 ≡ Some e → slice_get (log_entries block) 0 ≡ Some e
+holds_first : (revision : ℕ) (c : RawContent) (block : List ℕ) (e : LogEntry) → HoldsLogContent revision c block → slice_get (written_entries c) 0 ≡ Some e → slice_get (log_entries block) 0 ≡ Some e
 holds_first revision c block e holds h =
     ap (λ (cs : List (List LogEntry)). slice_get (flat_map (λ c. c) cs) 0) holds.commits
     ∙ first_of (written_entries c ++ holds.checksum ∷ []) [] e (first_of (written_entries c) (holds.checksum ∷ []) e h)
@@ -170,7 +170,7 @@ pub record IsCompacting (disk : Disk) (at : ℕ × ℕ) (active other revision :
   pub next : revision ≡ (revision_of (block_at disk active) + 1) % 2 ^ 32
 
 pub compacted : (disk : Disk) (at : ℕ × ℕ) (active other revision : ℕ) (new : RawContent) (left : Blocks) → IsCompacting disk at active other revision
-    → SameBut other disk.blocks left → Holds revision new (block_in left other) → IsIn (record disk { blocks = left }) at other new
+    → SameBut other disk.blocks left → HoldsLogContent revision new (block_in left other) → IsIn (record disk { blocks = left }) at other new
 compacted disk at active other revision new left k same holds =
     let stays : block_in left active ≡ block_at disk active = same.others active k.apart in
     record {
@@ -181,7 +181,7 @@ compacted disk at active other revision new left k same holds =
     }
 
 pub compacted_first : (disk : Disk) (at : ℕ × ℕ) (active other revision : ℕ) (new : RawContent) (left : Blocks) → IsCompacting disk at active other revision
-    → SameBut other disk.blocks left → Holds revision new (block_in left other) → KeepsFirst disk at (Some new) (record disk { blocks = left })
+    → SameBut other disk.blocks left → HoldsLogContent revision new (block_in left other) → KeepsFirst disk at (Some new) (record disk { blocks = left })
 compacted_first disk at active other revision new left k same holds e begins anew =
     let there = compacted disk at active other revision new left k same holds in
     begins_by disk (record disk { blocks = left }) at active other e k.is k.had there.active_is there.has (λ was. holds_first revision new (block_in left other) e holds anew) begins
@@ -340,7 +340,7 @@ second_alone : (a b : List ℕ) → has_commit b ≡ false → second_holds a b 
 second_alone a b none = rw none refl
 
 -- where the second block has no commit, the first holds
-pub first_in : (disk : Disk) (at : ℕ × ℕ) (revision : ℕ) (c : RawContent) → has_commit (block_at disk at.1) ≡ false → Holds revision c (block_at disk at.0) → IsIn disk at at.0 c
+pub first_in : (disk : Disk) (at : ℕ × ℕ) (revision : ℕ) (c : RawContent) → has_commit (block_at disk at.1) ≡ false → HoldsLogContent revision c (block_at disk at.0) → IsIn disk at at.0 c
 first_in disk at revision c cleared holds = record {
   active_is = sym (ap (λ s. cond s at.1 at.0) (second_alone (block_at disk at.0) (block_at disk at.1) cleared));
   has = holds.has_commit;

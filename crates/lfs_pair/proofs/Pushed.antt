@@ -9,7 +9,7 @@ use Rattle.lfs_model.specs.LoggedContent.{Ascend, HasParts, HaveParts}
 use Rattle.lfs_model.specs.WrittenContent.{attribute_entries, attribute_type, entry_with, entries_of_slot, entries_of_slots}
 use Rattle.lfs_tag.specs.Builder.{Building}
 use Rattle.lfs_tag.specs.declared.content.Attribute.{Attribute}
-use Rattle.lfs_tag.specs.ContentSeen.{attribute_seen}
+use Rattle.lfs_tag.specs.ContentView.{attribute_view}
 use Rattle.lfs_pair.specs.Writing.{with_entries}
 use Rattle.lfs_pair.proofs.Applied.{mapped_front}
 
@@ -24,12 +24,12 @@ with_more es fs old mid new first second =
 
 -- one attribute more
 pub attributes_more : (id kind : ℕ) (xs : List Attribute) (i : ℕ) (d : Attribute) (old mid new : Building) → i < length xs → kind ≡ (get_or xs i d).kind
-    → mid ≡ with_entries (attribute_entries id (map attribute_seen (take i xs))) old → new ≡ with_entries (entry_with (attribute_type + kind) id (get_or xs i d).bytes.now ∷ []) mid
-    → new ≡ with_entries (attribute_entries id (map attribute_seen (take (i + 1) xs))) old
+    → mid ≡ with_entries (attribute_entries id (map attribute_view (take i xs))) old → new ≡ with_entries (entry_with (attribute_type + kind) id (get_or xs i d).bytes.now ∷ []) mid
+    → new ≡ with_entries (attribute_entries id (map attribute_view (take (i + 1) xs))) old
 attributes_more id kind xs i d old mid new l is first second =
     let bytes : List ℕ = (get_or xs i d).bytes.now in
-    with_more (attribute_entries id (map attribute_seen (take i xs))) (entry_with (attribute_type + (get_or xs i d).kind) id bytes ∷ []) old mid new first (second ∙ ap (λ k. with_entries (entry_with (attribute_type + k) id bytes ∷ []) mid) is)
-    ∙ ap (λ es. with_entries es old) (sym (ap (attribute_entries id) (mapped_front attribute_seen xs i d l) ∙ map-append _ (map attribute_seen (take i xs)) (attribute_seen (get_or xs i d) ∷ [])))
+    with_more (attribute_entries id (map attribute_view (take i xs))) (entry_with (attribute_type + (get_or xs i d).kind) id bytes ∷ []) old mid new first (second ∙ ap (λ k. with_entries (entry_with (attribute_type + k) id bytes ∷ []) mid) is)
+    ∙ ap (λ es. with_entries es old) (sym (ap (attribute_entries id) (mapped_front attribute_view xs i d l) ∙ map-append _ (map attribute_view (take i xs)) (attribute_view (get_or xs i d) ∷ [])))
 
 -- one element more of a list where each has a list of entries
 pub flat_more : {X Y : Type 0} (f : X → Y) (e : Y → List LogEntry) (xs : List X) (i : ℕ) (d : X) (old mid new : Building) → i < length xs

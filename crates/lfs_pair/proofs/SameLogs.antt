@@ -13,17 +13,17 @@ abbrev revision_in : Option BlockLog → ℕ
 revision_in None = 0
 revision_in (Some log) = log.revision
 
-commits_told : (r : ℕ) (cs : List (List LogEntry)) → commits_in (log_with r cs) ≡ cs
-commits_told r [] = refl
-commits_told r (c ∷ cs) = refl
+commits_reported : (r : ℕ) (cs : List (List LogEntry)) → commits_in (log_with r cs) ≡ cs
+commits_reported r [] = refl
+commits_reported r (c ∷ cs) = refl
 
-revision_told : (r : ℕ) (cs : List (List LogEntry)) → nat_lt 0 (length cs) ≡ true → revision_in (log_with r cs) ≡ r
-revision_told r [] some = absurd (cc)
-revision_told r (c ∷ cs) some = refl
+revision_reported : (r : ℕ) (cs : List (List LogEntry)) → nat_lt 0 (length cs) ≡ true → revision_in (log_with r cs) ≡ r
+revision_reported r [] some = absurd (cc)
+revision_reported r (c ∷ cs) some = refl
 
 pub commits_same : (x y : List ℕ) → SameLog x y → (chain_of x).commits ≡ (chain_of y).commits
 commits_same x y same =
-    sym (commits_told (revision_of x) (chain_of x).commits) ∙ ap commits_in same ∙ commits_told (revision_of y) (chain_of y).commits
+    sym (commits_reported (revision_of x) (chain_of x).commits) ∙ ap commits_in same ∙ commits_reported (revision_of y) (chain_of y).commits
 
 pub entries_same : (x y : List ℕ) → SameLog x y → log_entries x ≡ log_entries y
 entries_same x y same = ap (flat_map (λ (c : List LogEntry). c)) (commits_same x y same)
@@ -34,12 +34,12 @@ has_commit_same x y same = ap (λ (cs : List (List LogEntry)). nat_lt 0 (length 
 -- a block without a commit has a revision too, which its log doesn't tell
 pub revision_same : (x y : List ℕ) → SameLog x y → has_commit y ≡ true → revision_of x ≡ revision_of y
 revision_same x y same has =
-    sym (revision_told (revision_of x) (chain_of x).commits (has_commit_same x y same ∙ has))
+    sym (revision_reported (revision_of x) (chain_of x).commits (has_commit_same x y same ∙ has))
     ∙ ap revision_in same
-    ∙ revision_told (revision_of y) (chain_of y).commits has
+    ∙ revision_reported (revision_of y) (chain_of y).commits has
 
 pub no_commits : (x : List ℕ) → HasNoLog x → (chain_of x).commits ≡ []
-no_commits x none = sym (commits_told (revision_of x) (chain_of x).commits) ∙ ap commits_in none
+no_commits x none = sym (commits_reported (revision_of x) (chain_of x).commits) ∙ ap commits_in none
 
 pub has_no_commit : (x : List ℕ) → HasNoLog x → has_commit x ≡ false
 has_no_commit x none = ap (λ (cs : List (List LogEntry)). nat_lt 0 (length cs)) (no_commits x none)

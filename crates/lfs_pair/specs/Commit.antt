@@ -150,22 +150,22 @@ pub record IsFull {D : Type 0} (g : Ghosts D) (changes : List Change) (old new :
   pub device : ReadsOnly g old new
 
 -- A commit that ends in an error: the header is as before, and at `NoMemory` nothing was written.
-pub record Fails {D : Type 0} (g : Ghosts D) (old new : D) (was now : Pair) (e : Error) : Type 0 where
+pub record CommitFails {D : Type 0} (g : Ghosts D) (old new : D) (was now : Pair) (e : Error) : Type 0 where
   pub errors : (e ≡ Io) ⊎ (e ≡ NoMemory)
   pub pair : now ≡ was
   pub no_memory : e ≡ NoMemory → ReadsOnly g old new
 
 -- both blocks of a pair
-abbrev pub blocks_of : ℕ × ℕ → List ℕ
-blocks_of at = at.0 ∷ at.1 ∷ []
+abbrev pub both_blocks : ℕ × ℕ → List ℕ
+both_blocks at = at.0 ∷ at.1 ∷ []
 
 -- no block changes but the pair's
 abbrev pub OutsideKeeps : ℕ × ℕ → Blocks → Blocks → Type 0
-OutsideKeeps at old new = SameButThese (blocks_of at) old new
+OutsideKeeps at old new = SameButThese (both_blocks at) old new
 
 -- bytes of other blocks that were unprogrammed still are
 abbrev pub OutsideStays : ℕ × ℕ → List Event → List Event → Type 0
-OutsideStays at old new = StayUnprogrammed (blocks_of at) old new
+OutsideStays at old new = StayUnprogrammed (both_blocks at) old new
 
 -- What a stop leaves: other blocks as they were, and the pair with its old content or with that new one.
 pub record LeftWith (old : Disk) (at : ℕ × ℕ) (new : RawContent) (left : Blocks) : Type 0 where

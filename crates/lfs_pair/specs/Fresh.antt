@@ -10,7 +10,7 @@ use Rattle.lfs_model.specs.Content.{RawContent, has_commit, no_content}
 use Rattle.lfs_model.specs.Changes.{Change, changed_by}
 use Rattle.lfs_model.specs.WrittenContent.{FitsRaw}
 use Rattle.lfs_pair.specs.declared.pair.Pair.{Pair}
-use Rattle.lfs_pair.specs.Writing.{Holds}
+use Rattle.lfs_pair.specs.Writing.{HoldsLogContent}
 use Rattle.lfs_pair.specs.Commit.{IsAddressOn, NowHolds}
 
 -- the premises: two blocks of the disk, and changes whose content fits a pair
@@ -42,7 +42,7 @@ pub record ClearsLogs (count : ℕ) (before history : List Event) : Type 0 where
 pub record HoldsFresh (c : RawContent) (disk : Disk) (at : ℕ × ℕ) (pair : Pair) : Type 0 where
   pub active : pair.active ≡ at.0
   pub revision_is : pair.revision ≡ 1
-  pub anew : Holds 1 c (block_at disk at.0)
+  pub anew : HoldsLogContent 1 c (block_at disk at.0)
   pub cleared : has_commit (block_at disk at.1) ≡ false
 
 -- the pair's first block has what the changes make of an empty log

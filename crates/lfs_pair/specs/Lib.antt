@@ -1,5 +1,5 @@
 pub mod Pair
-pub mod ChangeSeen
+pub mod ChangeView
 pub mod Writing
 pub mod Commit
 pub mod Cut

@@ -7,8 +7,8 @@ use Rattle.lfs_model.specs.Log.{chain_of, revision_of, log_entries}
 use Rattle.lfs_model.specs.Slots.{address_of}
 use Rattle.lfs_model.specs.Content.{RawContent, has_commit, holder_at, is_later, content_after_all, no_content, raw_at, completed}
 use Rattle.lfs_model.specs.LoggedContent.{IsLogged}
-use Rattle.lfs_tag.specs.ContentSeen.{tail_seen}
-use Rattle.lfs_tag.specs.FieldsSeen.{move_seen}
+use Rattle.lfs_tag.specs.ContentView.{tail_view}
+use Rattle.lfs_tag.specs.FieldsView.{move_view}
 use Rattle.lfs_pair.specs.declared.pair.Pair.{Pair}
 
 -- the address of a header's pair
@@ -22,12 +22,12 @@ other_of at active = if active == at.0 then at.1 else at.0
 abbrev pub other_in : Pair → ℕ
 other_in pair = other_of (address_in pair) pair.active
 
--- The header counts the content's slots, says whether each is complete, and has the content's tail and its share of the global
+-- The header counts the content's slots, says whether each is complete, and has the content's tail and its delta of the global
 -- state.
 pub record SumsUp (c : RawContent) (pair : Pair) : Type 0 where
   pub slot_count : pair.slot_count ≡ length c.slots
-  pub tail : option_map tail_seen pair.tail ≡ c.tail
-  pub move : move_seen pair.move_state ≡ c.move
+  pub tail : option_map tail_view pair.tail ≡ c.tail
+  pub move : move_view pair.move_state ≡ c.move
   pub complete : pair.is_complete ≡ is_some (completed c)
 
 -- the header has this end of the log, and this last tag

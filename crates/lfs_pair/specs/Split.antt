@@ -12,7 +12,7 @@ use Rattle.lfs_pair.specs.Fresh.{ClearsLogs, HoldsFresh}
 use Rattle.lfs_pair.specs.declared.pair.Pair.{Pair}
 use Rattle.lfs_pair.specs.Pair.{address_in}
 use Rattle.lfs_pair.specs.Commit.{IsAddressOn, CanCommit, IsNow, IsStill, KeepsFirst, NowHolds, made_at}
-use Rattle.lfs_pair.specs.Writing.{Holds}
+use Rattle.lfs_pair.specs.Writing.{HoldsLogContent}
 use Rattle.lfs_pair.specs.Cut.{CanBeCut, IsCut}
 
 -- two pairs have no block in common
@@ -30,7 +30,7 @@ pub record CanSplit (disk : Disk) (history : List Event) (pair : Pair) (fresh : 
   pub apart : AreApart (address_in pair) fresh
   pub cut : CanBeCut disk.block_size disk.page commit.new.slots
 
--- the old pair's new content: the first slots, a hard tail to the fresh pair, and the share of the global state
+-- the old pair's new content: the first slots, a hard tail to the fresh pair, and the delta of the global state
 abbrev pub front_of : RawContent → ℕ → ℕ × ℕ → RawContent
 front_of c cut fresh = record { slots = take cut c.slots; tail = Some (record { hard = true; to = fresh }); move = c.move }
 
@@ -64,7 +64,7 @@ pub record Splits (old : Disk) (before : List Event) (changes : List Change) (wa
   -- it was.
   pub moved : pair.active ≢ was.active
   pub kept : block_at disk was.active ≡ block_at old was.active
-  pub front_anew : Holds ((was.revision + 1) % 2 ^ 32) (front_of new cut fresh) (block_at disk pair.active)
+  pub front_anew : HoldsLogContent ((was.revision + 1) % 2 ^ 32) (front_of new cut fresh) (block_at disk pair.active)
   pub back_fresh : HoldsFresh (back_of new cut) disk fresh fresh_pair
   pub clears : ClearsLogs 2 before history
 

@@ -3,7 +3,7 @@ use Rattle.std.specs.Prelude.{ℕ, ◌≡◌, ◌≤◌, ◌⊎◌, ◌+◌, ◌
 use Rattle.lfs_device.specs.declared.device.BlockDevice.{Ghosts}
 use Rattle.lfs_device.specs.declared.error.Error.{Error}
 use Rattle.lfs_device.specs.declared.error.Error.TheVariants.{Io}
-use Rattle.lfs_device.specs.Calls.{ChangesBlock, ChangesOnly, TellsFaults}
+use Rattle.lfs_device.specs.Calls.{ChangesBlock, ChangesOnly, ReportsFaults}
 use Rattle.lfs_model.specs.Blocks.{Blocks, block_in, SameBut}
 use Rattle.lfs_model.specs.Disk.{Disk, block_at}
 use Rattle.lfs_model.specs.History.{AllUnprogrammed, Event, erases, programs, reads}
@@ -44,7 +44,7 @@ abbrev pub LeftByCommit : Building → ℕ → List ℕ → List ℕ → Type 0
 LeftByCommit b off old left = SameLog left old ⊎ (((off ≡ 0) × HasNoLog left) ⊎ Gets b old left)
 
 -- A block's log is one commit, of the entries that write the content anew, and comes to that content.
-pub record Holds (revision : ℕ) (c : RawContent) (block : List ℕ) : Type 0 where
+pub record HoldsLogContent (revision : ℕ) (c : RawContent) (block : List ℕ) : Type 0 where
   pub has_commit : has_commit block ≡ true
   pub revision_is : revision_of block ≡ revision
   pub content : content_after_all no_content (log_entries block) ≡ Some c
@@ -54,13 +54,13 @@ pub record Holds (revision : ℕ) (c : RawContent) (block : List ℕ) : Type 0 w
 
 -- a block was erased once and programmed once, and has that content
 pub record HoldsAnew (revision : ℕ) (c : RawContent) (block : List ℕ) (before after : List Event) : Type 0 where
-  pub holds : Holds revision c block
+  pub holds : HoldsLogContent revision c block
   pub erases : erases after ≡ erases before + 1
   pub programs : programs after ≡ programs before + 1
 
 -- What a stop leaves where a block is erased and a content is written into it: the old log, none, or the content.
 abbrev pub LeftByWriting : ℕ → RawContent → List ℕ → List ℕ → Type 0
-LeftByWriting revision c old left = SameLog left old ⊎ (HasNoLog left ⊎ Holds revision c left)
+LeftByWriting revision c old left = SameLog left old ⊎ (HasNoLog left ⊎ HoldsLogContent revision c left)
 
 -- in these blocks only one has changed, and its bytes are as P allows
 abbrev pub LeftInBlock : ℕ → (List ℕ → List ℕ → Type 0) → Blocks → Blocks → Type 0
@@ -77,7 +77,7 @@ pub record WritesBlock {D X : Type 0} (g : Ghosts D) (most b : ℕ) (old new : D
   pub device : ChangesBlock g b old new
   pub few : reads (g.history new) ≤ reads (g.history old) + most
   pub errors : IfErr result (λ e. e ≡ Io)
-  pub faults : TellsFaults g old new result
+  pub faults : ReportsFaults g old new result
 
 -- No block is written but these, and the device is read at most so often. The only error is `Io`, which comes with a fault of the
 -- device.
@@ -85,4 +85,4 @@ pub record WritesOnly {D X : Type 0} (g : Ghosts D) (most : ℕ) (bs : List ℕ)
   pub device : ChangesOnly g bs old new
   pub few : reads (g.history new) ≤ reads (g.history old) + most
   pub errors : IfErr result (λ e. e ≡ Io)
-  pub faults : TellsFaults g old new result
+  pub faults : ReportsFaults g old new result

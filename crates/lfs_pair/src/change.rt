@@ -8,9 +8,9 @@ ghost use Rattle.lfs_model.specs.Content.{content_after, content_after_all};
 ghost use Rattle.lfs_model.specs.EntryTypes.{tail_with as tail_with_pair};
 ghost use Rattle.lfs_model.specs.WrittenContent.{entry_with, named_pair};
 ghost use Rattle.lfs_model.specs.Changes.{entries_of_change, entries_of_changes, is_storable, RemoveAttribute};
-ghost use Rattle.lfs_tag.specs.ContentSeen.{content_seen, tail_seen};
+ghost use Rattle.lfs_tag.specs.ContentView.{content_view, tail_view};
 ghost use Rattle.lfs_tag.specs.ContentGives.{Gives};
-ghost use Rattle.lfs_pair.specs.ChangeSeen.{change_seen, changes_seen};
+ghost use Rattle.lfs_pair.specs.ChangeView.{change_view, changes_view};
 
 use lfs_tag::kinds::{ATTRIBUTE, CREATE, DELETE};
 use lfs_tag::{Content, ContentError, Entry, MoveState, NULL_ADDRESS, Tag, Tail};
@@ -32,7 +32,7 @@ pub enum Change<'a> {
     NoAttr { id: u16, attr: u8 },
     /// The pair gets another tail, or none.
     Tail { hard: bool, pair: Option<[u32; 2]> },
-    /// The pair gets another share of the global state.
+    /// The pair gets another delta of the global state.
     Move { state: MoveState },
 }
 
@@ -47,7 +47,7 @@ fn put<'a>(
     requires kind { kind < 2 ^ 11 }
     requires id { id < 2 ^ 10 }
     requires bytes { length bytes.now ≤ 1022 }
-    ensures { Gives (λ _. content_seen content.new) result (content_after (content_seen content.old) (entry_with kind id bytes.now)) }
+    ensures { Gives (λ _. content_view content.new) result (content_after (content_view content.old) (entry_with kind id bytes.now)) }
 {
     let tag = Tag::new(kind, id, bytes.len() as u16);
     content.take(alloc, &Entry { tag, bytes })?;
@@ -62,7 +62,7 @@ fn put_removal(
     attr: u8,
 ) -> Result<(), ContentError>
     requires { id < 2 ^ 10 }
-    ensures { Gives (λ _. content_seen content.new) result (content_after_all (content_seen content.old) (entries_of_change (RemoveAttribute id attr))) }
+    ensures { Gives (λ _. content_view content.new) result (content_after_all (content_view content.old) (entries_of_change (RemoveAttribute id attr))) }
 {
     let tag = Tag::new(ATTRIBUTE + u16::from(attr), id, 0x3ff);
     content.take(alloc, &Entry { tag, bytes: &[] })?;
@@ -71,7 +71,7 @@ fn put_removal(
 
 // Returns the tail that a change sets. Two null addresses are no tail.
 fn tail_with(hard: bool, pair: Option<[u32; 2]>) -> Option<Tail>
-    ensures { option_map tail_seen result ≡ tail_with_pair hard (named_pair (option_map address_of pair)) }
+    ensures { option_map tail_view result ≡ tail_with_pair hard (named_pair (option_map address_of pair)) }
 {
     match pair {
         None => None,
@@ -91,8 +91,8 @@ pub(crate) fn apply<'a>(
     content: &mut Content<'a>,
     change: &Change<'a>,
 ) -> Result<(), ContentError>
-    requires { is_storable (change_seen change.now) ≡ true }
-    ensures { Gives (λ _. content_seen content.new) result (content_after_all (content_seen content.old) (entries_of_change (change_seen change.now))) }
+    requires { is_storable (change_view change.now) ≡ true }
+    ensures { Gives (λ _. content_view content.new) result (content_after_all (content_view content.old) (entries_of_change (change_view change.now))) }
 {
     match *change {
         Change::Create { id, kind, name } => {
@@ -140,8 +140,8 @@ pub fn apply_all<'a>(
     content: &mut Content<'a>,
     changes: &[Change<'a>],
 ) -> Result<(), ContentError>
-    requires { list_all is_storable (changes_seen changes.now) ≡ true }
-    ensures { Gives (λ _. content_seen content.new) result (content_after_all (content_seen content.old) (entries_of_changes (changes_seen changes.now))) }
+    requires { list_all is_storable (changes_view changes.now) ≡ true }
+    ensures { Gives (λ _. content_view content.new) result (content_after_all (content_view content.old) (entries_of_changes (changes_view changes.now))) }
 {
     for change in changes {
         match apply(alloc, content, change) {

@@ -3,15 +3,15 @@
 ghost use Rattle.std.specs.Prelude.{◌≡◌, true, false, IfErr, OnErr, OnOk, Some, length};
 ghost use Rattle.lfs_device.specs.Shown.{disk_of};
 ghost use Rattle.lfs_model.specs.Blocks.{block_in};
-ghost use Rattle.lfs_device.specs.Calls.{TellsFaults};
+ghost use Rattle.lfs_device.specs.Calls.{ReportsFaults};
 ghost use Rattle.lfs_model.specs.History.{EachSince, LeavesOnly};
 ghost use Rattle.lfs_model.specs.Stops.{ErasesCleanly, Stops};
 ghost use Rattle.lfs_model.specs.WrittenContent.{FitsRaw};
 ghost use Rattle.lfs_model.specs.LoggedContent.{HaveNames, IsLogged};
-ghost use Rattle.lfs_tag.specs.ContentSeen.{content_seen};
+ghost use Rattle.lfs_tag.specs.ContentView.{content_view};
 ghost use Rattle.lfs_pair.specs.Pair.{address_in};
-ghost use Rattle.lfs_pair.specs.ChangeSeen.{changes_seen};
-ghost use Rattle.lfs_pair.specs.Commit.{made_at, blocks_of, AppendsNow, CanCommit, Commits, CompactsNow, Fails, HasNoRoom, IsFull, IsAddressOn, IsActive, LeftByChange, LeftWith};
+ghost use Rattle.lfs_pair.specs.ChangeView.{changes_view};
+ghost use Rattle.lfs_pair.specs.Commit.{made_at, both_blocks, AppendsNow, CanCommit, Commits, CompactsNow, CommitFails, HasNoRoom, IsFull, IsAddressOn, IsActive, LeftByChange, LeftWith};
 ghost use Rattle.lfs_pair.specs.Writing.{ChangesReading, WritesOnly};
 
 use crate::change::Change;
@@ -60,16 +60,16 @@ pub fn commit<D: BlockDevice>(
     pair: &mut Pair,
     changes: &[Change<'_>],
 ) -> Result<Outcome, Error>
-    requires { CanCommit (disk_of (D.geometry dev.old) (D.blocks dev.old)) (D.history dev.old) pair.old (changes_seen changes.now) }
+    requires { CanCommit (disk_of (D.geometry dev.old) (D.blocks dev.old)) (D.history dev.old) pair.old (changes_view changes.now) }
 
     ensures done { result ≡ Ok Outcome.Done
-        → Commits (disk_of (D.geometry dev.old) (D.blocks dev.old)) (D.history dev.old) (changes_seen changes.now) pair.old (disk_of (D.geometry dev.new) (D.blocks dev.new)) (D.history dev.new) pair.new }
-    ensures full { result ≡ Ok Outcome.Full → IsFull D.BlockDevice (changes_seen changes.now) dev.old dev.new pair.old pair.new }
-    ensures error { IfErr result (λ e. Fails D.BlockDevice dev.old dev.new pair.old pair.new e) }
-    ensures device { ChangesReading D.BlockDevice 2 (blocks_of (address_in pair.old)) dev.old dev.new }
-    ensures faults { TellsFaults D.BlockDevice dev.old dev.new result }
+        → Commits (disk_of (D.geometry dev.old) (D.blocks dev.old)) (D.history dev.old) (changes_view changes.now) pair.old (disk_of (D.geometry dev.new) (D.blocks dev.new)) (D.history dev.new) pair.new }
+    ensures full { result ≡ Ok Outcome.Full → IsFull D.BlockDevice (changes_view changes.now) dev.old dev.new pair.old pair.new }
+    ensures error { IfErr result (λ e. CommitFails D.BlockDevice dev.old dev.new pair.old pair.new e) }
+    ensures device { ChangesReading D.BlockDevice 2 (both_blocks (address_in pair.old)) dev.old dev.new }
+    ensures faults { ReportsFaults D.BlockDevice dev.old dev.new result }
     ensures stops { EachSince ErasesCleanly (D.history dev.old) (D.history dev.new)
-        → LeavesOnly Stops (D.history dev.old) (D.history dev.new) (LeftByChange (disk_of (D.geometry dev.old) (D.blocks dev.old)) (address_in pair.old) (changes_seen changes.now)) }
+        → LeavesOnly Stops (D.history dev.old) (D.history dev.new) (LeftByChange (disk_of (D.geometry dev.old) (D.blocks dev.old)) (address_in pair.old) (changes_view changes.now)) }
 {
     let block = read_block(alloc, dev, pair.active)?;
     let outcome = commit_in(alloc, dev, pair, &block, changes)?;
@@ -88,17 +88,17 @@ pub fn commit_in<'a, 'b: 'a, D: BlockDevice>(
     block: &'a [u8],
     changes: &[Change<'b>],
 ) -> Result<Outcome, Error>
-    requires can { CanCommit (disk_of (D.geometry dev.old) (D.blocks dev.old)) (D.history dev.old) pair.old (changes_seen changes.now) }
+    requires can { CanCommit (disk_of (D.geometry dev.old) (D.blocks dev.old)) (D.history dev.old) pair.old (changes_view changes.now) }
     requires block { block.now ≡ block_in (D.blocks dev.old) pair.old.active }
 
     ensures done { result ≡ Ok Outcome.Done
-        → Commits (disk_of (D.geometry dev.old) (D.blocks dev.old)) (D.history dev.old) (changes_seen changes.now) pair.old (disk_of (D.geometry dev.new) (D.blocks dev.new)) (D.history dev.new) pair.new }
-    ensures full { result ≡ Ok Outcome.Full → IsFull D.BlockDevice (changes_seen changes.now) dev.old dev.new pair.old pair.new }
-    ensures error { IfErr result (λ e. Fails D.BlockDevice dev.old dev.new pair.old pair.new e) }
-    ensures device { ChangesReading D.BlockDevice 1 (blocks_of (address_in pair.old)) dev.old dev.new }
-    ensures faults { TellsFaults D.BlockDevice dev.old dev.new result }
+        → Commits (disk_of (D.geometry dev.old) (D.blocks dev.old)) (D.history dev.old) (changes_view changes.now) pair.old (disk_of (D.geometry dev.new) (D.blocks dev.new)) (D.history dev.new) pair.new }
+    ensures full { result ≡ Ok Outcome.Full → IsFull D.BlockDevice (changes_view changes.now) dev.old dev.new pair.old pair.new }
+    ensures error { IfErr result (λ e. CommitFails D.BlockDevice dev.old dev.new pair.old pair.new e) }
+    ensures device { ChangesReading D.BlockDevice 1 (both_blocks (address_in pair.old)) dev.old dev.new }
+    ensures faults { ReportsFaults D.BlockDevice dev.old dev.new result }
     ensures stops { EachSince ErasesCleanly (D.history dev.old) (D.history dev.new)
-        → LeavesOnly Stops (D.history dev.old) (D.history dev.new) (LeftByChange (disk_of (D.geometry dev.old) (D.blocks dev.old)) (address_in pair.old) (changes_seen changes.now)) }
+        → LeavesOnly Stops (D.history dev.old) (D.history dev.new) (LeftByChange (disk_of (D.geometry dev.old) (D.blocks dev.old)) (address_in pair.old) (changes_view changes.now)) }
 {
     let geometry = dev.geometry();
     let content = made_in(alloc, pair, block, changes)?;
@@ -122,18 +122,18 @@ fn append<D: BlockDevice>(
     content: &Content<'_>,
     buf: &mut [u8],
 ) -> Result<bool, Error>
-    requires can { CanCommit (disk_of (D.geometry dev.old) (D.blocks dev.old)) (D.history dev.old) pair.old (changes_seen changes.now) }
-    requires logged { IsLogged (content_seen content.now) }
-    requires made { made_at (disk_of (D.geometry dev.old) (D.blocks dev.old)) (address_in pair.old) (changes_seen changes.now) ≡ Some (content_seen content.now) }
+    requires can { CanCommit (disk_of (D.geometry dev.old) (D.blocks dev.old)) (D.history dev.old) pair.old (changes_view changes.now) }
+    requires logged { IsLogged (content_view content.now) }
+    requires made { made_at (disk_of (D.geometry dev.old) (D.blocks dev.old)) (address_in pair.old) (changes_view changes.now) ≡ Some (content_view content.now) }
     requires buf { length buf.old ≡ (D.geometry dev.old).block_size }
 
-    ensures done { result ≡ Ok true → AppendsNow (disk_of (D.geometry dev.old) (D.blocks dev.old)) (D.history dev.old) pair.old (changes_seen changes.now) (content_seen content.now)
+    ensures done { result ≡ Ok true → AppendsNow (disk_of (D.geometry dev.old) (D.blocks dev.old)) (D.history dev.old) pair.old (changes_view changes.now) (content_view content.now)
         (disk_of (D.geometry dev.new) (D.blocks dev.new)) (D.history dev.new) pair.new }
-    ensures no_room { result ≡ Ok false → HasNoRoom D.BlockDevice (changes_seen changes.now) dev.old dev.new pair.old pair.new }
+    ensures no_room { result ≡ Ok false → HasNoRoom D.BlockDevice (changes_view changes.now) dev.old dev.new pair.old pair.new }
     ensures buf { length buf.new ≡ length buf.old }
     ensures err_pair { OnErr result (pair.new ≡ pair.old) }
-    ensures writes { WritesOnly D.BlockDevice 1 (blocks_of (address_in pair.old)) dev.old dev.new result }
-    ensures stops { LeavesOnly Stops (D.history dev.old) (D.history dev.new) (LeftWith (disk_of (D.geometry dev.old) (D.blocks dev.old)) (address_in pair.old) (content_seen content.now)) }
+    ensures writes { WritesOnly D.BlockDevice 1 (both_blocks (address_in pair.old)) dev.old dev.new result }
+    ensures stops { LeavesOnly Stops (D.history dev.old) (D.history dev.new) (LeftWith (disk_of (D.geometry dev.old) (D.blocks dev.old)) (address_in pair.old) (content_view content.now)) }
 {
     let geometry = dev.geometry();
     let mut builder = CommitBuilder::new(geometry.page, buf, pair.last, None);
@@ -157,17 +157,17 @@ pub(crate) fn compact<D: BlockDevice>(
     requires address { IsAddressOn (disk_of (D.geometry dev.old) (D.blocks dev.old)) (address_in pair.old) }
     requires active { IsActive (disk_of (D.geometry dev.old) (D.blocks dev.old)) pair.old }
     requires buf { length buf.old ≡ (D.geometry dev.old).block_size }
-    requires logged { IsLogged (content_seen content.now) }
-    requires names { HaveNames (content_seen content.now).slots }
-    requires fits { FitsRaw (D.geometry dev.old).block_size (D.geometry dev.old).page (content_seen content.now) }
+    requires logged { IsLogged (content_view content.now) }
+    requires names { HaveNames (content_view content.now).slots }
+    requires fits { FitsRaw (D.geometry dev.old).block_size (D.geometry dev.old).page (content_view content.now) }
 
     ensures buf { length buf.new ≡ length buf.old }
-    ensures done { OnOk result (CompactsNow (disk_of (D.geometry dev.old) (D.blocks dev.old)) (D.history dev.old) pair.old (content_seen content.now)
+    ensures done { OnOk result (CompactsNow (disk_of (D.geometry dev.old) (D.blocks dev.old)) (D.history dev.old) pair.old (content_view content.now)
         (disk_of (D.geometry dev.new) (D.blocks dev.new)) (D.history dev.new) pair.new) }
     ensures err_pair { OnErr result (pair.new ≡ pair.old) }
-    ensures writes { WritesOnly D.BlockDevice 1 (blocks_of (address_in pair.old)) dev.old dev.new result }
+    ensures writes { WritesOnly D.BlockDevice 1 (both_blocks (address_in pair.old)) dev.old dev.new result }
     ensures stops { EachSince ErasesCleanly (D.history dev.old) (D.history dev.new)
-        → LeavesOnly Stops (D.history dev.old) (D.history dev.new) (LeftWith (disk_of (D.geometry dev.old) (D.blocks dev.old)) (address_in pair.old) (content_seen content.now)) }
+        → LeavesOnly Stops (D.history dev.old) (D.history dev.new) (LeftWith (disk_of (D.geometry dev.old) (D.blocks dev.old)) (address_in pair.old) (content_view content.now)) }
 {
     let other = pair.other();
     let revision = pair.revision.wrapping_add(1);

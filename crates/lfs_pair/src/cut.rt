@@ -1,7 +1,7 @@
 // Where a full pair's slots are cut into two parts.
 
 ghost use Rattle.std.specs.Prelude.{map};
-ghost use Rattle.lfs_tag.specs.ContentSeen.{slot_seen};
+ghost use Rattle.lfs_tag.specs.ContentView.{slot_view};
 ghost use Rattle.lfs_pair.specs.Cut.{CanBeCut, IsMiddle};
 
 use crate::size::{is_within, slot_size, slots_size};
@@ -12,8 +12,8 @@ use lfs_tag::Slot;
 // bytes before it. So what is written later finds room in both parts. Where no cut is such, it is
 // the first that is possible.
 pub(crate) fn cut_of(slots: &[Slot<'_>], geometry: Geometry) -> usize
-    requires { CanBeCut geometry.block_size geometry.page (map slot_seen slots.now) }
-    ensures { IsMiddle geometry.block_size geometry.page (map slot_seen slots.now) result }
+    requires { CanBeCut geometry.block_size geometry.page (map slot_view slots.now) }
+    ensures { IsMiddle geometry.block_size geometry.page (map slot_view slots.now) result }
 {
     let total = slots_size(slots);
     let mut cut = 0;

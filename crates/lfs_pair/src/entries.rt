@@ -7,9 +7,9 @@ ghost use Rattle.lfs_model.specs.Slots.{address_of};
 ghost use Rattle.lfs_model.specs.LoggedContent.{Ascend, HasParts, HaveParts, IsLogged, IsMoveState, IsPartIfSome};
 ghost use Rattle.lfs_model.specs.WrittenContent.{part_entries, attribute_entries, entries_of_slot, entries_of_slots, tail_entries, tail_entry, move_entry, move_entries, written_entries, entry_with};
 ghost use Rattle.lfs_model.specs.Changes.{entries_of_change, entries_of_changes, is_storable, RemoveAttribute};
-ghost use Rattle.lfs_tag.specs.ContentSeen.{part_seen, attribute_seen, slot_seen, tail_seen, content_seen};
-ghost use Rattle.lfs_tag.specs.FieldsSeen.{move_seen};
-ghost use Rattle.lfs_pair.specs.ChangeSeen.{change_seen, changes_seen};
+ghost use Rattle.lfs_tag.specs.ContentView.{part_view, attribute_view, slot_view, tail_view, content_view};
+ghost use Rattle.lfs_tag.specs.FieldsView.{move_view};
+ghost use Rattle.lfs_pair.specs.ChangeView.{change_view, changes_view};
 ghost use Rattle.lfs_pair.specs.Writing.{with_entries};
 
 use crate::change::Change;
@@ -49,8 +49,8 @@ fn push_tail(builder: &mut CommitBuilder<'_>, hard: bool, pair: Option<[u32; 2]>
 
 // Adds a move state.
 fn push_move(builder: &mut CommitBuilder<'_>, state: &MoveState)
-    requires { IsMoveState (move_seen state.now) }
-    ensures { builder.new ≡ with_entries (move_entry (move_seen state.now) ∷ []) builder.old }
+    requires { IsMoveState (move_view state.now) }
+    ensures { builder.new ≡ with_entries (move_entry (move_view state.now) ∷ []) builder.old }
 {
     push(builder, MOVE_STATE, Tag::NO_ID, &move_bytes(state));
 }
@@ -59,8 +59,8 @@ fn push_move(builder: &mut CommitBuilder<'_>, state: &MoveState)
 
 // Adds the entries of a change.
 fn push_change(builder: &mut CommitBuilder<'_>, change: &Change<'_>)
-    requires { is_storable (change_seen change.now) ≡ true }
-    ensures { builder.new ≡ with_entries (entries_of_change (change_seen change.now)) builder.old }
+    requires { is_storable (change_view change.now) ≡ true }
+    ensures { builder.new ≡ with_entries (entries_of_change (change_view change.now)) builder.old }
 {
     match *change {
         Change::Create { id, kind, name } => {
@@ -80,8 +80,8 @@ fn push_change(builder: &mut CommitBuilder<'_>, change: &Change<'_>)
 
 // Adds the entries of all changes, in order.
 pub(crate) fn push_changes(builder: &mut CommitBuilder<'_>, changes: &[Change<'_>])
-    requires { list_all is_storable (changes_seen changes.now) ≡ true }
-    ensures { builder.new ≡ with_entries (entries_of_changes (changes_seen changes.now)) builder.old }
+    requires { list_all is_storable (changes_view changes.now) ≡ true }
+    ensures { builder.new ≡ with_entries (entries_of_changes (changes_view changes.now)) builder.old }
 {
     for change in changes {
         push_change(builder, change);
@@ -94,8 +94,8 @@ pub(crate) fn push_changes(builder: &mut CommitBuilder<'_>, changes: &[Change<'_
 fn push_part(builder: &mut CommitBuilder<'_>, id: u16, part: &Option<Part<'_>>, class: u16)
     requires id { id < 2 ^ 10 }
     requires class { class < 5 }
-    requires part { IsPartIfSome class (option_map part_seen part.now) }
-    ensures { builder.new ≡ with_entries (part_entries id (option_map part_seen part.now)) builder.old }
+    requires part { IsPartIfSome class (option_map part_view part.now) }
+    ensures { builder.new ≡ with_entries (part_entries id (option_map part_view part.now)) builder.old }
 {
     if let Some(part) = part {
         push(builder, part.kind, id, part.bytes);
@@ -105,8 +105,8 @@ fn push_part(builder: &mut CommitBuilder<'_>, id: u16, part: &Option<Part<'_>>, 
 // Adds attributes.
 fn push_attributes(builder: &mut CommitBuilder<'_>, id: u16, attributes: &[Attribute<'_>])
     requires id { id < 2 ^ 10 }
-    requires attributes { Ascend 0 (map attribute_seen attributes.now) }
-    ensures { builder.new ≡ with_entries (attribute_entries id (map attribute_seen attributes.now)) builder.old }
+    requires attributes { Ascend 0 (map attribute_view attributes.now) }
+    ensures { builder.new ≡ with_entries (attribute_entries id (map attribute_view attributes.now)) builder.old }
 {
     for attribute in attributes {
         push(
@@ -121,8 +121,8 @@ fn push_attributes(builder: &mut CommitBuilder<'_>, id: u16, attributes: &[Attri
 // Adds a slot.
 fn push_slot(builder: &mut CommitBuilder<'_>, id: u16, slot: &Slot<'_>)
     requires id { id < 2 ^ 10 }
-    requires parts { HasParts (slot_seen slot.now) }
-    ensures { builder.new ≡ with_entries (entries_of_slot id (slot_seen slot.now)) builder.old }
+    requires parts { HasParts (slot_view slot.now) }
+    ensures { builder.new ≡ with_entries (entries_of_slot id (slot_view slot.now)) builder.old }
 {
     push_part(builder, id, &slot.name, 0);
     push_part(builder, id, &slot.structure, 2);
@@ -132,8 +132,8 @@ fn push_slot(builder: &mut CommitBuilder<'_>, id: u16, slot: &Slot<'_>)
 // Adds slots, from id 0 on.
 fn push_slots(builder: &mut CommitBuilder<'_>, slots: &[Slot<'_>])
     requires few { length slots.now < 0x3ff }
-    requires parts { HaveParts (map slot_seen slots.now) }
-    ensures { builder.new ≡ with_entries (entries_of_slots 0 (map slot_seen slots.now)) builder.old }
+    requires parts { HaveParts (map slot_view slots.now) }
+    ensures { builder.new ≡ with_entries (entries_of_slots 0 (map slot_view slots.now)) builder.old }
 {
     let mut id = 0;
     for slot in slots {
@@ -144,7 +144,7 @@ fn push_slots(builder: &mut CommitBuilder<'_>, slots: &[Slot<'_>])
 
 // Adds a tail, if there is one.
 fn push_tail_if_some(builder: &mut CommitBuilder<'_>, tail: &Option<Tail>)
-    ensures { builder.new ≡ with_entries (tail_entries (option_map tail_seen tail.now)) builder.old }
+    ensures { builder.new ≡ with_entries (tail_entries (option_map tail_view tail.now)) builder.old }
 {
     if let Some(tail) = tail {
         push_tail(builder, tail.hard, Some(tail.pair));
@@ -153,8 +153,8 @@ fn push_tail_if_some(builder: &mut CommitBuilder<'_>, tail: &Option<Tail>)
 
 // Adds a move state, unless it is zero.
 fn push_move_if_any(builder: &mut CommitBuilder<'_>, state: &MoveState)
-    requires { IsMoveState (move_seen state.now) }
-    ensures { builder.new ≡ with_entries (move_entries (move_seen state.now)) builder.old }
+    requires { IsMoveState (move_view state.now) }
+    ensures { builder.new ≡ with_entries (move_entries (move_view state.now)) builder.old }
 {
     if !state.is_none() {
         push_move(builder, state);
@@ -164,9 +164,9 @@ fn push_move_if_any(builder: &mut CommitBuilder<'_>, state: &MoveState)
 // Adds the entries that write a content into an empty log: each slot's name, struct and attributes
 // by ascending type, then the tail and the move state where there are such.
 pub(crate) fn push_content(builder: &mut CommitBuilder<'_>, content: &Content<'_>)
-    requires logged { IsLogged (content_seen content.now) }
-    requires few { length (content_seen content.now).slots < 0x3ff }
-    ensures { builder.new ≡ with_entries (written_entries (content_seen content.now)) builder.old }
+    requires logged { IsLogged (content_view content.now) }
+    requires few { length (content_view content.now).slots < 0x3ff }
+    ensures { builder.new ≡ with_entries (written_entries (content_view content.now)) builder.old }
 {
     push_slots(builder, &content.slots);
     push_tail_if_some(builder, &content.tail);

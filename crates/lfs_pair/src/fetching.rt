@@ -2,7 +2,7 @@
 
 ghost use Rattle.std.specs.Prelude.{◌≡◌, ◌≢◌, ◌+◌, ◌≤◌, ◌<◌, ◌⊎◌, true, IfOk, IfErr, IsOk, None, OnOk, Some};
 ghost use Rattle.lfs_device.specs.Shown.{disk_of};
-ghost use Rattle.lfs_device.specs.Calls.{ReadsOnly, TellsFaults};
+ghost use Rattle.lfs_device.specs.Calls.{ReadsOnly, ReportsFaults};
 ghost use Rattle.lfs_model.specs.History.{reads};
 ghost use Rattle.lfs_model.specs.Slots.{address_of};
 ghost use Rattle.lfs_model.specs.Log.{chain_of, log_entries, revision_of};
@@ -65,7 +65,7 @@ pub fn fetch<D: BlockDevice>(alloc: Global, dev: &mut D, blocks: [u32; 2]) -> Re
     ensures ok { IfOk result (λ pair. Fetches (disk_of (D.geometry dev.old) (D.blocks dev.old)) (D.history dev.new) (address_of blocks) pair) }
     ensures corrupt { result ≡ Err Error.Corrupt → raw_at (disk_of (D.geometry dev.old) (D.blocks dev.old)) (address_of blocks) ≡ None }
     ensures errors { IfErr result (λ e. (e ≡ Error.Corrupt) ⊎ (e ≡ Error.NoMemory) ⊎ (e ≡ Error.Io)) }
-    ensures faults { TellsFaults D.BlockDevice dev.old dev.new result }
+    ensures faults { ReportsFaults D.BlockDevice dev.old dev.new result }
     ensures device { ReadsOnly D.BlockDevice dev.old dev.new }
     ensures reads { reads (D.history dev.new) ≤ reads (D.history dev.old) + 2 }
     ensures both { OnOk result (reads (D.history dev.new) ≡ reads (D.history dev.old) + 2) }

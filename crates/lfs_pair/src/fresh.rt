@@ -2,15 +2,15 @@
 
 ghost use Rattle.std.specs.Prelude.{◌≡◌, ◌<◌, false, length, IfErr, IfOk, OnOk};
 ghost use Rattle.lfs_device.specs.Shown.{disk_of};
-ghost use Rattle.lfs_device.specs.Calls.{TellsFaults};
+ghost use Rattle.lfs_device.specs.Calls.{ReportsFaults};
 ghost use Rattle.lfs_model.specs.Blocks.{block_in};
 ghost use Rattle.lfs_model.specs.Content.{has_commit};
 ghost use Rattle.lfs_model.specs.LoggedContent.{HaveNames, IsLogged};
 ghost use Rattle.lfs_model.specs.Slots.{address_of};
 ghost use Rattle.lfs_model.specs.WrittenContent.{FitsRaw};
-ghost use Rattle.lfs_tag.specs.ContentSeen.{content_seen};
-ghost use Rattle.lfs_pair.specs.ChangeSeen.{changes_seen};
-ghost use Rattle.lfs_pair.specs.Commit.{IsAddressOn, NowHolds, blocks_of};
+ghost use Rattle.lfs_tag.specs.ContentView.{content_view};
+ghost use Rattle.lfs_pair.specs.ChangeView.{changes_view};
+ghost use Rattle.lfs_pair.specs.Commit.{IsAddressOn, NowHolds, both_blocks};
 ghost use Rattle.lfs_pair.specs.Writing.{ChangesReading, WritesBlock, WritesOnly};
 ghost use Rattle.lfs_pair.specs.Fresh.{CanBeFresh, ClearsLogs, FailsUntouched, HoldsFresh, IsFresh};
 
@@ -56,15 +56,15 @@ pub(crate) fn write_fresh<D: BlockDevice>(
 ) -> Result<Pair, Error>
     requires address { IsAddressOn (disk_of (D.geometry dev.old) (D.blocks dev.old)) (address_of blocks) }
     requires buf { length buf.old ≡ (D.geometry dev.old).block_size }
-    requires logged { IsLogged (content_seen content.now) }
-    requires names { HaveNames (content_seen content.now).slots }
-    requires fits { FitsRaw (D.geometry dev.old).block_size (D.geometry dev.old).page (content_seen content.now) }
+    requires logged { IsLogged (content_view content.now) }
+    requires names { HaveNames (content_view content.now).slots }
+    requires fits { FitsRaw (D.geometry dev.old).block_size (D.geometry dev.old).page (content_view content.now) }
 
-    ensures holds { IfOk result (λ pair. NowHolds (disk_of (D.geometry dev.new) (D.blocks dev.new)) (D.history dev.new) (address_of blocks) pair (content_seen content.now)) }
-    ensures fresh { IfOk result (λ pair. HoldsFresh (content_seen content.now) (disk_of (D.geometry dev.new) (D.blocks dev.new)) (address_of blocks) pair) }
+    ensures holds { IfOk result (λ pair. NowHolds (disk_of (D.geometry dev.new) (D.blocks dev.new)) (D.history dev.new) (address_of blocks) pair (content_view content.now)) }
+    ensures fresh { IfOk result (λ pair. HoldsFresh (content_view content.now) (disk_of (D.geometry dev.new) (D.blocks dev.new)) (address_of blocks) pair) }
     ensures buf { length buf.new ≡ length buf.old }
     ensures clears { OnOk result (ClearsLogs 1 (D.history dev.old) (D.history dev.new)) }
-    ensures writes { WritesOnly D.BlockDevice 2 (blocks_of (address_of blocks)) dev.old dev.new result }
+    ensures writes { WritesOnly D.BlockDevice 2 (both_blocks (address_of blocks)) dev.old dev.new result }
 {
     let [first, second] = blocks;
     clear(dev, second, buf)?;
@@ -93,12 +93,12 @@ impl Pair {
         blocks: [u32; 2],
         changes: &[Change<'_>],
     ) -> Result<Pair, Error>
-        requires { CanBeFresh (disk_of (D.geometry dev.old) (D.blocks dev.old)) (address_of blocks) (changes_seen changes.now) }
+        requires { CanBeFresh (disk_of (D.geometry dev.old) (D.blocks dev.old)) (address_of blocks) (changes_view changes.now) }
 
-        ensures fresh { IfOk result (λ pair. IsFresh (D.history dev.old) (changes_seen changes.now) (disk_of (D.geometry dev.new) (D.blocks dev.new)) (D.history dev.new) (address_of blocks) pair) }
+        ensures fresh { IfOk result (λ pair. IsFresh (D.history dev.old) (changes_view changes.now) (disk_of (D.geometry dev.new) (D.blocks dev.new)) (D.history dev.new) (address_of blocks) pair) }
         ensures error { IfErr result (λ e. FailsUntouched dev.old dev.new e) }
-        ensures device { ChangesReading D.BlockDevice 2 (blocks_of (address_of blocks)) dev.old dev.new }
-        ensures faults { TellsFaults D.BlockDevice dev.old dev.new result }
+        ensures device { ChangesReading D.BlockDevice 2 (both_blocks (address_of blocks)) dev.old dev.new }
+        ensures faults { ReportsFaults D.BlockDevice dev.old dev.new result }
     {
         let content = made_of_nothing(alloc, changes)?;
         let block_size = dev.geometry().block_size as usize;

@@ -4,8 +4,8 @@ ghost use Rattle.std.specs.Prelude.{◌≡◌, true, is_some, IfOk, IfErr, Some,
 ghost use Rattle.lfs_model.specs.Content.{no_content};
 ghost use Rattle.lfs_model.specs.Log.{chain_of};
 ghost use Rattle.lfs_model.specs.LoggedContent.{IsLogged};
-ghost use Rattle.lfs_tag.specs.ContentSeen.{content_seen};
-ghost use Rattle.lfs_pair.specs.ChangeSeen.{changes_seen};
+ghost use Rattle.lfs_tag.specs.ContentView.{content_view};
+ghost use Rattle.lfs_pair.specs.ChangeView.{changes_view};
 ghost use Rattle.lfs_pair.specs.Commit.{made_of, made_in};
 ghost use Rattle.lfs_pair.specs.Pair.{EndsWith};
 
@@ -17,7 +17,7 @@ use std::alloc::Global;
 
 // Makes the content of an empty log.
 fn empty<'a>(alloc: Global) -> Content<'a>
-    ensures { content_seen result ≡ no_content }
+    ensures { content_view result ≡ no_content }
 {
     Content {
         slots: Vec::new(alloc),
@@ -31,9 +31,9 @@ pub(crate) fn made_of_nothing<'a>(
     alloc: Global,
     changes: &[Change<'a>],
 ) -> Result<Content<'a>, Error>
-    requires { is_some (made_of (Some no_content) (changes_seen changes.now)) ≡ true }
-    ensures content { IfOk result (λ c. made_of (Some no_content) (changes_seen changes.now) ≡ Some (content_seen c)) }
-    ensures logged { IfOk result (λ c. IsLogged (content_seen c)) }
+    requires { is_some (made_of (Some no_content) (changes_view changes.now)) ≡ true }
+    ensures content { IfOk result (λ c. made_of (Some no_content) (changes_view changes.now) ≡ Some (content_view c)) }
+    ensures logged { IfOk result (λ c. IsLogged (content_view c)) }
     ensures errors { IfErr result (λ e. e ≡ Error.NoMemory) }
 {
     let mut content = empty(alloc);
@@ -52,10 +52,10 @@ pub(crate) fn made_in<'a, 'b: 'a>(
     block: &'a [u8],
     changes: &[Change<'b>],
 ) -> Result<Content<'a>, Error>
-    requires made { is_some (made_in block.now (changes_seen changes.now)) ≡ true }
+    requires made { is_some (made_in block.now (changes_view changes.now)) ≡ true }
     requires ends { EndsWith (chain_of block.now).end (chain_of block.now).last pair.now }
-    ensures content { IfOk result (λ c. made_in block.now (changes_seen changes.now) ≡ Some (content_seen c)) }
-    ensures logged { IfOk result (λ c. IsLogged (content_seen c)) }
+    ensures content { IfOk result (λ c. made_in block.now (changes_view changes.now) ≡ Some (content_view c)) }
+    ensures logged { IfOk result (λ c. IsLogged (content_view c)) }
     ensures errors { IfErr result (λ e. e ≡ Error.NoMemory) }
 {
     let log = Log::known(block, pair.end, pair.last);

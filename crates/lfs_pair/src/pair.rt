@@ -3,7 +3,7 @@
 ghost use Rattle.std.specs.Prelude.{◌≡◌, false, is_some, map};
 ghost use Rattle.lfs_model.specs.Content.{complete_all};
 ghost use Rattle.lfs_model.specs.Slots.{address_of, same_pair};
-ghost use Rattle.lfs_tag.specs.ContentSeen.{content_seen, slot_seen};
+ghost use Rattle.lfs_tag.specs.ContentView.{content_view, slot_view};
 ghost use Rattle.lfs_pair.specs.Pair.{EndsWith, SumsUp, other_in};
 
 use crate::writing::Written;
@@ -11,7 +11,7 @@ use lfs_tag::{Content, MoveState, Slot, Tag, Tail};
 
 // Returns whether each slot has a name and a struct.
 pub(crate) fn are_complete(slots: &[Slot<'_>]) -> bool
-    ensures { result ≡ is_some (complete_all (map slot_seen slots.now)) }
+    ensures { result ≡ is_some (complete_all (map slot_view slots.now)) }
 {
     for slot in slots {
         if slot.name.is_none() || slot.structure.is_none() {
@@ -48,7 +48,7 @@ pub struct Pair {
     pub slot_count: usize,
     /// What the pair's tail names: the next pair of the thread. None in the thread's last pair.
     pub tail: Option<Tail>,
-    /// The pair's share of the global state.
+    /// The pair's delta of the global state.
     pub move_state: MoveState,
     /// Whether each slot of the pair has a name and a struct.
     pub is_complete: bool,
@@ -81,7 +81,7 @@ impl Pair {
         ensures active { result.active ≡ active }
         ensures revision { result.revision ≡ revision }
         ensures ends { EndsWith written.end written.last result }
-        ensures sums { SumsUp (content_seen content.now) result }
+        ensures sums { SumsUp (content_view content.now) result }
         ensures fetched { result.is_fetched ≡ false }
     {
         Pair {

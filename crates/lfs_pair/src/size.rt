@@ -5,7 +5,7 @@ ghost use Rattle.std.specs.Option.{option_map};
 ghost use Rattle.lfs_model.specs.Disk.{pair_capacity, slot_limit};
 ghost use Rattle.lfs_model.specs.Slots.{attributes_size};
 ghost use Rattle.lfs_model.specs.WrittenContent.{part_size, raw_slot_size, raw_size, FitsRaw};
-ghost use Rattle.lfs_tag.specs.ContentSeen.{part_seen, attribute_seen, slot_seen, content_seen};
+ghost use Rattle.lfs_tag.specs.ContentView.{part_view, attribute_view, slot_view, content_view};
 
 use lfs_device::Geometry;
 use lfs_tag::{Attribute, Content, Part, Slot};
@@ -13,7 +13,7 @@ use lfs_tag::{Attribute, Content, Part, Slot};
 // Returns how many bytes a name or a struct takes with its tag, or the greatest number where there
 // are more. None takes no bytes.
 fn part_size(part: &Option<Part<'_>>) -> u64
-    ensures { result ≡ min (part_size (option_map part_seen part.now)) (2 ^ 64 - 1) }
+    ensures { result ≡ min (part_size (option_map part_view part.now)) (2 ^ 64 - 1) }
 {
     match part {
         None => 0,
@@ -23,7 +23,7 @@ fn part_size(part: &Option<Part<'_>>) -> u64
 
 /// Returns how many bytes the attributes take with their tags, or 2^64 - 1 where there are more.
 pub fn attributes_size(attributes: &[Attribute<'_>]) -> u64
-    ensures { result ≡ min (attributes_size (map attribute_seen attributes.now)) (2 ^ 64 - 1) }
+    ensures { result ≡ min (attributes_size (map attribute_view attributes.now)) (2 ^ 64 - 1) }
 {
     let mut total: u64 = 0;
     for attribute in attributes {
@@ -36,7 +36,7 @@ pub fn attributes_size(attributes: &[Attribute<'_>]) -> u64
 
 // Returns how many bytes a slot takes with its tags, or the greatest number where there are more.
 pub(crate) fn slot_size(slot: &Slot<'_>) -> u64
-    ensures { result ≡ min (raw_slot_size (slot_seen slot.now)) (2 ^ 64 - 1) }
+    ensures { result ≡ min (raw_slot_size (slot_view slot.now)) (2 ^ 64 - 1) }
 {
     part_size(&slot.name)
         .saturating_add(part_size(&slot.structure))
@@ -46,7 +46,7 @@ pub(crate) fn slot_size(slot: &Slot<'_>) -> u64
 // Returns how many bytes all slots take with their tags, or the greatest number where there are
 // more.
 pub(crate) fn slots_size(slots: &[Slot<'_>]) -> u64
-    ensures { result ≡ min (sum_by raw_slot_size (map slot_seen slots.now)) (2 ^ 64 - 1) }
+    ensures { result ≡ min (sum_by raw_slot_size (map slot_view slots.now)) (2 ^ 64 - 1) }
 {
     let mut total: u64 = 0;
     for slot in slots {
@@ -65,7 +65,7 @@ pub(crate) fn is_within(count: usize, size: u64, geometry: Geometry) -> bool
 /// Returns whether a pair may hold the content: at most [`Geometry::slot_limit`] slots, whose bytes
 /// are at most [`Geometry::pair_capacity`].
 pub fn fits(content: &Content<'_>, geometry: Geometry) -> bool
-    ensures { IsTrue result ↔ FitsRaw geometry.block_size geometry.page (content_seen content.now) }
+    ensures { IsTrue result ↔ FitsRaw geometry.block_size geometry.page (content_view content.now) }
 {
     is_within(content.slots.len(), slots_size(&content.slots), geometry)
 }

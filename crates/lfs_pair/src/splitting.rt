@@ -3,14 +3,14 @@
 ghost use Rattle.std.specs.Prelude.{◌≡◌, IfErr, IfOk};
 ghost use Rattle.lfs_device.specs.Shown.{disk_of};
 ghost use Rattle.lfs_model.specs.Blocks.{block_in};
-ghost use Rattle.lfs_device.specs.Calls.{TellsFaults};
+ghost use Rattle.lfs_device.specs.Calls.{ReportsFaults};
 ghost use Rattle.lfs_model.specs.History.{EachSince, LeavesOnly};
 ghost use Rattle.lfs_model.specs.Slots.{address_of};
 ghost use Rattle.lfs_model.specs.Stops.{ErasesCleanly, Stops};
-ghost use Rattle.lfs_tag.specs.ContentSeen.{content_seen};
+ghost use Rattle.lfs_tag.specs.ContentView.{content_view};
 ghost use Rattle.lfs_pair.specs.Pair.{address_in};
-ghost use Rattle.lfs_pair.specs.Commit.{Fails};
-ghost use Rattle.lfs_pair.specs.ChangeSeen.{changes_seen};
+ghost use Rattle.lfs_pair.specs.Commit.{CommitFails};
+ghost use Rattle.lfs_pair.specs.ChangeView.{changes_view};
 ghost use Rattle.lfs_pair.specs.Cut.{CanBeCut};
 ghost use Rattle.lfs_pair.specs.Writing.{ChangesReading};
 ghost use Rattle.lfs_pair.specs.Split.{blocks_of_both, CanSplit, Splits, LeftBySplit, AreParts};
@@ -26,7 +26,7 @@ use lfs_tag::{Content, MoveState, Tail};
 use std::alloc::Global;
 
 /// Commits changes to a pair and splits it: a fresh pair is made of two blocks and takes the later
-/// slots. The old pair keeps the first slots and its share of the global state, and gets a hard
+/// slots. The old pair keeps the first slots and its delta of the global state, and gets a hard
 /// tail to the fresh pair. The fresh pair gets the other slots and the old tail (DESIGN.md of
 /// littlefs, "The directory tree"). Returns the header of the fresh pair. The call takes at most
 /// four reads.
@@ -49,15 +49,15 @@ pub fn split<D: BlockDevice>(
     fresh: [u32; 2],
     changes: &[Change<'_>],
 ) -> Result<Pair, Error>
-    requires { CanSplit (disk_of (D.geometry dev.old) (D.blocks dev.old)) (D.history dev.old) pair.old (address_of fresh) (changes_seen changes.now) }
+    requires { CanSplit (disk_of (D.geometry dev.old) (D.blocks dev.old)) (D.history dev.old) pair.old (address_of fresh) (changes_view changes.now) }
 
-    ensures splits { IfOk result (λ fresh_pair. Splits (disk_of (D.geometry dev.old) (D.blocks dev.old)) (D.history dev.old) (changes_seen changes.now) pair.old (address_of fresh)
+    ensures splits { IfOk result (λ fresh_pair. Splits (disk_of (D.geometry dev.old) (D.blocks dev.old)) (D.history dev.old) (changes_view changes.now) pair.old (address_of fresh)
         (disk_of (D.geometry dev.new) (D.blocks dev.new)) (D.history dev.new) pair.new fresh_pair) }
-    ensures error { IfErr result (λ e. Fails D.BlockDevice dev.old dev.new pair.old pair.new e) }
+    ensures error { IfErr result (λ e. CommitFails D.BlockDevice dev.old dev.new pair.old pair.new e) }
     ensures device { ChangesReading D.BlockDevice 4 (blocks_of_both (address_in pair.old) (address_of fresh)) dev.old dev.new }
-    ensures faults { TellsFaults D.BlockDevice dev.old dev.new result }
+    ensures faults { ReportsFaults D.BlockDevice dev.old dev.new result }
     ensures stops { EachSince ErasesCleanly (D.history dev.old) (D.history dev.new)
-        → LeavesOnly Stops (D.history dev.old) (D.history dev.new) (LeftBySplit (disk_of (D.geometry dev.old) (D.blocks dev.old)) (address_in pair.old) (address_of fresh) (changes_seen changes.now)) }
+        → LeavesOnly Stops (D.history dev.old) (D.history dev.new) (LeftBySplit (disk_of (D.geometry dev.old) (D.blocks dev.old)) (address_in pair.old) (address_of fresh) (changes_view changes.now)) }
 {
     let block = read_block(alloc, dev, pair.active)?;
     let fresh_pair = split_in(alloc, dev, pair, fresh, &block, changes)?;
@@ -77,16 +77,16 @@ pub fn split_in<'a, 'b: 'a, D: BlockDevice>(
     block: &'a [u8],
     changes: &[Change<'b>],
 ) -> Result<Pair, Error>
-    requires can { CanSplit (disk_of (D.geometry dev.old) (D.blocks dev.old)) (D.history dev.old) pair.old (address_of fresh) (changes_seen changes.now) }
+    requires can { CanSplit (disk_of (D.geometry dev.old) (D.blocks dev.old)) (D.history dev.old) pair.old (address_of fresh) (changes_view changes.now) }
     requires block { block.now ≡ block_in (D.blocks dev.old) pair.old.active }
 
-    ensures splits { IfOk result (λ fresh_pair. Splits (disk_of (D.geometry dev.old) (D.blocks dev.old)) (D.history dev.old) (changes_seen changes.now) pair.old (address_of fresh)
+    ensures splits { IfOk result (λ fresh_pair. Splits (disk_of (D.geometry dev.old) (D.blocks dev.old)) (D.history dev.old) (changes_view changes.now) pair.old (address_of fresh)
         (disk_of (D.geometry dev.new) (D.blocks dev.new)) (D.history dev.new) pair.new fresh_pair) }
-    ensures error { IfErr result (λ e. Fails D.BlockDevice dev.old dev.new pair.old pair.new e) }
+    ensures error { IfErr result (λ e. CommitFails D.BlockDevice dev.old dev.new pair.old pair.new e) }
     ensures device { ChangesReading D.BlockDevice 3 (blocks_of_both (address_in pair.old) (address_of fresh)) dev.old dev.new }
-    ensures faults { TellsFaults D.BlockDevice dev.old dev.new result }
+    ensures faults { ReportsFaults D.BlockDevice dev.old dev.new result }
     ensures stops { EachSince ErasesCleanly (D.history dev.old) (D.history dev.new)
-        → LeavesOnly Stops (D.history dev.old) (D.history dev.new) (LeftBySplit (disk_of (D.geometry dev.old) (D.blocks dev.old)) (address_in pair.old) (address_of fresh) (changes_seen changes.now)) }
+        → LeavesOnly Stops (D.history dev.old) (D.history dev.new) (LeftBySplit (disk_of (D.geometry dev.old) (D.blocks dev.old)) (address_in pair.old) (address_of fresh) (changes_view changes.now)) }
 {
     let geometry = dev.geometry();
     let mut front = made_in(alloc, pair, block, changes)?;
@@ -104,8 +104,8 @@ fn cut_off<'a>(
     fresh: [u32; 2],
     geometry: Geometry,
 ) -> Result<Content<'a>, Error>
-    requires { CanBeCut geometry.block_size geometry.page (content_seen content.old).slots }
-    ensures parts { IfOk result (λ back. AreParts geometry.block_size geometry.page (content_seen content.old) (address_of fresh) (content_seen content.new) (content_seen back)) }
+    requires { CanBeCut geometry.block_size geometry.page (content_view content.old).slots }
+    ensures parts { IfOk result (λ back. AreParts geometry.block_size geometry.page (content_view content.old) (address_of fresh) (content_view content.new) (content_view back)) }
     ensures errors { IfErr result (λ e. e ≡ Error.NoMemory) }
 {
     let cut = cut_of(&content.slots, geometry);

@@ -2,7 +2,7 @@
 
 ghost use Rattle.std.specs.Prelude.{◌≡◌, ◌<◌, ◌≤◌, ◌+◌, ◌%◌, length, IfOk, IfErr, OnOk};
 ghost use Rattle.lfs_device.specs.Shown.{disk_of};
-ghost use Rattle.lfs_device.specs.Calls.{ReadsOnly, TellsFaults};
+ghost use Rattle.lfs_device.specs.Calls.{ReadsOnly, ReportsFaults};
 ghost use Rattle.lfs_model.specs.Blocks.{block_in};
 ghost use Rattle.lfs_model.specs.History.{AllUnprogrammed, EachSince, LeavesOnly, erases, programs, reads};
 ghost use Rattle.lfs_model.specs.LoggedContent.{HaveNames, IsLogged};
@@ -10,7 +10,7 @@ ghost use Rattle.lfs_model.specs.Commit.{entries_size, next_at, page_end};
 ghost use Rattle.lfs_model.specs.Stops.{ErasesCleanly, Stops};
 ghost use Rattle.lfs_model.specs.WrittenContent.{FitsRaw, written_entries};
 ghost use Rattle.lfs_tag.specs.Builder.{GoesTo, padded_end};
-ghost use Rattle.lfs_tag.specs.ContentSeen.{content_seen};
+ghost use Rattle.lfs_tag.specs.ContentView.{content_view};
 ghost use Rattle.lfs_pair.specs.Writing.{Adds, HoldsAnew, IsWritten, LeftByCommit, LeftByWriting, LeftInBlock, WritesBlock};
 
 use crate::entries::push_content;
@@ -33,7 +33,7 @@ fn next_bytes<D: BlockDevice>(dev: &mut D, block: u32, at: u32) -> Result<Option
     ensures bytes { IfOk result (λ next. next ≡ next_at (block_in (D.blocks dev.old) block) at) }
     ensures device { ReadsOnly D.BlockDevice dev.old dev.new }
     ensures errors { IfErr result (λ e. e ≡ Error.Io) }
-    ensures faults { TellsFaults D.BlockDevice dev.old dev.new result }
+    ensures faults { ReportsFaults D.BlockDevice dev.old dev.new result }
     ensures few { reads (D.history dev.new) ≤ reads (D.history dev.old) + 1 }
 {
     if dev.geometry().block_size - at < 4 {
@@ -88,16 +88,16 @@ pub(crate) fn write_anew<D: BlockDevice>(
 ) -> Result<Written, Error>
     requires in_device { block < (D.geometry dev.old).block_count }
     requires buf { length buf.old ≡ (D.geometry dev.old).block_size }
-    requires logged { IsLogged (content_seen content.now) }
-    requires names { HaveNames (content_seen content.now).slots }
-    requires fits { FitsRaw (D.geometry dev.old).block_size (D.geometry dev.old).page (content_seen content.now) }
+    requires logged { IsLogged (content_view content.now) }
+    requires names { HaveNames (content_view content.now).slots }
+    requires fits { FitsRaw (D.geometry dev.old).block_size (D.geometry dev.old).page (content_view content.now) }
 
-    ensures size { IfOk result (λ written. written.end ≡ page_end (D.geometry dev.old).page (4 + entries_size (written_entries (content_seen content.now)))) }
+    ensures size { IfOk result (λ written. written.end ≡ page_end (D.geometry dev.old).page (4 + entries_size (written_entries (content_view content.now)))) }
     ensures written { IfOk result (λ written. IsWritten (disk_of (D.geometry dev.new) (D.blocks dev.new)) (D.history dev.new) block written.end written.last) }
-    ensures anew { OnOk result (HoldsAnew revision (content_seen content.now) (block_in (D.blocks dev.new) block) (D.history dev.old) (D.history dev.new)) }
+    ensures anew { OnOk result (HoldsAnew revision (content_view content.now) (block_in (D.blocks dev.new) block) (D.history dev.old) (D.history dev.new)) }
     ensures writes { WritesBlock D.BlockDevice 1 block dev.old dev.new result }
     ensures stops { EachSince ErasesCleanly (D.history dev.old) (D.history dev.new)
-        → LeavesOnly Stops (D.history dev.old) (D.history dev.new) (LeftInBlock block (LeftByWriting revision (content_seen content.now)) (D.blocks dev.old)) }
+        → LeavesOnly Stops (D.history dev.old) (D.history dev.new) (LeftInBlock block (LeftByWriting revision (content_view content.now)) (D.blocks dev.old)) }
 {
     let page = dev.geometry().page;
     let before = Tag::from_bits(0xffff_ffff);

@@ -1,1 +1,1 @@
-mod LastTurn
+mod LastStep

@@ -1,7 +1,7 @@
 -- The device in hand, and its calls.
 use Rattle.std.specs.Prelude.{◌≡◌, ◌-◌, ◌^◌, List, Option, Some, None, min}
 use Rattle.lfs_device.specs.FaultDevice.{history_of, inner_of}
-use Rattle.lfs_device.specs.RamDevice.{blocks_of, geometry_of}
+use Rattle.lfs_device.specs.RamDevice.{ram_blocks, geometry_of}
 use Rattle.lfs_device.specs.Shown.{disk_of, ordered}
 use Rattle.lfs_device.specs.declared.ram.RamDevice.{RamDevice}
 use Rattle.lfs_fs.specs.Held.{Held}
@@ -15,7 +15,7 @@ use Rattle.lfs_script.specs.declared.hand.Hand.TheVariants as hand
 
 -- The device shows the session's disk, and has had its calls.
 pub record IsLeftBy (session : Held) (ram : RamDevice) (calls : List Event) : Type 0 where
-  pub disk : ordered session.tree.disk.order (disk_of (geometry_of ram) (blocks_of ram)) ≡ session.tree.disk
+  pub disk : ordered session.tree.disk.order (disk_of (geometry_of ram) (ram_blocks ram)) ≡ session.tree.disk
   pub history : calls ≡ session.tree.history
 
 -- how many calls there were, and how many of them failed; no count passes the largest number of 64 bits

@@ -1,4 +1,4 @@
 pub mod Answered
 pub mod InHand
-pub mod OperationSeen
+pub mod OperationView
 pub mod Performed

@@ -1,16 +1,16 @@
 -- What an operation is answered by what is in hand.
 use Rattle.std.specs.Prelude.{◌≡◌}
-use Rattle.lfs_fs.specs.Held.{moment_of}
+use Rattle.lfs_fs.specs.Held.{system_state_of}
 use Rattle.lfs_script_lines.specs.declared.answer.Answer.{Answer}
 use Rattle.lfs_script_lines.specs.declared.answer.Answer.TheVariants as answer
 use Rattle.lfs_script_lines.specs.declared.command.Operation.{Operation}
 use Rattle.lfs_script.specs.Answered.{IsAnswered}
-use Rattle.lfs_script.specs.OperationSeen.{operation_seen}
+use Rattle.lfs_script.specs.OperationView.{operation_view}
 use Rattle.lfs_script.specs.declared.hand.Hand.{Hand}
 use Rattle.lfs_script.specs.declared.hand.Hand.TheVariants as hand
 
 -- The session answers it; without one nothing is done.
 abbrev pub IsPerformed : Hand → Operation → Answer → Hand → Type 0
-IsPerformed (hand.Session s) op given (hand.Session t) = IsAnswered (moment_of s) (operation_seen op) given (moment_of t)
+IsPerformed (hand.Session s) op given (hand.Session t) = IsAnswered (system_state_of s) (operation_view op) given (system_state_of t)
 IsPerformed (hand.Session s) op given _ = ⊥
 IsPerformed from op given to = (given ≡ answer.Nothing) × (to ≡ from)

@@ -2,7 +2,7 @@
 
 ghost use Rattle.std.specs.Prelude.{◌≡◌, ◌<◌, ◌≤◌, ◌++◌, ◌∷◌, length, IfOk};
 
-use crate::hand::{Device, NO_FAULT, told};
+use crate::hand::{Device, NO_FAULT, with_fault};
 use lfs_device::{BlockDevice, Error, Geometry, RamDevice};
 use lfs_fs::{OpenFlags, Reply, Session, mount};
 use lfs_lookup::ListItem;
@@ -12,7 +12,7 @@ use std::alloc::{AllocError, Global};
 // A session on a device that holds these bytes.
 fn mounted(alloc: Global, geometry: Geometry, bytes: Vec<u8>) -> Result<Session<Device>, Error> {
     let device = RamDevice::from_bytes(geometry, bytes)?;
-    match mount(alloc, told(device, NO_FAULT)) {
+    match mount(alloc, with_fault(device, NO_FAULT)) {
         Ok(session) => Ok(session),
         Err((_, error)) => Err(error),
     }

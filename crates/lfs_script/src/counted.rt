@@ -55,7 +55,7 @@ impl<D: BlockDevice> BlockDevice for Counted<D> {
 
     ghost newest = { λ d. D.newest d.inner };
 
-    ghost obeyed = { λ d. D.obeyed d.inner };
+    ghost conforms = { λ d. D.conforms d.inner };
 
     fn geometry(&self) -> Geometry {
         self.inner.geometry()

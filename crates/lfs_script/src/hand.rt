@@ -21,7 +21,7 @@ pub const NO_FAULT: Fault = Fault {
 };
 
 /// The device with its calls counted from now on, of which one may be told to fail.
-pub fn told(device: RamDevice, fault: Fault) -> Device
+pub fn with_fault(device: RamDevice, fault: Fault) -> Device
     ensures fault { fault_of result.inner ≡ fault }
     ensures device { inner_of result.inner ≡ device }
     ensures no_call { history_of result.inner ≡ [] }

@@ -1,10 +1,10 @@
 // What a session answers to a script's operations.
 
 ghost use Rattle.std.specs.Prelude.{◌≡◌};
-ghost use Rattle.lfs_fs.specs.Held.{moment_of};
-ghost use Rattle.lfs_fs.specs.OpSeen.{op_seen};
+ghost use Rattle.lfs_fs.specs.Held.{system_state_of};
+ghost use Rattle.lfs_fs.specs.OpView.{op_view};
 ghost use Rattle.lfs_script.specs.Answered.{IsAnswered};
-ghost use Rattle.lfs_script.specs.OperationSeen.{operation_seen};
+ghost use Rattle.lfs_script.specs.OperationView.{operation_view};
 
 use lfs_device::BlockDevice;
 use lfs_fs::{Op, Session};
@@ -13,7 +13,7 @@ use std::alloc::Global;
 
 // The session's own operation.
 fn op_of(operation: &Operation) -> Op<'_>
-    ensures { op_seen result ≡ operation_seen operation.now }
+    ensures { op_view result ≡ operation_view operation.now }
 {
     match operation {
         Operation::Open(path, flags) => Op::Open(path, *flags),
@@ -41,7 +41,7 @@ fn op_of(operation: &Operation) -> Op<'_>
 
 // Carries out an operation of the session's own.
 fn perform_op<D: BlockDevice>(alloc: Global, session: &mut Session<D>, op: Op<'_>) -> Answer
-    ensures { IsAnswered (moment_of session.old) (op_seen op.entry) result (moment_of session.new) }
+    ensures { IsAnswered (system_state_of session.old) (op_view op.entry) result (system_state_of session.new) }
 {
     match session.run(alloc, &[op]) {
         Ok(mut replies) => match replies.pop() {
@@ -60,7 +60,7 @@ pub fn perform<D: BlockDevice>(
     session: &mut Session<D>,
     operation: &Operation,
 ) -> Answer
-    ensures { IsAnswered (moment_of session.old) (operation_seen operation.now) result (moment_of session.new) }
+    ensures { IsAnswered (system_state_of session.old) (operation_view operation.now) result (system_state_of session.new) }
 {
     perform_op(alloc, session, op_of(operation))
 }

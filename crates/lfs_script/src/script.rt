@@ -5,7 +5,7 @@ ghost use Rattle.lfs_script.specs.InHand.{IsCompared, IsUnmounted, calls_answer,
 ghost use Rattle.lfs_script.specs.Performed.{IsPerformed};
 
 use crate::comparison::{compare, compare_with};
-use crate::hand::{Device, Hand, NO_FAULT, calls_of, told};
+use crate::hand::{Device, Hand, NO_FAULT, calls_of, with_fault};
 use crate::images::{blank, device_of, read_file, write_file};
 use crate::performing::perform;
 use lfs_device::{Erased, Error, Fault, NameOrder, RamDevice};
@@ -67,7 +67,7 @@ impl<'a, R: Files + AllocGlobal> Script<'a, R> {
     ) -> Answer {
         match device {
             Ok(device) => {
-                let device = told(device.erased_as(erased), NO_FAULT);
+                let device = with_fault(device.erased_as(erased), NO_FAULT);
                 self.begin(format_ordered(self.rt.alloc(), device, order))
             }
             Err(error) => Answer::Error(error),
@@ -80,7 +80,7 @@ impl<'a, R: Files + AllocGlobal> Script<'a, R> {
         };
         match device_of(bytes, block_size, page) {
             Ok(device) => {
-                let device = told(device.erased_as(erased), NO_FAULT);
+                let device = with_fault(device.erased_as(erased), NO_FAULT);
                 self.begin(mount(self.rt.alloc(), device))
             }
             Err(error) => Answer::Error(error),
@@ -105,7 +105,7 @@ impl<'a, R: Files + AllocGlobal> Script<'a, R> {
     fn mount(&mut self, fault: Fault) -> Answer {
         match mem::replace(&mut self.hand, Hand::Nothing).into_device() {
             Some(device) => {
-                let device = told(device.into_inner().into_inner(), fault);
+                let device = with_fault(device.into_inner().into_inner(), fault);
                 self.begin(mount(self.rt.alloc(), device))
             }
             None => Answer::Nothing,

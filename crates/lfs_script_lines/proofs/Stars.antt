@@ -8,11 +8,11 @@ use Rattle.std.proofs.lemmas.Bool.Decides.{nat_tests}
 use Rattle.lfs_script_lines.specs.Words.{AreCounts, starred, times_in}
 
 -- What is left of a word that has counts before it, and how often that is meant.
-abbrev pub IsLeft : List ℕ → ℕ → List ℕ → Type 0
-IsLeft word count rest = (counts tail : List ℕ) → AreCounts counts → get_or tail 0 0 ≢ 0x2a → word ≡ starred counts tail
+abbrev pub IsLineLeft : List ℕ → ℕ → List ℕ → Type 0
+IsLineLeft word count rest = (counts tail : List ℕ) → AreCounts counts → get_or tail 0 0 ≢ 0x2a → word ≡ starred counts tail
     → (left : List ℕ) × (AreCounts left × (rest ≡ starred left tail) × (min (count * times_in left) (2 ^ 64 - 1) ≡ min (times_in counts) (2 ^ 64 - 1)))
 
-pub all_left : (word : List ℕ) → IsLeft word 1 word
+pub all_left : (word : List ℕ) → IsLineLeft word 1 word
 all_left word counts tail are starless is = (counts, (are, is, ap (λ k. min k (2 ^ 64 - 1)) (let e : 1 * times_in counts ≡ times_in counts = omega arith in e)))
 
 -- ---- a star
@@ -65,8 +65,8 @@ cut_twice a (suc k) m = split (cases_lt m a)
         ap (λ n. min (n * suc k) m) e ∙ (let same : min (m * suc k) m ≡ min (a * suc k) m = rw (mul-suc m k, mul-suc a k) (omega arith) in same)
 
 -- the next count was read
-pub left_behind : (word rest behind further : List ℕ) (count times next : ℕ) → IsLeft word count rest → rest ≡ 0x2a ∷ behind
-    → ((n : ℕ) (more : List ℕ) → n < 2 ^ 32 → behind ≡ decimal n ++ 0x3a ∷ more → (times ≡ n) × (further ≡ more)) → next ≡ min (count * times) (2 ^ 64 - 1) → IsLeft word next further
+pub left_behind : (word rest behind further : List ℕ) (count times next : ℕ) → IsLineLeft word count rest → rest ≡ 0x2a ∷ behind
+    → ((n : ℕ) (more : List ℕ) → n < 2 ^ 32 → behind ≡ decimal n ++ 0x3a ∷ more → (times ≡ n) × (further ≡ more)) → next ≡ min (count * times) (2 ^ 64 - 1) → IsLineLeft word next further
 left_behind word rest behind further count times next inv star read is counts tail are starless at =
     let left = inv counts tail are starless at in
     let one = counted left.0 tail rest behind left.1.0 starless left.1.1 star in
@@ -76,7 +76,7 @@ left_behind word rest behind further count times next inv star read is counts ta
     (one.more, (one.are, got.1, ap (λ n. min (n * times_in one.more) (2 ^ 64 - 1)) is ∙ cut_twice (count * times) (times_in one.more) (2 ^ 64 - 1) ∙ ap (λ n. min n (2 ^ 64 - 1)) product ∙ left.1.2))
 
 -- the next count is one that can be read
-pub none_unread : (word rest behind : List ℕ) (count : ℕ) → IsLeft word count rest → rest ≡ 0x2a ∷ behind → ((n : ℕ) (more : List ℕ) → n < 2 ^ 32 → behind ≡ decimal n ++ 0x3a ∷ more → ⊥)
+pub none_unread : (word rest behind : List ℕ) (count : ℕ) → IsLineLeft word count rest → rest ≡ 0x2a ∷ behind → ((n : ℕ) (more : List ℕ) → n < 2 ^ 32 → behind ≡ decimal n ++ 0x3a ∷ more → ⊥)
     → (counts tail : List ℕ) → AreCounts counts → get_or tail 0 0 ≢ 0x2a → word ≡ starred counts tail → ⊥
 none_unread word rest behind count inv star unread counts tail are starless at =
     let left = inv counts tail are starless at in
@@ -88,7 +88,7 @@ no_count [] tail rest count all starless small is times = (omega arith, is)
 no_count (n ∷ left) tail rest count all starless small is times = absurd (starless (ap (λ (w : List ℕ). get_or w 0 0) is))
 
 -- all counts were read
-pub none_left : (word rest : List ℕ) (count : ℕ) → IsLeft word count rest → get_or rest 0 0 ≢ 0x2a → count < 2 ^ 64 → (counts tail : List ℕ) → AreCounts counts → get_or tail 0 0 ≢ 0x2a → word ≡ starred counts tail
+pub none_left : (word rest : List ℕ) (count : ℕ) → IsLineLeft word count rest → get_or rest 0 0 ≢ 0x2a → count < 2 ^ 64 → (counts tail : List ℕ) → AreCounts counts → get_or tail 0 0 ≢ 0x2a → word ≡ starred counts tail
     → (count ≡ min (times_in counts) (2 ^ 64 - 1)) × (rest ≡ tail)
 none_left word rest count inv starless small counts tail are tailless at =
     let left = inv counts tail are tailless at in

@@ -93,15 +93,15 @@ pub nothing_follows : (block : List ℕ) (end size : ℕ) (next : Option (List �
     → entry_at block end (carried (tag_with (checksum_type next) no_id size)) ≡ None
 unfolding entry_at
 nothing_follows block end size None are small is =
-    let short : ltb (length block) (end + 4) ≡ true = told (ltb (length block) (end + 4)) is in
+    let short : ltb (length block) (end + 4) ≡ true = reported (ltb (length block) (end + 4)) is in
     rw short refl
   where
-    told : (t : Bool) → cond t None (Some (take 4 (drop end block))) ≡ None → t ≡ true
-    told true h = refl
-    told false h = absurd (cc)
+    reported : (t : Bool) → cond t None (Some (take 4 (drop end block))) ≡ None → t ≡ true
+    reported true h = refl
+    reported false h = absurd (cc)
 nothing_follows block end size (Some bytes) are small is =
     let tag = tag_with (checksum_type (Some bytes)) no_id size in
-    let held : take 4 (drop end block) ≡ bytes = told (ltb (length block) (end + 4)) is in
+    let held : take 4 (drop end block) ≡ bytes = reported (ltb (length block) (end + 4)) is in
     let number : big_number 4 (drop end block) ≡ big_number 4 bytes = sym (big_from-take 0 4 4 (drop end block) (omega arith)) ∙ ap (big_number 4) held in
     let high : tag_at block end (carried tag) / 2 ^ 31 ≡ 1 =
     rw (number, carried_is (checksum_type (Some bytes)) size (kind_cases (Some bytes)) small)
@@ -109,9 +109,9 @@ nothing_follows block end size (Some bytes) are small is =
     let invalid : leb (2 ^ 31) (tag_at block end (carried tag)) ≡ true = grind (arith, nat_tests, high) in
     rw invalid (either (ltb (length block) (end + 4)) (ltb (length block) (end + 4 + data_size (tag_at block end (carried tag)))) _)
   where
-    told : (t : Bool) → cond t None (Some (take 4 (drop end block))) ≡ Some bytes → take 4 (drop end block) ≡ bytes
-    told true h = absurd (cc)
-    told false h = cc
+    reported : (t : Bool) → cond t None (Some (take 4 (drop end block))) ≡ Some bytes → take 4 (drop end block) ≡ bytes
+    reported true h = absurd (cc)
+    reported false h = cc
 
     either : (a b : Bool) (e : LogEntry) → cond (a || (true || b)) None (Some e) ≡ None
     either true b e = refl

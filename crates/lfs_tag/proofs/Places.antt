@@ -8,7 +8,7 @@ use Rattle.lfs_model.specs.Slots.{Attributes}
 use Rattle.lfs_model.specs.Content.{RawSlot, empty_slot, put_attribute, without_attribute, changed}
 use Rattle.lfs_tag.specs.declared.content.Slot.{Slot}
 use Rattle.lfs_tag.specs.declared.content.Attribute.{Attribute}
-use Rattle.lfs_tag.specs.ContentSeen.{slot_seen, attribute_seen, first_not_below}
+use Rattle.lfs_tag.specs.ContentView.{slot_view, attribute_view, first_not_below}
 
 pub map-remove : {X Y : Type 0} (f : X → Y) (xs : List X) (i : ℕ) → map f (remove xs i) ≡ remove (map f xs) i
 map-remove f xs i = map-append f (take i xs) (drop (suc i) xs) ∙ rw (take-map f i xs, drop-map f (suc i) xs) refl
@@ -65,14 +65,14 @@ first_within type (a ∷ xs) = by_test (leb type a.0) (first_within type xs)
     by_test true within = omega arith
     by_test false within = omega arith
 
-pub without_is : (kind : ℕ) (xs : List Attribute) → map attribute_seen (filter (λ a. not (eqb a.kind kind)) xs) ≡ without_attribute kind (map attribute_seen xs)
+pub without_is : (kind : ℕ) (xs : List Attribute) → map attribute_view (filter (λ a. not (eqb a.kind kind)) xs) ≡ without_attribute kind (map attribute_view xs)
 without_is kind [] = refl
 without_is kind (a ∷ xs) = by_test (eqb a.kind kind) (without_is kind xs)
   where
-    by_test : (b : Bool) → map attribute_seen (filter (λ a. not (eqb a.kind kind)) xs) ≡ without_attribute kind (map attribute_seen xs) → map attribute_seen (cond (not b) (a ∷ filter (λ a. not (eqb a.kind kind)) xs) (filter (λ a. not (eqb a.kind kind)) xs))
-        ≡ cond (not b) (attribute_seen a ∷ without_attribute kind (map attribute_seen xs)) (without_attribute kind (map attribute_seen xs))
+    by_test : (b : Bool) → map attribute_view (filter (λ a. not (eqb a.kind kind)) xs) ≡ without_attribute kind (map attribute_view xs) → map attribute_view (cond (not b) (a ∷ filter (λ a. not (eqb a.kind kind)) xs) (filter (λ a. not (eqb a.kind kind)) xs))
+        ≡ cond (not b) (attribute_view a ∷ without_attribute kind (map attribute_view xs)) (without_attribute kind (map attribute_view xs))
     by_test true rest = rest
-    by_test false rest = ap (λ (ys : Attributes). attribute_seen a ∷ ys) rest
+    by_test false rest = ap (λ (ys : Attributes). attribute_view a ∷ ys) rest
 
 -- ---- slots
 
@@ -81,7 +81,7 @@ pub one_more : (xs ys : List RawSlot) (n : ℕ) → ys ≡ xs ++ replicate n emp
 one_more xs ys n e = rw (e, append_assoc xs (replicate n empty_slot) (empty_slot ∷ [])) (ap (λ (t : List RawSlot). xs ++ t) (replicate-append-replicate n 1 empty_slot))
 
 -- a slot that is changed in the code is changed as it is seen
-pub changed_is : (f : RawSlot → RawSlot) (xs : List Slot) (i : ℕ) (x y : Slot) → i < length xs → x ≡ get_or xs i x → slot_seen y ≡ f (slot_seen x)
-    → map slot_seen (set xs i y) ≡ changed f (map slot_seen xs) i
+pub changed_is : (f : RawSlot → RawSlot) (xs : List Slot) (i : ℕ) (x y : Slot) → i < length xs → x ≡ get_or xs i x → slot_view y ≡ f (slot_view x)
+    → map slot_view (set xs i y) ≡ changed f (map slot_view xs) i
 changed_is f xs i x y lt is new =
-    map-set slot_seen xs i y ∙ ap (set (map slot_seen xs) i) (new ∙ ap f (ap slot_seen is ∙ sym (get_or-map slot_seen xs i x empty_slot lt)))
+    map-set slot_view xs i y ∙ ap (set (map slot_view xs) i) (new ∙ ap f (ap slot_view is ∙ sym (get_or-map slot_view xs i x empty_slot lt)))

@@ -6,14 +6,14 @@ use Rattle.lfs_device.specs.declared.error.Error.{Error}
 use Rattle.lfs_device.specs.declared.error.Error.TheVariants.{Corrupt, NoMemory}
 
 -- an error is the malformed log, or want of memory, which may come at any log
-abbrev pub Fails : {S : Type 0} → ContentError → Option S → Type 0
-Fails errors.NoMemory o = Unit {0}
-Fails errors.Malformed o = o ≡ None
+abbrev pub ContentFails : {S : Type 0} → ContentError → Option S → Type 0
+ContentFails errors.NoMemory o = Unit {0}
+ContentFails errors.Malformed o = o ≡ None
 
 -- what was computed is what is left, unless memory ran out
 abbrev pub Gives : {X S : Type 0} → (X → S) → Result X ContentError → Option S → Type 0
 Gives view (Ok x) o = o ≡ Some (view x)
-Gives view (Err e) o = Fails e o
+Gives view (Err e) o = ContentFails e o
 
 -- as the file system's error
 abbrev pub error_of : ContentError → Error

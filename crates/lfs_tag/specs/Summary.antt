@@ -8,8 +8,8 @@ use Rattle.lfs_model.specs.Tag.{kind_of, id_of, class_of}
 use Rattle.lfs_model.specs.Log.{LogEntry, log_entries}
 use Rattle.lfs_model.specs.Content.{RawSlot, RawContent, content_after_all, no_content, completed}
 use Rattle.lfs_model.specs.EntryTypes.{create_type, delete_type, is_in_table, has_its_id, tail_of, gstate_at}
-use Rattle.lfs_tag.specs.ContentSeen.{tail_seen}
-use Rattle.lfs_tag.specs.FieldsSeen.{move_seen}
+use Rattle.lfs_tag.specs.ContentView.{tail_view}
+use Rattle.lfs_tag.specs.FieldsView.{move_view}
 use Rattle.lfs_tag.specs.declared.summary.Mark.{Mark}
 use Rattle.lfs_tag.specs.declared.summary.Outline as code
 use Rattle.lfs_tag.specs.declared.summary.Summary.{Summary}
@@ -18,8 +18,8 @@ use Rattle.lfs_tag.specs.declared.summary.Summary.{Summary}
 pub record Sums (block : List ℕ) (c : RawContent) (s : Summary) : Type 0 where
   pub content : content_after_all no_content (log_entries block) ≡ Some c
   pub slot_count : s.slot_count ≡ length c.slots
-  pub tail : option_map tail_seen s.tail ≡ c.tail
-  pub move_state : move_seen s.move_state ≡ c.move
+  pub tail : option_map tail_view s.tail ≡ c.tail
+  pub move_state : move_view s.move_state ≡ c.move
   pub complete : s.is_complete ≡ is_some (completed c)
 
 -- ---- how it is computed: of each slot only whether it has a name and a struct
@@ -35,8 +35,8 @@ pub record Outline : Type 0 where
 abbrev pub outline_of : RawContent → Outline
 outline_of c = record { marks = map mark_of c.slots; tail = c.tail; move = c.move }
 
-abbrev pub outline_seen : code.Outline → Outline
-outline_seen o = record { marks = o.marks.items; tail = option_map tail_seen o.tail; move = move_seen o.move_state }
+abbrev pub outline_view : code.Outline → Outline
+outline_view o = record { marks = o.marks.items; tail = option_map tail_view o.tail; move = move_view o.move_state }
 
 abbrev pub no_mark : Mark
 no_mark = record { has_name = false; has_struct = false }

@@ -6,5 +6,5 @@ use Rattle.lfs_model.specs.Log.{LogEntry, IsRun, entries_between}
 abbrev pub left : Inside → List LogEntry
 left s = entries_between s.block.now s.at s.before s.end
 
-pub record IsLeft (s : Inside) : Type 0 where
+pub record IsLeftToWalk (s : Inside) : Type 0 where
   pub run : IsRun s.block.now s.at s.before (left s) s.end s.last

@@ -39,7 +39,7 @@ impl<'a> Model for CommitBuilder<'a> {
 
     ghost Value = { Building };
 
-    ghost use Rattle.lfs_tag.specs.BuilderSeen.{building, IsBuilt};
+    ghost use Rattle.lfs_tag.specs.BuilderView.{building, IsBuilt};
 
     ghost view = { building };
 
@@ -139,7 +139,7 @@ impl<'a> CommitBuilder<'a> {
         };
         CommitBuilder {
             page: page as usize,
-            pushed: Pushed::told_by(&(page, buf.len(), previous, revision), &()),
+            pushed: Pushed::from_proof(&(page, buf.len(), previous, revision), &()),
             buf,
             len,
             last: previous,
@@ -158,7 +158,7 @@ impl<'a> CommitBuilder<'a> {
         let stored = tag.encode(self.last);
         let buf = &mut *self.buf;
         let end = write_entry(buf, self.len, stored, bytes);
-        self.pushed = Pushed::told_by(&self.pushed, &(tag, bytes));
+        self.pushed = Pushed::from_proof(&self.pushed, &(tag, bytes));
         self.len = end;
         self.last = tag;
     }

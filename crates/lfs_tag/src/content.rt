@@ -7,9 +7,9 @@ ghost use Rattle.lfs_model.specs.Log.{LogEntry, log_entries};
 ghost use Rattle.lfs_model.specs.EntryTypes.{is_in_table, has_its_id, tail_of};
 ghost use Rattle.lfs_model.specs.Content.{put_attribute, without_attribute, with_attribute, empty_slot, slot_of_id, changed, up_to, typed, slots_after, content_after, content_after_all, no_content};
 ghost use Rattle.lfs_model.specs.Thread.{is_hard};
-ghost use Rattle.lfs_tag.specs.Seen.{seen};
-ghost use Rattle.lfs_tag.specs.FieldsSeen.{move_seen};
-ghost use Rattle.lfs_tag.specs.ContentSeen.{part_seen, attribute_seen, slot_seen, tail_seen, content_seen, first_not_below};
+ghost use Rattle.lfs_tag.specs.LogEntryView.{log_entry_view};
+ghost use Rattle.lfs_tag.specs.FieldsView.{move_view};
+ghost use Rattle.lfs_tag.specs.ContentView.{part_view, attribute_view, slot_view, tail_view, content_view, first_not_below};
 ghost use Rattle.lfs_tag.specs.ContentGives.{Gives};
 
 use crate::entry::Entry;
@@ -56,7 +56,7 @@ pub struct Tail {
 
 /// Whether a tail goes on with the same directory: there is one, and it is hard.
 pub fn is_hard(tail: Option<Tail>) -> bool
-    ensures { result ≡ is_hard (option_map tail_seen tail) }
+    ensures { result ≡ is_hard (option_map tail_view tail) }
 {
     match tail {
         None => false,
@@ -134,7 +134,7 @@ pub(crate) fn has_its_id(tag: Tag) -> bool
 }
 
 fn empty_slot<'a>(alloc: Global) -> Slot<'a>
-    ensures { slot_seen result ≡ empty_slot }
+    ensures { slot_view result ≡ empty_slot }
 {
     Slot {
         name: None,
@@ -145,7 +145,7 @@ fn empty_slot<'a>(alloc: Global) -> Slot<'a>
 
 // Where the first attribute of a type or a greater one stands, or the length.
 fn place_of(attributes: &[Attribute<'_>], kind: u8) -> usize
-    ensures { result ≡ first_not_below kind (map attribute_seen attributes.now) }
+    ensures { result ≡ first_not_below kind (map attribute_view attributes.now) }
 {
     for (i, attribute) in attributes.iter().enumerate() {
         if kind <= attribute.kind {
@@ -160,7 +160,7 @@ fn set_attribute<'a>(
     attributes: &mut Vec<Attribute<'a>>,
     attribute: Attribute<'a>,
 ) -> Result<(), AllocError>
-    ensures { OnOk result (map attribute_seen attributes.new.items ≡ put_attribute attribute.entry.kind attribute.entry.bytes.now (map attribute_seen attributes.old.items)) }
+    ensures { OnOk result (map attribute_view attributes.new.items ≡ put_attribute attribute.entry.kind attribute.entry.bytes.now (map attribute_view attributes.old.items)) }
 {
     let place = place_of(attributes, attribute.kind);
     if place < attributes.len() && attributes[place].kind == attribute.kind {
@@ -181,7 +181,7 @@ fn remove_attribute(attributes: &mut Vec<Attribute<'_>>, kind: u8)
 // Adds empty slots up to an id.
 fn fill_up(alloc: Global, slots: &mut Vec<Slot<'_>>, id: usize) -> Result<(), AllocError>
     requires { id < 1024 }
-    ensures filled { OnOk result (map slot_seen slots.new.items ≡ up_to (map slot_seen slots.old.items) id) }
+    ensures filled { OnOk result (map slot_view slots.new.items ≡ up_to (map slot_view slots.old.items) id) }
     ensures long { OnOk result (id < vec_len slots.new) }
 {
     while slots.len() <= id {
@@ -198,7 +198,7 @@ fn put_name<'a>(
     part: Part<'a>,
 ) -> Result<(), AllocError>
     requires { id < 1024 }
-    ensures { OnOk result (map slot_seen slots.new.items ≡ changed (λ s. record s { name = Some (part_seen part.entry) }) (up_to (map slot_seen slots.old.items) id) id) }
+    ensures { OnOk result (map slot_view slots.new.items ≡ changed (λ s. record s { name = Some (part_view part.entry) }) (up_to (map slot_view slots.old.items) id) id) }
 {
     fill_up(alloc, slots, id)?;
     let slot = &mut slots[id];
@@ -209,7 +209,7 @@ fn put_name<'a>(
 // Gives a slot its struct.
 fn put_structure<'a>(slots: &mut Vec<Slot<'a>>, id: usize, part: Part<'a>)
     requires { id < vec_len slots.old }
-    ensures { map slot_seen slots.new.items ≡ changed (λ s. record s { struct = Some (part_seen part.entry) }) (map slot_seen slots.old.items) id }
+    ensures { map slot_view slots.new.items ≡ changed (λ s. record s { struct = Some (part_view part.entry) }) (map slot_view slots.old.items) id }
 {
     let slot = &mut slots[id];
     slot.structure = Some(part);
@@ -222,7 +222,7 @@ fn change_attribute<'a>(
     entry: &Entry<'a>,
 ) -> Result<(), AllocError>
     requires { id < vec_len slots.old }
-    ensures { OnOk result (map slot_seen slots.new.items ≡ changed (λ s. record s { attributes = with_attribute (seen entry.now) s.attributes }) (map slot_seen slots.old.items) id) }
+    ensures { OnOk result (map slot_view slots.new.items ≡ changed (λ s. record s { attributes = with_attribute (log_entry_view entry.now) s.attributes }) (map slot_view slots.old.items) id) }
 {
     let slot = &mut slots[id];
     let kind = entry.tag.chunk();
@@ -237,7 +237,7 @@ fn change_attribute<'a>(
 
 // Whether a slot is there and has a name.
 fn is_named(slots: &[Slot<'_>], id: usize) -> bool
-    ensures value { result ≡ is_some (slot_of_id (map slot_seen slots.now) id).name }
+    ensures value { result ≡ is_some (slot_of_id (map slot_view slots.now) id).name }
     ensures there { IsTrue result → id < length slots.now }
 {
     if id < slots.len() {
@@ -250,7 +250,7 @@ fn is_named(slots: &[Slot<'_>], id: usize) -> bool
 // Inserts an empty slot.
 fn insert_empty(alloc: Global, slots: &mut Vec<Slot<'_>>, id: usize) -> Result<(), AllocError>
     requires { id ≤ vec_len slots.old }
-    ensures { OnOk result (map slot_seen slots.new.items ≡ insert (map slot_seen slots.old.items) id empty_slot) }
+    ensures { OnOk result (map slot_view slots.new.items ≡ insert (map slot_view slots.old.items) id empty_slot) }
 {
     slots.insert(id, empty_slot(alloc))?;
     Ok(())
@@ -259,7 +259,7 @@ fn insert_empty(alloc: Global, slots: &mut Vec<Slot<'_>>, id: usize) -> Result<(
 // Removes a slot.
 fn remove_slot(slots: &mut Vec<Slot<'_>>, id: usize)
     requires { id < vec_len slots.old }
-    ensures { map slot_seen slots.new.items ≡ remove (map slot_seen slots.old.items) id }
+    ensures { map slot_view slots.new.items ≡ remove (map slot_view slots.old.items) id }
 {
     slots.remove(id);
 }
@@ -270,7 +270,7 @@ fn apply_to_slots<'a>(
     slots: &mut Vec<Slot<'a>>,
     entry: &Entry<'a>,
 ) -> Result<(), ContentError>
-    ensures { Gives (λ _. map slot_seen slots.new.items) result (slots_after (map slot_seen slots.old.items) (seen entry.now)) }
+    ensures { Gives (λ _. map slot_view slots.new.items) result (slots_after (map slot_view slots.old.items) (log_entry_view entry.now)) }
 {
     let kind = entry.tag.kind();
     let class = entry.tag.class();
@@ -308,7 +308,7 @@ fn apply_to_slots<'a>(
 // The tail that an entry sets.
 pub(crate) fn tail_of(entry: &Entry<'_>) -> Option<Tail>
     requires { 8 ≤ length entry.now.bytes.now }
-    ensures { option_map tail_seen result ≡ tail_of (seen entry.now) }
+    ensures { option_map tail_view result ≡ tail_of (log_entry_view entry.now) }
 {
     let pair = pair_at(entry.bytes);
     if pair[0] == NULL_ADDRESS && pair[1] == NULL_ADDRESS {
@@ -327,7 +327,7 @@ fn apply<'a>(
     content: &mut Content<'a>,
     entry: &Entry<'a>,
 ) -> Result<(), ContentError>
-    ensures { Gives (λ _. content_seen content.new) result (content_after (content_seen content.old) (seen entry.now)) }
+    ensures { Gives (λ _. content_view content.new) result (content_after (content_view content.old) (log_entry_view entry.now)) }
 {
     let tag = entry.tag;
     let class = tag.class();
@@ -354,7 +354,7 @@ impl<'a> Content<'a> {
     /// tags"). Names, structs and attributes aren't copied. Answers `Malformed` exactly where the
     /// log is.
     pub fn read(alloc: Global, log: &Log<'a>) -> Result<Content<'a>, ContentError>
-        ensures content { IfOk result (λ c. content_after_all no_content (log_entries log.now) ≡ Some (content_seen c)) }
+        ensures content { IfOk result (λ c. content_after_all no_content (log_entries log.now) ≡ Some (content_view c)) }
         ensures malformed { result ≡ Err ContentError.Malformed → content_after_all no_content (log_entries log.now) ≡ None }
     {
         let mut content = Content {
@@ -373,7 +373,7 @@ impl<'a> Content<'a> {
     /// Takes one entry more, as the reading of a longer log would. After an error nothing is known
     /// of the content.
     pub fn take(&mut self, alloc: Global, entry: &Entry<'a>) -> Result<(), ContentError>
-        ensures { Gives (λ _. content_seen self.new) result (content_after (content_seen self.old) (seen entry.now)) }
+        ensures { Gives (λ _. content_view self.new) result (content_after (content_view self.old) (log_entry_view entry.now)) }
     {
         apply(alloc, self, entry)?;
         Ok(())

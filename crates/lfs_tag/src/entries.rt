@@ -5,7 +5,7 @@ ghost use Rattle.byteorder.specs.Endian.{big_number};
 ghost use Rattle.lfs_model.specs.Tag.{data_size};
 ghost use Rattle.std.specs.Iterator.{YieldsFirstBy, YieldsLastBy, item_count};
 ghost use Rattle.lfs_model.specs.Log.{chain_of, log_entries};
-ghost use Rattle.lfs_tag.specs.Seen.{seen};
+ghost use Rattle.lfs_tag.specs.LogEntryView.{log_entry_view};
 
 use crate::entry::Entry;
 use crate::log::entry_at;
@@ -29,11 +29,11 @@ impl<'a> Model for Entries<'a> {
 
     ghost Value = { List LogEntry };
 
-    ghost use Rattle.lfs_tag.specs.Walk.{left, IsLeft};
+    ghost use Rattle.lfs_tag.specs.Walk.{left, IsLeftToWalk};
 
     ghost view = { left };
 
-    ghost invariant = { IsLeft };
+    ghost invariant = { IsLeftToWalk };
 }
 
 impl<'a> Entries<'a> {
@@ -72,7 +72,7 @@ impl<'a> Entries<'a> {
 impl<'a> Iterator for Entries<'a> {
     type Item = Entry<'a>;
 
-    ghost next_gives = { YieldsFirstBy seen (λ s. s) };
+    ghost next_gives = { YieldsFirstBy log_entry_view (λ s. s) };
 
     ghost remaining = { item_count (λ s. s) };
 
@@ -106,7 +106,7 @@ fn entry_before(block: &[u8], end: usize, last: Tag) -> (usize, Tag, Entry<'_>)
 }
 
 impl<'a> DoubleEndedIterator for Entries<'a> {
-    ghost next_back_gives = { YieldsLastBy seen (λ s. s) };
+    ghost next_back_gives = { YieldsLastBy log_entry_view (λ s. s) };
 
     fn next_back(&mut self) -> Option<Entry<'a>> {
         if self.end <= self.at {

@@ -7,7 +7,7 @@ ghost use Rattle.lfs_model.specs.Slots.{Ctz, address_of};
 ghost use Rattle.lfs_model.specs.EntryTypes.{pair_at, gstate_at, superblock_at, ctz_struct_type};
 ghost use Rattle.lfs_model.specs.Content.{struct_typed};
 ghost use Rattle.lfs_model.specs.WrittenContent.{pair_bytes, move_bytes, fields_bytes};
-ghost use Rattle.lfs_tag.specs.FieldsSeen.{superblock_seen, move_seen};
+ghost use Rattle.lfs_tag.specs.FieldsView.{superblock_view, move_view};
 
 use crate::fields::{MoveState, Superblock};
 use byteorder::{ByteOrder, LittleEndian};
@@ -33,8 +33,8 @@ pub fn ctz_bytes(head: u32, size: u32) -> [u8; 8]
 
 /// The bytes of a superblock's struct.
 pub fn superblock_bytes(superblock: &Superblock) -> [u8; 24]
-    ensures bytes { result ≡ fields_bytes (superblock_seen superblock.now) }
-    ensures read { superblock_at result ≡ superblock_seen superblock.now }
+    ensures bytes { result ≡ fields_bytes (superblock_view superblock.now) }
+    ensures read { superblock_at result ≡ superblock_view superblock.now }
 {
     words_bytes([
         superblock.version,
@@ -67,8 +67,8 @@ fn words_bytes(words: [u32; 6]) -> [u8; 24]
 pub fn move_bytes(state: &MoveState) -> [u8; 12]
     requires kind { state.now.kind < 2 ^ 11 }
     requires id { state.now.id < 2 ^ 10 }
-    ensures bytes { result ≡ move_bytes (move_seen state.now) }
-    ensures read { gstate_at result ≡ move_seen state.now }
+    ensures bytes { result ≡ move_bytes (move_view state.now) }
+    ensures read { gstate_at result ≡ move_view state.now }
 {
     let word = u32::from(state.sync) * 0x8000_0000
         + u32::from(state.kind) * 0x10_0000

@@ -8,7 +8,7 @@ ghost use Rattle.lfs_model.specs.Slots.{Ctz, address_of, no_gstate};
 ghost use Rattle.lfs_model.specs.EntryTypes.{pair_at, gstate_at, superblock_at, ctz_struct_type};
 ghost use Rattle.lfs_model.specs.Content.{struct_typed};
 ghost use Rattle.lfs_model.specs.WrittenContent.{fields_bytes, is_no_gstate};
-ghost use Rattle.lfs_tag.specs.FieldsSeen.{superblock_seen, move_seen};
+ghost use Rattle.lfs_tag.specs.FieldsView.{superblock_view, move_view};
 
 use byteorder::{ByteOrder, LittleEndian};
 use lfs_device::Geometry;
@@ -32,8 +32,8 @@ pub struct Superblock {
     pub attr_max: u32,
 }
 
-/// A pair's share of the global state, or the global state itself, which is the exclusive or of
-/// all shares (DESIGN.md of littlefs, "The move problem").
+/// A pair's delta of the global state, or the global state itself, which is the exclusive or of
+/// all deltas (DESIGN.md of littlefs, "The move problem").
 #[derive(Clone, Copy, Debug, PartialEq, Eq, Drop)]
 pub struct MoveState {
     /// A pair of the thread may be reached from no directory.
@@ -65,7 +65,7 @@ impl Superblock {
     /// What the superblock of a fresh image says: this version, the device's geometry and the
     /// limits that are written.
     pub fn of(geometry: &Geometry) -> Superblock
-        ensures fields { superblock_seen result ≡ record {
+        ensures fields { superblock_view result ≡ record {
           version = 0x00020000;
           block_size = geometry.now.block_size;
           block_count = geometry.now.block_count;
@@ -73,7 +73,7 @@ impl Superblock {
           file_max = file_limit;
           attr_max = 1022;
         } }
-        ensures bytes { fields_bytes (superblock_seen result) ≡ superblock_bytes geometry.now.block_size geometry.now.block_count }
+        ensures bytes { fields_bytes (superblock_view result) ≡ superblock_bytes geometry.now.block_size geometry.now.block_count }
     {
         Superblock {
             version: Superblock::VERSION,
@@ -87,9 +87,9 @@ impl Superblock {
 }
 
 impl MoveState {
-    /// No share, which changes nothing of the global state.
+    /// No delta, which changes nothing of the global state.
     pub fn none() -> MoveState
-        ensures { move_seen result ≡ no_gstate }
+        ensures { move_view result ≡ no_gstate }
     {
         MoveState {
             sync: false,
@@ -101,7 +101,7 @@ impl MoveState {
 
     /// Whether there is nothing in it: then a pair that is written anew has no entry for it.
     pub fn is_none(&self) -> bool
-        ensures { result ≡ is_no_gstate (move_seen self.now) }
+        ensures { result ≡ is_no_gstate (move_view self.now) }
     {
         !self.sync && self.kind == 0 && self.id == 0 && self.pair[0] == 0 && self.pair[1] == 0
     }
@@ -120,7 +120,7 @@ pub(crate) fn pair_at(bytes: &[u8]) -> [u32; 2]
 // The move state that these bytes begin with.
 pub(crate) fn move_at(bytes: &[u8]) -> MoveState
     requires { 12 ≤ length bytes.now }
-    ensures { move_seen result ≡ gstate_at bytes.now }
+    ensures { move_view result ≡ gstate_at bytes.now }
 {
     let word = LittleEndian::read_u32(bytes);
     MoveState {
@@ -149,7 +149,7 @@ pub fn ctz_of(bytes: &[u8; 8]) -> (u32, u32)
 
 /// The fields of a superblock's struct.
 pub fn superblock_of(bytes: &[u8; 24]) -> Superblock
-    ensures { superblock_seen result ≡ superblock_at bytes.now }
+    ensures { superblock_view result ≡ superblock_at bytes.now }
 {
     Superblock {
         version: LittleEndian::read_u32(bytes),
@@ -163,7 +163,7 @@ pub fn superblock_of(bytes: &[u8; 24]) -> Superblock
 
 /// The move state in an entry's bytes. The lowest ten bits of the first word say nothing.
 pub fn move_of(bytes: &[u8; 12]) -> MoveState
-    ensures { move_seen result ≡ gstate_at bytes.now }
+    ensures { move_view result ≡ gstate_at bytes.now }
 {
     move_at(bytes)
 }

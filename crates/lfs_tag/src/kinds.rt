@@ -29,7 +29,7 @@ pub const FORWARD_CHECKSUM: u16 = 0x5ff;
 pub const SOFT_TAIL: u16 = 0x600;
 /// The next pair of the thread, which continues the directory.
 pub const HARD_TAIL: u16 = 0x601;
-/// A pair's share of the global state.
+/// A pair's delta of the global state.
 pub const MOVE_STATE: u16 = 0x7ff;
 
 pub(crate) const NAME_CLASS: u16 = 0;

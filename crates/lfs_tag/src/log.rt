@@ -5,7 +5,7 @@ ghost use Rattle.std.specs.Option.{option_map};
 ghost use Rattle.lfs_model.specs.Tag.{data_size};
 ghost use Rattle.lfs_model.specs.Log.{entry_at, closes, commit_at, chain_of, revision_of, log_entries, past, IsChainOf, LogEntry};
 ghost use Rattle.lfs_model.specs.Content.{has_commit};
-ghost use Rattle.lfs_tag.specs.Seen.{seen};
+ghost use Rattle.lfs_tag.specs.LogEntryView.{log_entry_view};
 
 use crate::crc;
 use crate::entries::Entries;
@@ -17,7 +17,7 @@ use std::marker::Model;
 // The entry at an offset, where the tag before it carries `before`.
 #[tactic(auto, unfolding(lfs_model::specs::Log::entry_at))]
 pub(crate) fn entry_at(block: &[u8], at: usize, before: Tag) -> Option<Entry<'_>>
-    ensures value { option_map seen result ≡ entry_at block.now at before }
+    ensures value { option_map log_entry_view result ≡ entry_at block.now at before }
     ensures within { IfSome result (λ e. at + 4 + length e.bytes.now ≤ length block.now) }
 {
     if block.len() < 4 || block.len() - 4 < at {
@@ -40,7 +40,7 @@ pub(crate) fn entry_at(block: &[u8], at: usize, before: Tag) -> Option<Entry<'_>
 fn closes(block: &[u8], start: usize, at: usize, entry: &Entry<'_>) -> bool
     requires start { start ≤ at }
     requires within { at + 4 + length entry.now.bytes.now ≤ length block.now }
-    ensures { result ≡ closes block.now start at (seen entry.now) }
+    ensures { result ≡ closes block.now start at (log_entry_view entry.now) }
 {
     let kind = entry.tag.kind();
     let len = entry.tag.len();

@@ -5,8 +5,8 @@ ghost use Rattle.std.specs.List.{insert, remove};
 ghost use Rattle.lfs_model.specs.Log.{log_entries};
 ghost use Rattle.lfs_model.specs.Content.{RawContent, content_after_all, no_content};
 ghost use Rattle.lfs_tag.specs.Find.{entry_rank, ranks_up_to, spliced, ranks_after, ranks_after_all, is_wanted, is_skipped, is_first, first_from};
-ghost use Rattle.lfs_tag.specs.FindSeen.{Answers};
-ghost use Rattle.lfs_tag.specs.Seen.{seen};
+ghost use Rattle.lfs_tag.specs.FindView.{FindAnswers};
+ghost use Rattle.lfs_tag.specs.LogEntryView.{log_entry_view};
 
 use crate::entry::Entry;
 use crate::kinds::{CREATE, NAME_CLASS, SPLICE_CLASS, SUPERBLOCK_NAME};
@@ -44,7 +44,7 @@ pub fn find(
     name: &[u8],
     skip: Option<u16>,
 ) -> Result<Lookup, AllocError>
-    ensures { (c : RawContent) → content_after_all no_content (log_entries log.now) ≡ Some c → length log.now ≤ 2 ^ 16 → IfOk result (Answers order name.now skip c.slots) }
+    ensures { (c : RawContent) → content_after_all no_content (log_entries log.now) ≡ Some c → length log.now ≤ 2 ^ 16 → IfOk result (FindAnswers order name.now skip c.slots) }
 {
     if BLOCK_MAX < log.block().len() {
         return Ok(Lookup::Place(0));
@@ -85,7 +85,7 @@ fn take(
     name: &[u8],
     entry: &Entry<'_>,
 ) -> Result<(), AllocError>
-    ensures ranks { OnOk result (ranks.new.items ≡ ranks_after order name.now ranks.old.items (seen entry.now)) }
+    ensures ranks { OnOk result (ranks.new.items ≡ ranks_after order name.now ranks.old.items (log_entry_view entry.now)) }
     ensures room { OnOk result (vec_len ranks.new ≤ max (vec_len ranks.old) 1024 + 1) }
 {
     let class = entry.tag.class();
@@ -100,7 +100,7 @@ fn take(
 
 // How the wanted name stands to the one that an entry gives a slot.
 fn entry_rank(order: NameOrder, name: &[u8], entry: &Entry<'_>) -> Option<Ordering>
-    ensures { result ≡ entry_rank order name.now (seen entry.now) }
+    ensures { result ≡ entry_rank order name.now (log_entry_view entry.now) }
 {
     if entry.tag.kind() == SUPERBLOCK_NAME {
         None
@@ -135,7 +135,7 @@ fn fill_up(ranks: &mut Ranks, id: usize) -> Result<(), AllocError>
 
 // Carries out a create or a delete.
 fn splice(ranks: &mut Ranks, entry: &Entry<'_>) -> Result<(), AllocError>
-    ensures ranks { OnOk result (ranks.new.items ≡ spliced ranks.old.items (seen entry.now)) }
+    ensures ranks { OnOk result (ranks.new.items ≡ spliced ranks.old.items (log_entry_view entry.now)) }
     ensures room { OnOk result (vec_len ranks.new ≤ vec_len ranks.old + 1) }
 {
     let id = usize::from(entry.tag.id());

@@ -18,7 +18,7 @@ impl Model for Pushed {
 
 impl Pushed {
     // Any commit, which the caller's proof picks from what is referred to.
-    pub(crate) fn told_by<S, T>(_before: &S, _pushed: &T) -> Pushed
+    pub(crate) fn from_proof<S, T>(_before: &S, _pushed: &T) -> Pushed
         ghost so_far: { Building }
         ensures { result.so_far ≡ so_far }
     {

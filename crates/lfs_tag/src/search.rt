@@ -5,10 +5,10 @@ ghost use Rattle.std.specs.Option.{option_copied, option_map};
 ghost use Rattle.lfs_model.specs.Log.{log_entries};
 ghost use Rattle.lfs_model.specs.Content.{RawContent, content_after_all, no_content, slot_of_id};
 ghost use Rattle.lfs_model.specs.Lookup.{typed_bytes_at, bytes_typed};
-ghost use Rattle.lfs_tag.specs.ContentSeen.{part_seen};
+ghost use Rattle.lfs_tag.specs.ContentView.{part_view};
 ghost use Rattle.lfs_tag.specs.Search.{splice_verdict, verdict_of, found, looks};
-ghost use Rattle.lfs_tag.specs.VerdictSeen.{verdict_seen};
-ghost use Rattle.lfs_tag.specs.Seen.{seen};
+ghost use Rattle.lfs_tag.specs.VerdictView.{verdict_view};
+ghost use Rattle.lfs_tag.specs.LogEntryView.{log_entry_view};
 
 use crate::content::Part;
 use crate::entries::Entries;
@@ -28,7 +28,7 @@ enum Verdict<'a> {
 // What a create or a delete says of an id behind it.
 fn splice_verdict<'a>(entry: &Entry<'a>, id: u64) -> Verdict<'a>
     requires { id < 2 ^ 64 - 1 }
-    ensures { verdict_seen result ≡ splice_verdict (seen entry.now) id }
+    ensures { verdict_view result ≡ splice_verdict (log_entry_view entry.now) id }
 {
     let at = u64::from(entry.tag.id());
     if entry.tag.kind() == CREATE {
@@ -45,7 +45,7 @@ fn splice_verdict<'a>(entry: &Entry<'a>, id: u64) -> Verdict<'a>
 // What an entry says of a type and an id behind it.
 fn verdict_of<'a>(entry: &Entry<'a>, kind: u16, id: u64) -> Verdict<'a>
     requires { id < 2 ^ 64 - 1 }
-    ensures { verdict_seen result ≡ verdict_of (seen entry.now) kind id }
+    ensures { verdict_view result ≡ verdict_of (log_entry_view entry.now) kind id }
 {
     let tag = entry.tag;
     let class = tag.class();
@@ -72,7 +72,7 @@ fn verdict_of<'a>(entry: &Entry<'a>, kind: u16, id: u64) -> Verdict<'a>
 // Searches from the newest entry back; answers also how many entries it looked at.
 fn search<'a>(mut entries: Entries<'a>, kind: u16, mut id: u64) -> (Option<Part<'a>>, u64)
     requires { id + length entries < 2 ^ 63 }
-    ensures found { option_map part_seen result.0 ≡ found (reverse entries.entry) kind id }
+    ensures found { option_map part_view result.0 ≡ found (reverse entries.entry) kind id }
     ensures looks { result.1 ≡ looks (reverse entries.entry) kind id }
 {
     let mut looks = 0;
@@ -89,7 +89,7 @@ fn search<'a>(mut entries: Entries<'a>, kind: u16, mut id: u64) -> (Option<Part<
 // What the log holds for an id, of a type or of another one in its place; each entry that is looked
 // at ticks.
 fn newest<'a>(log: &Log<'a>, kind: u16, id: u16, steps: &mut Steps) -> Option<Part<'a>>
-    ensures found { option_map part_seen result ≡ found (reverse (log_entries log.now)) kind id }
+    ensures found { option_map part_view result ≡ found (reverse (log_entries log.now)) kind id }
     ensures steps { steps.new ≡ min (steps.old + looks (reverse (log_entries log.now)) kind id) (2 ^ 64 - 1) }
     ensures bound { steps.new ≤ steps.old + length (log_entries log.now) }
 {
@@ -100,7 +100,7 @@ fn newest<'a>(log: &Log<'a>, kind: u16, id: u16, steps: &mut Steps) -> Option<Pa
 
 // The bytes of a part, where it has that type.
 fn bytes_typed<'a>(part: Option<Part<'a>>, kind: u16) -> Option<&'a [u8]>
-    ensures { option_copied result ≡ bytes_typed kind (option_map part_seen part.entry) }
+    ensures { option_copied result ≡ bytes_typed kind (option_map part_view part.entry) }
 {
     match part {
         Some(part) if part.kind == kind => Some(part.bytes),
@@ -123,7 +123,7 @@ pub fn get<'a>(log: &Log<'a>, kind: u16, id: u16, steps: &mut Steps) -> Option<&
 /// The name of a slot, its type and bytes; `None` where the slot has none or isn't there, in any
 /// log that isn't malformed. Ticks `steps` as [`get`] does.
 pub fn name_of<'a>(log: &Log<'a>, id: u16, steps: &mut Steps) -> Option<Part<'a>>
-    ensures held { (c : RawContent) → content_after_all no_content (log_entries log.now) ≡ Some c → option_map part_seen result ≡ (slot_of_id c.slots id).name }
+    ensures held { (c : RawContent) → content_after_all no_content (log_entries log.now) ≡ Some c → option_map part_view result ≡ (slot_of_id c.slots id).name }
     ensures steps { steps.new ≡ min (steps.old + looks (reverse (log_entries log.now)) 0 id) (2 ^ 64 - 1) }
     ensures bound { steps.new ≤ steps.old + length (log_entries log.now) }
 {
@@ -133,7 +133,7 @@ pub fn name_of<'a>(log: &Log<'a>, id: u16, steps: &mut Steps) -> Option<Part<'a>
 /// The struct of a slot, its type and bytes; `None` where the slot has none or isn't there, in any
 /// log that isn't malformed. Ticks `steps` as [`get`] does.
 pub fn struct_of<'a>(log: &Log<'a>, id: u16, steps: &mut Steps) -> Option<Part<'a>>
-    ensures held { (c : RawContent) → content_after_all no_content (log_entries log.now) ≡ Some c → option_map part_seen result ≡ (slot_of_id c.slots id).struct }
+    ensures held { (c : RawContent) → content_after_all no_content (log_entries log.now) ≡ Some c → option_map part_view result ≡ (slot_of_id c.slots id).struct }
     ensures steps { steps.new ≡ min (steps.old + looks (reverse (log_entries log.now)) 0x200 id) (2 ^ 64 - 1) }
     ensures bound { steps.new ≤ steps.old + length (log_entries log.now) }
 {

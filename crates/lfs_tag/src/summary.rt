@@ -4,9 +4,9 @@ ghost use Rattle.std.specs.Prelude.{◌≡◌, ℕ, ◌<◌, ◌≤◌, OnOk, If
 ghost use Rattle.std.specs.List.{insert, remove, list_all};
 ghost use Rattle.lfs_model.specs.Log.{LogEntry, log_entries};
 ghost use Rattle.lfs_model.specs.Content.{RawContent, content_after_all, no_content};
-ghost use Rattle.lfs_tag.specs.Seen.{seen};
+ghost use Rattle.lfs_tag.specs.LogEntryView.{log_entry_view};
 ghost use Rattle.lfs_tag.specs.ContentGives.{Gives};
-ghost use Rattle.lfs_tag.specs.Summary.{Sums, no_mark, mark_of_id, marked, marks_up_to, is_whole, marks_after, outline_seen, outline_after, outline_after_all, no_outline};
+ghost use Rattle.lfs_tag.specs.Summary.{Sums, no_mark, mark_of_id, marked, marks_up_to, is_whole, marks_after, outline_view, outline_after, outline_after_all, no_outline};
 
 use crate::content::{ContentError, Tail, has_its_id, is_in_table, tail_of};
 use crate::entry::Entry;
@@ -65,7 +65,7 @@ impl Summary {
 }
 
 fn outline_of(alloc: Global, log: &Log<'_>) -> Result<Outline, ContentError>
-    ensures outline { IfOk result (λ o. outline_after_all no_outline (log_entries log.now) ≡ Some (outline_seen o)) }
+    ensures outline { IfOk result (λ o. outline_after_all no_outline (log_entries log.now) ≡ Some (outline_view o)) }
     ensures malformed { result ≡ Err ContentError.Malformed → outline_after_all no_outline (log_entries log.now) ≡ None }
 {
     let mut outline = Outline {
@@ -89,7 +89,7 @@ fn are_whole(marks: &[Mark]) -> bool
 
 // What an entry makes of the outline.
 fn take(outline: &mut Outline, entry: &Entry<'_>) -> Result<(), ContentError>
-    ensures { Gives (λ _. outline_seen outline.new) result (outline_after (outline_seen outline.old) (seen entry.now)) }
+    ensures { Gives (λ _. outline_view outline.new) result (outline_after (outline_view outline.old) (log_entry_view entry.now)) }
 {
     let tag = entry.tag;
     let class = tag.class();
@@ -113,7 +113,7 @@ fn take(outline: &mut Outline, entry: &Entry<'_>) -> Result<(), ContentError>
 
 // What an entry that is no checksum, tail or move state makes of the slots' marks.
 fn take_mark(marks: &mut Vec<Mark>, entry: &Entry<'_>) -> Result<(), ContentError>
-    ensures { Gives (λ _. marks.new.items) result (marks_after marks.old.items (seen entry.now)) }
+    ensures { Gives (λ _. marks.new.items) result (marks_after marks.old.items (log_entry_view entry.now)) }
 {
     let kind = entry.tag.kind();
     let class = entry.tag.class();

@@ -19,11 +19,11 @@ use Rattle.lfs_model.proofs.BlockSets.{slice_get-set_same, slice_get-set_other, 
 use Rattle.lfs_model.proofs.Completed.{completed_parts}
 use Rattle.lfs_model.proofs.Histories.{goes_on_by}
 use Rattle.lfs_model.proofs.Counts.{Each, each_right, count, count_here, each_counted, once_from_distinct, distinct_from_once}
-use Rattle.lfs_tag.specs.ContentSeen.{tail_seen}
+use Rattle.lfs_tag.specs.ContentView.{tail_view}
 use Rattle.lfs_pair.specs.Commit.{IsAddressOn}
 use Rattle.lfs_pair.specs.Pair.{Fetches, address_in}
 use Rattle.lfs_thread.specs.Kept.{Header, pair_on, pairs_on, IsHeader, AllUsed, IsKept}
-use Rattle.lfs_thread.specs.Begun.{CanStand, IsBegun}
+use Rattle.lfs_thread.specs.Begun.{CanStand, IsThreadBegun}
 use Rattle.lfs_thread.proofs.Keeping.{headers_append, header_content, pair_on_content, blocks_append}
 use Rattle.lfs_thread.proofs.Changing.{headers_read}
 use Rattle.lfs_thread.proofs.Coming.{two_unused, free_unused}
@@ -68,7 +68,7 @@ all_free zero b l = absurd (omega arith)
 all_free (suc n) zero l = refl
 all_free (suc n) (suc b) l = all_free n b (omega arith)
 
-pub begun_none : (disk : Disk) (history : List Event) (n : ℕ) → n ≡ block_count disk → IsBegun disk history [] (replicate n Free) (Some anchor)
+pub begun_none : (disk : Disk) (history : List Event) (n : ℕ) → n ≡ block_count disk → IsThreadBegun disk history [] (replicate n Free) (Some anchor)
 begun_none disk history n e = record {
   each = tt;
   links = λ rest l. l;
@@ -88,18 +88,18 @@ all_used sets (b ∷ bs) f = (f b (Contains-count (b ∷ bs) b (let k = count_he
     more : (x b : ℕ) (bs : List ℕ) → count x bs ≤ count x (b ∷ bs)
     more x b bs = omega arith
 
-used_now : (disk : Disk) (history : List Event) (hs : List Header) (sets : BlockSets) (next : Option (ℕ × ℕ)) → IsBegun disk history hs sets next → AllUsed sets (blocks_of (pairs_on disk hs))
+used_now : (disk : Disk) (history : List Event) (hs : List Header) (sets : BlockSets) (next : Option (ℕ × ℕ)) → IsThreadBegun disk history hs sets next → AllUsed sets (blocks_of (pairs_on disk hs))
 used_now disk history hs sets next begun = all_used sets (blocks_of (pairs_on disk hs)) (λ b h. (begun.marked b).1 h)
 
 module _ (disk : Disk) (blocks : Blocks) (before after : List Event) (hs : List Header) (sets : BlockSets) (at : ℕ × ℕ) (h : Header)
-    (reads : OnlyReads blocks before after) (begun : IsBegun disk before hs sets (Some at)) (is : IsHeader disk after h) (same : address_in h ≡ at) (stands : CanStand disk sets at) where
+    (reads : OnlyReads blocks before after) (begun : IsThreadBegun disk before hs sets (Some at)) (is : IsHeader disk after h) (same : address_in h ≡ at) (stands : CanStand disk sets at) where
   abbrev p : Pair
   p = pair_on disk (address_in h)
 
   abbrev now : BlockSets
   now = set (set sets at.0 Used) at.1 Used
 
-  tail_is : p.content.tail ≡ option_map tail_seen h.tail
+  tail_is : p.content.tail ≡ option_map tail_view h.tail
   tail_is = ap (λ (q : Pair). q.content.tail) (pair_on_content disk (address_in h) is.content (header_content disk after h is))
       ∙ (completed_parts is.held is.content is.complete).tail ∙ sym is.is_pair.describes.sums.tail
 
@@ -187,10 +187,10 @@ module _ (disk : Disk) (blocks : Blocks) (before after : List Event) (hs : List 
           side (inl u) = inl (other_same b k.0 k.1 ∙ u)
           side (inr f) = inr (other_same b k.0 k.1 ∙ f)
 
-  only_now : (ps : List Pair) → IsThread (content_at disk) (block_count disk) ps → (rest : List Pair) × ((ps ≡ pairs_on disk (hs ++ h ∷ []) ++ rest) × Links (next_of (option_map tail_seen h.tail)) rest)
+  only_now : (ps : List Pair) → IsThread (content_at disk) (block_count disk) ps → (rest : List Pair) × ((ps ≡ pairs_on disk (hs ++ h ∷ []) ++ rest) × Links (next_of (option_map tail_view h.tail)) rest)
   only_now ps t = go (begun.only ps t).0 (begun.only ps t).1.0 (begun.only ps t).1.1
     where
-      go : (rest : List Pair) → ps ≡ pairs_on disk hs ++ rest → Links (Some at) rest → (rest : List Pair) × ((ps ≡ pairs_on disk (hs ++ h ∷ []) ++ rest) × Links (next_of (option_map tail_seen h.tail)) rest)
+      go : (rest : List Pair) → ps ≡ pairs_on disk hs ++ rest → Links (Some at) rest → (rest : List Pair) × ((ps ≡ pairs_on disk (hs ++ h ∷ []) ++ rest) × Links (next_of (option_map tail_view h.tail)) rest)
       go [] e l = absurd (cc)
       go (q ∷ rest) e l =
           let here : q.at ≡ address_in h = same_Some q.at (address_in h) (sym l.0 ∙ ap Some (sym same)) in
@@ -199,7 +199,7 @@ module _ (disk : Disk) (blocks : Blocks) (before after : List Event) (hs : List 
           let is_q : q ≡ p = sym (pair_on_content disk q.at q.content has) ∙ ap (pair_on disk) here in
           (rest, (e ∙ ap (λ z. pairs_on disk hs ++ z ∷ rest) is_q ∙ behind rest, subst (λ z. Links (next_of z) rest) (ap (λ (z : Pair). z.content.tail) is_q ∙ tail_is) l.1))
 
-  pub begun_more : IsBegun disk after (hs ++ h ∷ []) now (next_of (option_map tail_seen h.tail))
+  pub begun_more : IsThreadBegun disk after (hs ++ h ∷ []) now (next_of (option_map tail_view h.tail))
   begun_more = record {
     each = headers_append disk after hs (h ∷ []) (headers_read disk blocks before after hs reads begun.each) (is, tt);
     links = λ rest l. subst (Links (Some anchor)) (behind rest) (begun.links (p ∷ rest) (ap Some (sym same), subst (λ t. Links (next_of t) rest) (sym tail_is) l));
@@ -215,7 +215,7 @@ module _ (disk : Disk) (blocks : Blocks) (before after : List Event) (hs : List 
 
 -- ---- at the end
 
-pub begun_kept : (disk : Disk) (history : List Event) (hs : List Header) (sets : BlockSets) → IsBegun disk history hs sets None → IsKept disk history hs sets
+pub begun_kept : (disk : Disk) (history : List Event) (hs : List Header) (sets : BlockSets) → IsThreadBegun disk history hs sets None → IsKept disk history hs sets
 begun_kept disk history hs sets begun = record {
   each = begun.each;
   links = subst (Links (Some anchor)) (append-nil (pairs_on disk hs)) (begun.links [] refl);
@@ -224,7 +224,7 @@ begun_kept disk history hs sets begun = record {
   used = used_now disk history hs sets None begun;
 }
 
-pub begun_none_in_flight : (disk : Disk) (history : List Event) (hs : List Header) (sets : BlockSets) (next : Option (ℕ × ℕ)) → IsBegun disk history hs sets next → AreInFlight sets []
+pub begun_none_in_flight : (disk : Disk) (history : List Event) (hs : List Header) (sets : BlockSets) (next : Option (ℕ × ℕ)) → IsThreadBegun disk history hs sets next → AreInFlight sets []
 begun_none_in_flight disk history hs sets next begun b = (
   λ flies. absurd (go flies (begun.others b (slice_get_within sets b InFlight flies))),
   λ (none : Contains [] b). absurd (let below : none.0 < 0 = none.1 in omega arith),
@@ -235,7 +235,7 @@ begun_none_in_flight disk history hs sets next begun b = (
     go flies (inr free) = absurd (let e : Some InFlight ≡ Some Free = sym flies ∙ free in cc)
 
 -- there is no thread, where no pair can stand at the next address
-pub begun_ends : (disk : Disk) (history : List Event) (hs : List Header) (sets : BlockSets) (at : ℕ × ℕ) → IsBegun disk history hs sets (Some at) → ¬ CanStand disk sets at
+pub begun_ends : (disk : Disk) (history : List Event) (hs : List Header) (sets : BlockSets) (at : ℕ × ℕ) → IsThreadBegun disk history hs sets (Some at) → ¬ CanStand disk sets at
     → (ps : List Pair) → ¬ IsThread (content_at disk) (block_count disk) ps
 begun_ends disk history hs sets at begun cannot ps t = go (begun.only ps t).0 (begun.only ps t).1.0 (begun.only ps t).1.1
   where
@@ -288,7 +288,7 @@ begun_ends disk history hs sets at begun cannot ps t = go (begun.only ps t).0 (b
             side (inr f) = f
 
 -- there are at least two blocks for each pair
-pub begun_few : (disk : Disk) (history : List Event) (hs : List Header) (sets : BlockSets) (next : Option (ℕ × ℕ)) → IsBegun disk history hs sets next → length hs + length hs ≤ block_count disk
+pub begun_few : (disk : Disk) (history : List Event) (hs : List Header) (sets : BlockSets) (next : Option (ℕ × ℕ)) → IsThreadBegun disk history hs sets next → length hs + length hs ≤ block_count disk
 begun_few disk history hs sets next begun =
     let u = used_count-AreUsed sets (blocks_of (pairs_on disk hs)) begun.distinct begun.marked in
     let c = counts_le sets in
@@ -312,24 +312,24 @@ read_on first second = record {
   reads = then_reads first.reads first.same second.reads;
 }
 
-pub begun_first : (disk : Disk) (history : List Event) (hs : List Header) (sets : BlockSets) (n : ℕ) → n ≡ block_count disk → hs ≡ [] → sets ≡ replicate n Free → IsBegun disk history hs sets (Some anchor)
+pub begun_first : (disk : Disk) (history : List Event) (hs : List Header) (sets : BlockSets) (n : ℕ) → n ≡ block_count disk → hs ≡ [] → sets ≡ replicate n Free → IsThreadBegun disk history hs sets (Some anchor)
 begun_first disk history hs sets n e f g =
-    subst (λ z. IsBegun disk history z sets (Some anchor)) (sym f) (subst (λ s. IsBegun disk history [] s (Some anchor)) (sym g) (begun_none disk history n e))
+    subst (λ z. IsThreadBegun disk history z sets (Some anchor)) (sym f) (subst (λ s. IsThreadBegun disk history [] s (Some anchor)) (sym g) (begun_none disk history n e))
 
 pub begun_next : (disk now : Disk) (blocks : Blocks) (before after : List Event) (hs items : List Header) (sets marked : BlockSets) (next : Option (ℕ × ℕ)) (at : ℕ × ℕ) (h : Header) (behind : Option (ℕ × ℕ))
-    → now ≡ disk → OnlyReads blocks before after → next ≡ Some at → IsBegun disk before hs sets next → IsHeader disk after h → address_in h ≡ at → CanStand disk sets at
-    → items ≡ hs ++ h ∷ [] → marked ≡ set (set sets at.0 Used) at.1 Used → behind ≡ next_of (option_map tail_seen h.tail) → IsBegun now after items marked behind
+    → now ≡ disk → OnlyReads blocks before after → next ≡ Some at → IsThreadBegun disk before hs sets next → IsHeader disk after h → address_in h ≡ at → CanStand disk sets at
+    → items ≡ hs ++ h ∷ [] → marked ≡ set (set sets at.0 Used) at.1 Used → behind ≡ next_of (option_map tail_view h.tail) → IsThreadBegun now after items marked behind
 begun_next disk now blocks before after hs items sets marked next at h behind e reads is begun header same stands items_are marked_is behind_is =
-    subst (λ d. IsBegun d after items marked behind) (sym e)
-    (subst (λ z. IsBegun disk after z marked behind) (sym items_are)
-    (subst (λ s. IsBegun disk after (hs ++ h ∷ []) s behind) (sym marked_is)
-    (subst (λ n. IsBegun disk after (hs ++ h ∷ []) (set (set sets at.0 Used) at.1 Used) n) (sym behind_is)
-    (begun_more disk blocks before after hs sets at h reads (subst (IsBegun disk before hs sets) is begun) header same stands))))
+    subst (λ d. IsThreadBegun d after items marked behind) (sym e)
+    (subst (λ z. IsThreadBegun disk after z marked behind) (sym items_are)
+    (subst (λ s. IsThreadBegun disk after (hs ++ h ∷ []) s behind) (sym marked_is)
+    (subst (λ n. IsThreadBegun disk after (hs ++ h ∷ []) (set (set sets at.0 Used) at.1 Used) n) (sym behind_is)
+    (begun_more disk blocks before after hs sets at h reads (subst (IsThreadBegun disk before hs sets) is begun) header same stands))))
 
 pub no_thread : (disk old : Disk) (n : ℕ) (history : List Event) (hs : List Header) (sets : BlockSets) (next : Option (ℕ × ℕ)) (at : ℕ × ℕ) → disk ≡ old → block_count old ≡ n → next ≡ Some at
-    → IsBegun disk history hs sets next → ¬ CanStand disk sets at → (ps : List Pair) → ¬ IsThread (content_at old) n ps
+    → IsThreadBegun disk history hs sets next → ¬ CanStand disk sets at → (ps : List Pair) → ¬ IsThread (content_at old) n ps
 no_thread disk old n history hs sets next at e count is begun cannot ps t =
-    begun_ends disk history hs sets at (subst (IsBegun disk history hs sets) is begun) cannot ps
+    begun_ends disk history hs sets at (subst (IsThreadBegun disk history hs sets) is begun) cannot ps
     (subst (λ (d : Disk). IsThread (content_at d) (block_count d) ps) (sym e) (subst (λ k. IsThread (content_at old) k ps) (sym count) t))
 
 pub same_error : {T E : Type 0} {r : Result T E} {y f e : E} → r ≡ Err y → y ≡ f → r ≡ Err e → f ≡ e

@@ -17,7 +17,7 @@ use Rattle.lfs_model.proofs.BlockSets.{Contains-count}
 use Rattle.lfs_model.proofs.Counts.{count, count_here}
 use Rattle.lfs_model.proofs.Staying.{IsSameAt, raw_same}
 use Rattle.lfs_pair.specs.Pair.{address_in}
-use Rattle.lfs_thread.specs.Kept.{AllUsed, AreHeaders, Header, IsCurrent, pair_on, pairs_on, seen_on, disk_on, IsKeptOn}
+use Rattle.lfs_thread.specs.Kept.{AllUsed, AreHeaders, Header, IsCurrent, pair_on, pairs_on, kept_view_on, disk_on, IsKeptOn}
 use Rattle.lfs_thread.specs.Beside.{LeavesPairs}
 use Rattle.lfs_thread.proofs.Coming.{used_at}
 use Rattle.lfs_thread.proofs.Keeping.{IsAsItWas, header_same}
@@ -63,7 +63,7 @@ used_beside sets later (b ∷ bs) used f = (f b (let m = count_here b bs in omeg
 -- ---- a thread
 
 module _ {D : Type 0} (g : Ghosts D) (device : D) (map : BlockSets) (later : D) (later_map : BlockSets) (hs : List Header)
-    (kept : IsKeptOn g device hs map) (leaves : LeavesPairs g (seen_on g device hs map) device map later later_map) where
+    (kept : IsKeptOn g device hs map) (leaves : LeavesPairs g (kept_view_on g device hs map) device map later later_map) where
   abbrev bs : List ℕ
   bs = blocks_of (pairs_on (disk_on g device) hs)
 
@@ -90,5 +90,5 @@ module _ {D : Type 0} (g : Ghosts D) (device : D) (map : BlockSets) (later : D) 
   }
 
 -- an empty cache is current
-pub none_at_hand : (blocks : Blocks) (cache : CachedBlocks) → cache ≡ [] → IsCurrent blocks cache
-none_at_hand blocks cache empty b bytes has = absurd (let e : None ≡ Some bytes = ap (λ c. cached c b) (sym empty) ∙ has in cc)
+pub none_is_cached : (blocks : Blocks) (cache : CachedBlocks) → cache ≡ [] → IsCurrent blocks cache
+none_is_cached blocks cache empty b bytes has = absurd (let e : None ≡ Some bytes = ap (λ c. cached c b) (sym empty) ∙ has in cc)

@@ -27,8 +27,8 @@ use Rattle.lfs_pair.specs.Pair.{address_in}
 use Rattle.lfs_pair.specs.Commit.{CanCommit, Commits, NowHolds, IsAddressOn, OutsideKeeps, OutsideStays, IsMade, IsStill, LeftByChange, made_at}
 use Rattle.lfs_model.specs.View.{superblock_entry}
 use Rattle.lfs_model.proofs.FirstEntries.{superblock_anew}
-use Rattle.lfs_thread.specs.Kept.{Header, seen, pair_on, pairs_on, IsHeader, AreHeaders, AllUsed, IsKept}
-use Rattle.lfs_thread.specs.Steps.{pair_in, no_pair, made_in_thread, CanChange, with_pair, StaysFirst, IsWrittenAs, IsChanged, IsOnlyRead, IsRefused, IsLeft}
+use Rattle.lfs_thread.specs.Kept.{Header, kept_view, pair_on, pairs_on, IsHeader, AreHeaders, AllUsed, IsKept}
+use Rattle.lfs_thread.specs.Steps.{pair_in, no_pair, made_in_thread, CanChange, with_pair, StaysFirst, IsWrittenAs, IsChanged, IsOnlyRead, IsRefused, IsLeftByChange}
 use Rattle.lfs_thread.proofs.Keeping.{IsAsItWas, header_same, kept_thread, headers_right, header_content, pair_on_content, used_left, used_right, IsReplaced, pairs_are, kept_replaced}
 
 -- ---- the header at an index
@@ -47,7 +47,7 @@ at_index (h ∷ hs) (suc index) d l =
     record { front = h ∷ a.front; back = a.back; parts = ap (λ z. h ∷ z) a.parts; place = ap suc a.place }
 
 pub pair_at_index : (disk : Disk) (history : List Event) (hs : List Header) (sets : BlockSets) (index : ℕ) (h : Header) → IsAt hs index h
-    → pair_in (seen disk history hs sets) index ≡ pair_on disk (address_in h)
+    → pair_in (kept_view disk history hs sets) index ≡ pair_on disk (address_in h)
 pair_at_index disk history hs sets index h a =
     ap₂ (λ (z : List Header) (i : ℕ). get_or (pairs_on disk z) i no_pair) a.parts a.place ∙ go a.front
   where
@@ -95,12 +95,12 @@ completes (Some raw) c h = record { raw = raw; is = refl; complete = h; names = 
 
 -- what the changes make of the pair that the header is of
 pub made_of_header : (disk : Disk) (history : List Event) (hs : List Header) (sets : BlockSets) (index : ℕ) (h : Header) (changes : List Change) (c : Content) → IsAt hs index h
-    → made_in_thread (seen disk history hs sets) index changes ≡ Some c → Completes (made_at disk (address_in h) changes) c
+    → made_in_thread (kept_view disk history hs sets) index changes ≡ Some c → Completes (made_at disk (address_in h) changes) c
 made_of_header disk history hs sets index h changes c a made =
     completes (made_at disk (address_in h) changes) c (ap (λ (p : Pair). option_and_then completed (made_at disk p.at changes)) (sym (pair_at_index disk history hs sets index h a)) ∙ made)
 
 pub can_commit : (disk : Disk) (history : List Event) (hs : List Header) (sets : BlockSets) (index : ℕ) (h : Header) (changes : List Change) → IsAt hs index h → IsKept disk history hs sets
-    → (c : Content) → made_in_thread (seen disk history hs sets) index changes ≡ Some c → CanCommit disk history h changes
+    → (c : Content) → made_in_thread (kept_view disk history hs sets) index changes ≡ Some c → CanCommit disk history h changes
 can_commit disk history hs sets index h changes a kept c made =
     let is = header_at_index disk history hs index h a kept.each in
     let m = made_of_header disk history hs sets index h changes c a made in
@@ -116,7 +116,7 @@ can_commit disk history hs sets index h changes a kept c made =
 -- ---- after it
 
 module _ (disk : Disk) (before : List Event) (blocks : Blocks) (after : List Event) (hs : List Header) (sets : BlockSets) (index : ℕ) (h new : Header) (changes : List Change)
-    (a : IsAt hs index h) (kept : IsKept disk before hs sets) (can : CanChange (seen disk before hs sets) index changes)
+    (a : IsAt hs index h) (kept : IsKept disk before hs sets) (can : CanChange (kept_view disk before hs sets) index changes)
     (commits : Commits disk before changes h (record disk { blocks = blocks }) after new) (others : OutsideKeeps (address_in h) disk.blocks blocks) (stay : OutsideStays (address_in h) before after) where
   abbrev left : Disk
   left = record disk { blocks = blocks }
@@ -151,7 +151,7 @@ module _ (disk : Disk) (before : List Event) (blocks : Blocks) (after : List Eve
   unfolding now_header
   now_pair = pair_on_content left (address_in new) can.content (header_content left after new now_header) ∙ ap (λ at. record { at = at; content = can.content }) holds.same
 
-  was_pair : pair_in (seen disk before hs sets) index ≡ pair_on disk (address_in h)
+  was_pair : pair_in (kept_view disk before hs sets) index ≡ pair_on disk (address_in h)
   was_pair = pair_at_index disk before hs sets index h a
 
   same_next : next_of (pair_on left (address_in new)).content.tail ≡ next_of (pair_on disk (address_in h)).content.tail
@@ -187,16 +187,16 @@ module _ (disk : Disk) (before : List Event) (blocks : Blocks) (after : List Eve
   changed_kept = subst (λ z. IsKept left after z sets) (sym set_there)
       (kept_replaced disk before blocks after a.front (h ∷ []) (new ∷ []) a.back ((address_in h).0 ∷ (address_in h).1 ∷ []) [] sets sets kept_parts replaced)
 
-  pub changed_pairs : pairs_on left (set hs index new) ≡ with_pair (seen disk before hs sets) index can.content
+  pub changed_pairs : pairs_on left (set hs index new) ≡ with_pair (kept_view disk before hs sets) index can.content
   changed_pairs = ap (pairs_on left) set_there
       ∙ pairs_are disk before blocks after a.front (h ∷ []) (new ∷ []) a.back ((address_in h).0 ∷ (address_in h).1 ∷ []) [] sets sets kept_parts replaced
       ∙ ap (λ p. pairs_on disk a.front ++ p ∷ pairs_on disk a.back) (now_pair ∙ ap (λ (p : Pair). record { at = p.at; content = can.content }) (sym was_pair))
-      ∙ sym (set-append_seam (pairs_on disk a.front) (pair_on disk (address_in h)) (pairs_on disk a.back) (record { at = (pair_in (seen disk before hs sets) index).at; content = can.content }))
-      ∙ ap₂ (λ (z : List Pair) (i : ℕ). set z i (record { at = (pair_in (seen disk before hs sets) index).at; content = can.content }))
+      ∙ sym (set-append_seam (pairs_on disk a.front) (pair_on disk (address_in h)) (pairs_on disk a.back) (record { at = (pair_in (kept_view disk before hs sets) index).at; content = can.content }))
+      ∙ ap₂ (λ (z : List Pair) (i : ℕ). set z i (record { at = (pair_in (kept_view disk before hs sets) index).at; content = can.content }))
       (sym (ap (pairs_on disk) a.parts ∙ map-append (λ x. pair_on disk (address_in x)) a.front (h ∷ a.back)))
       (length-map a.front (λ x. pair_on disk (address_in x)) ∙ sym a.place)
 
-  pub is_changed : IsChanged (seen disk before hs sets) index changes (seen left after (set hs index new) sets)
+  pub is_changed : IsChanged (kept_view disk before hs sets) index changes (kept_view left after (set hs index new) sets)
   unfolding now_header
   is_changed = record {
     content = can.content;
@@ -215,7 +215,7 @@ module _ (disk : Disk) (before : List Event) (blocks : Blocks) (after : List Eve
 
 -- the same of a device that keeps its geometry
 module _ (geometry later : Geometry) (old blocks : Blocks) (before after : List Event) (hs : List Header) (sets : BlockSets) (index : ℕ) (h new : Header) (changes : List Change)
-    (same : later ≡ geometry) (a : IsAt hs index h) (kept : IsKept (disk_of geometry old) before hs sets) (can : CanChange (seen (disk_of geometry old) before hs sets) index changes)
+    (same : later ≡ geometry) (a : IsAt hs index h) (kept : IsKept (disk_of geometry old) before hs sets) (can : CanChange (kept_view (disk_of geometry old) before hs sets) index changes)
     (commits : Commits (disk_of geometry old) before changes h (disk_of later blocks) after new) (others : OutsideKeeps (address_in h) old blocks) (stay : OutsideStays (address_in h) before after) where
   commits_there : Commits (disk_of geometry old) before changes h (disk_of geometry blocks) after new
   commits_there = subst (λ k. Commits (disk_of geometry old) before changes h (disk_of k blocks) after new) same commits
@@ -224,8 +224,8 @@ module _ (geometry later : Geometry) (old blocks : Blocks) (before after : List 
   device_kept = subst (λ k. IsKept (disk_of k blocks) after (set hs index new) sets) (sym same)
       (changed_kept (disk_of geometry old) before blocks after hs sets index h new changes a kept can commits_there others stay)
 
-  pub device_changed : IsChanged (seen (disk_of geometry old) before hs sets) index changes (seen (disk_of later blocks) after (set hs index new) sets)
-  device_changed = subst (λ k. IsChanged (seen (disk_of geometry old) before hs sets) index changes (seen (disk_of k blocks) after (set hs index new) sets)) (sym same)
+  pub device_changed : IsChanged (kept_view (disk_of geometry old) before hs sets) index changes (kept_view (disk_of later blocks) after (set hs index new) sets)
+  device_changed = subst (λ k. IsChanged (kept_view (disk_of geometry old) before hs sets) index changes (kept_view (disk_of k blocks) after (set hs index new) sets)) (sym same)
       (is_changed (disk_of geometry old) before blocks after hs sets index h new changes a kept can commits_there others stay)
 
 pub at_there : (disk : Disk) (hs : List Header) (index : ℕ) (h : Header) → index < length (pairs_on disk hs) → h ≡ get_or hs index h → IsAt hs index h
@@ -257,20 +257,20 @@ set_same hs index h a = ap₂ (λ (z : List Header) (i : ℕ). set z i h) a.part
 -- ---- at a stop
 
 pub left_in_thread : (disk : Disk) (history : List Event) (hs : List Header) (sets : BlockSets) (index : ℕ) (h : Header) (changes : List Change) (blocks : Blocks) → IsAt hs index h → IsKept disk history hs sets
-    → (c : Content) → made_in_thread (seen disk history hs sets) index changes ≡ Some c → LeftByChange disk (address_in h) changes blocks → IsLeft (seen disk history hs sets) index changes blocks
+    → (c : Content) → made_in_thread (kept_view disk history hs sets) index changes ≡ Some c → LeftByChange disk (address_in h) changes blocks → IsLeftByChange (kept_view disk history hs sets) index changes blocks
 left_in_thread disk history hs sets index h changes blocks a kept made_content made l = sides l.content
   where
-    e : pair_in (seen disk history hs sets) index ≡ pair_on disk (address_in h)
+    e : pair_in (kept_view disk history hs sets) index ≡ pair_on disk (address_in h)
     e = pair_at_index disk history hs sets index h a
 
     is : IsHeader disk history h
     is = header_at_index disk history hs index h a kept.each
 
-    was : content_at disk (address_in h) ≡ Some (pair_in (seen disk history hs sets) index).content
+    was : content_at disk (address_in h) ≡ Some (pair_in (kept_view disk history hs sets) index).content
     was = header_content disk history h is ∙ ap (λ (p : Pair). Some p.content) (sym (e ∙ pair_on_content disk (address_in h) is.content (header_content disk history h is)))
 
     written : (c : Content) → content_at (record disk { blocks = blocks }) (address_in h) ≡ Some c → StaysFirst disk (address_in h) c (record disk { blocks = blocks })
-        → IsWrittenAs (seen disk history hs sets) index c (record disk { blocks = blocks })
+        → IsWrittenAs (kept_view disk history hs sets) index c (record disk { blocks = blocks })
     written c holds first = record {
       holds = ap (λ (p : Pair). content_at (record disk { blocks = blocks }) p.at) e ∙ holds;
       others = subst (λ (p : Pair). OutsideKeeps p.at disk.blocks blocks) (sym e) l.others;
@@ -285,11 +285,11 @@ left_in_thread disk history hs sets index h changes blocks a kept made_content m
     whole k = ap completed (same_Some k.new made_here.raw (sym k.made ∙ made_here.is)) ∙ made_here.complete
 
     sides : IsStill disk (address_in h) (record disk { blocks = blocks }) ⊎ IsMade disk (address_in h) changes (record disk { blocks = blocks })
-        → IsLeft (seen disk history hs sets) index changes blocks
+        → IsLeftByChange (kept_view disk history hs sets) index changes blocks
     sides (inl k) = record {
-      content = (pair_in (seen disk history hs sets) index).content;
+      content = (pair_in (kept_view disk history hs sets) index).content;
       is = inl refl;
-      written = written (pair_in (seen disk history hs sets) index).content (ap (λ o. option_and_then completed o) k.content ∙ was) (λ begins has. k.first superblock_entry begins);
+      written = written (pair_in (kept_view disk history hs sets) index).content (ap (λ o. option_and_then completed o) k.content ∙ was) (λ begins has. k.first superblock_entry begins);
     }
     sides (inr k) = record {
       content = made_content;
@@ -311,7 +311,7 @@ full_kept disk new before after hs sets index h same a kept e f reads =
     (subst (λ z. IsKept disk after z sets) (sym (ap (set hs index) f ∙ set_same hs index h a)) (kept_read disk disk.blocks before after hs sets reads kept))
 
 pub full_read : (disk new : Disk) (before after : List Event) (hs : List Header) (sets : BlockSets) (index : ℕ) (h same : Header) → IsAt hs index h → new ≡ disk → same ≡ h
-    → OnlyReads disk.blocks before after → IsOnlyRead (seen disk before hs sets) (seen new after (set hs index same) sets)
+    → OnlyReads disk.blocks before after → IsOnlyRead (kept_view disk before hs sets) (kept_view new after (set hs index same) sets)
 full_read disk new before after hs sets index h same a e f reads = record {
   disk = e;
   reads = reads;
@@ -321,9 +321,9 @@ full_read disk new before after hs sets index h same a e f reads = record {
 
 -- what doesn't fit, in the words of the pair's commit, doesn't fit the thread's pair
 pub refused : (disk new : Disk) (before after : List Event) (hs : List Header) (sets : BlockSets) (index : ℕ) (h same : Header) (changes : List Change) (c : Content) → IsAt hs index h
-    → made_in_thread (seen disk before hs sets) index changes ≡ Some c
+    → made_in_thread (kept_view disk before hs sets) index changes ≡ Some c
     → ((raw : RawContent) (d : Content) → made_at disk (address_in h) changes ≡ Some raw → completed raw ≡ Some d → FitsPair disk.block_size disk.page d → ⊥)
-    → new ≡ disk → same ≡ h → OnlyReads disk.blocks before after → IsRefused (seen disk before hs sets) index changes (seen new after (set hs index same) sets)
+    → new ≡ disk → same ≡ h → OnlyReads disk.blocks before after → IsRefused (kept_view disk before hs sets) index changes (kept_view new after (set hs index same) sets)
 refused disk new before after hs sets index h same changes c a made too_large e f reads =
     let m = made_of_header disk before hs sets index h changes c a made in
     record {

@@ -20,7 +20,7 @@ use Rattle.lfs_pair.specs.Pair.{address_in}
 use Rattle.lfs_pair.specs.Commit.{IsAddressOn, Commits, OutsideKeeps, OutsideStays}
 use Rattle.lfs_model.specs.View.{superblock_entry}
 use Rattle.lfs_model.proofs.FirstEntries.{superblock_anew}
-use Rattle.lfs_thread.specs.Kept.{Header, seen, pair_on, pairs_on, IsHeader, AllUsed, IsKept}
+use Rattle.lfs_thread.specs.Kept.{Header, kept_view, pair_on, pairs_on, IsHeader, AllUsed, IsKept}
 use Rattle.lfs_thread.specs.Steps.{pair_in, with_pair, CanDrop, IsDropped, without_pair, StaysFirst}
 use Rattle.lfs_thread.proofs.Keeping.{kept_thread, header_content, pair_on_content, used_left, used_right, blocks_append, IsReplaced, pairs_are, kept_replaced}
 use Rattle.lfs_thread.proofs.Changing.{IsAt, at_index, header_at_index, pair_at_index, made_of_header}
@@ -94,7 +94,7 @@ next_used disk before hs sets index h n kept =
 -- ---- after the commit
 
 module _ (disk : Disk) (before : List Event) (blocks : Blocks) (after : List Event) (hs : List Header) (sets : BlockSets) (index : ℕ) (h new : Header) (changes : List Change)
-    (n : HasNext hs index h) (kept : IsKept disk before hs sets) (can : CanDrop (seen disk before hs sets) index changes)
+    (n : HasNext hs index h) (kept : IsKept disk before hs sets) (can : CanDrop (kept_view disk before hs sets) index changes)
     (commits : Commits disk before changes h (record disk { blocks = blocks }) after new) (others : OutsideKeeps (address_in h) disk.blocks blocks) (stay : OutsideStays (address_in h) before after) where
   abbrev left : Disk
   left = record disk { blocks = blocks }
@@ -108,10 +108,10 @@ module _ (disk : Disk) (before : List Event) (blocks : Blocks) (after : List Eve
   kept_parts : IsKept disk before (n.front ++ (two ++ n.back)) sets
   kept_parts = subst (λ z. IsKept disk before z sets) n.parts kept
 
-  was_pair : pair_in (seen disk before hs sets) index ≡ pair_on disk (address_in h)
+  was_pair : pair_in (kept_view disk before hs sets) index ≡ pair_on disk (address_in h)
   was_pair = pair_at_index disk before hs sets index h (here_at hs index h n)
 
-  next_pair : pair_in (seen disk before hs sets) (index + 1) ≡ pair_on disk (address_in n.next)
+  next_pair : pair_in (kept_view disk before hs sets) (index + 1) ≡ pair_on disk (address_in n.next)
   next_pair = pair_at_index disk before hs sets (index + 1) n.next (there_at hs index h n)
 
   whole : completed commits.new ≡ Some can.content
@@ -200,9 +200,9 @@ module _ (disk : Disk) (before : List Event) (blocks : Blocks) (after : List Eve
       (kept_replaced disk before blocks after n.front two (new ∷ []) n.back ((address_in h).0 ∷ (address_in h).1 ∷ []) [] sets now kept_parts replaced)
 
   abbrev p : Pair
-  p = record { at = (pair_in (seen disk before hs sets) index).at; content = can.content }
+  p = record { at = (pair_in (kept_view disk before hs sets) index).at; content = can.content }
 
-  dropped_pairs : pairs_on left headers ≡ remove (with_pair (seen disk before hs sets) index can.content) (index + 1)
+  dropped_pairs : pairs_on left headers ≡ remove (with_pair (kept_view disk before hs sets) index can.content) (index + 1)
   dropped_pairs = ap (pairs_on left) headers_are
       ∙ pairs_are disk before blocks after n.front two (new ∷ []) n.back ((address_in h).0 ∷ (address_in h).1 ∷ []) [] sets now kept_parts replaced
       ∙ ap (λ q. pairs_on disk n.front ++ q ∷ pairs_on disk n.back) (now_pair ∙ ap (λ (q : Pair). record { at = q.at; content = can.content }) (sym was_pair))
@@ -211,7 +211,7 @@ module _ (disk : Disk) (before : List Event) (blocks : Blocks) (after : List Eve
       ∙ ap (λ z. remove z (length (pairs_on disk n.front) + 1)) (set-append_seam (pairs_on disk n.front) (pair_on disk (address_in h)) (pairs_on disk (n.next ∷ n.back)) p)
       ∙ remove_behind (pairs_on disk n.front) p (pair_on disk (address_in n.next)) (pairs_on disk n.back))
 
-  pub is_dropped : IsDropped (seen disk before hs sets) index changes (seen left after headers now)
+  pub is_dropped : IsDropped (kept_view disk before hs sets) index changes (kept_view left after headers now)
   unfolding now_header
   is_dropped = record {
     content = can.content;
@@ -231,7 +231,7 @@ module _ (disk : Disk) (before : List Event) (blocks : Blocks) (after : List Eve
 -- ---- in the code's words
 
 module _ (geometry later : Geometry) (old blocks : Blocks) (before after : List Event) (hs : List Header) (sets : BlockSets) (index : ℕ) (h new : Header) (changes : List Change)
-    (same : later ≡ geometry) (n : HasNext hs index h) (kept : IsKept (disk_of geometry old) before hs sets) (can : CanDrop (seen (disk_of geometry old) before hs sets) index changes)
+    (same : later ≡ geometry) (n : HasNext hs index h) (kept : IsKept (disk_of geometry old) before hs sets) (can : CanDrop (kept_view (disk_of geometry old) before hs sets) index changes)
     (commits : Commits (disk_of geometry old) before changes h (disk_of later blocks) after new) (others : OutsideKeeps (address_in h) old blocks) (stay : OutsideStays (address_in h) before after)
     (items : List Header) (are : items ≡ remove (set hs index new) (index + 1)) (now : BlockSets) (is_now : now ≡ without_pair sets (address_in n.next)) where
   commits_there : Commits (disk_of geometry old) before changes h (disk_of geometry blocks) after new
@@ -241,8 +241,8 @@ module _ (geometry later : Geometry) (old blocks : Blocks) (before after : List 
   device_dropped = subst (λ k. IsKept (disk_of k blocks) after items now) (sym same) (subst (λ z. IsKept (disk_of geometry blocks) after z now) (sym are) (subst (λ m. IsKept (disk_of geometry blocks) after (remove (set hs index new) (index + 1)) m) (sym is_now)
       (dropped_kept (disk_of geometry old) before blocks after hs sets index h new changes n kept can commits_there others stay)))
 
-  pub device_is_dropped : IsDropped (seen (disk_of geometry old) before hs sets) index changes (seen (disk_of later blocks) after items now)
-  device_is_dropped = subst (λ k. IsDropped (seen (disk_of geometry old) before hs sets) index changes (seen (disk_of k blocks) after items now)) (sym same)
-      (subst (λ z. IsDropped (seen (disk_of geometry old) before hs sets) index changes (seen (disk_of geometry blocks) after z now)) (sym are)
-      (subst (λ m. IsDropped (seen (disk_of geometry old) before hs sets) index changes (seen (disk_of geometry blocks) after (remove (set hs index new) (index + 1)) m)) (sym is_now)
+  pub device_is_dropped : IsDropped (kept_view (disk_of geometry old) before hs sets) index changes (kept_view (disk_of later blocks) after items now)
+  device_is_dropped = subst (λ k. IsDropped (kept_view (disk_of geometry old) before hs sets) index changes (kept_view (disk_of k blocks) after items now)) (sym same)
+      (subst (λ z. IsDropped (kept_view (disk_of geometry old) before hs sets) index changes (kept_view (disk_of geometry blocks) after z now)) (sym are)
+      (subst (λ m. IsDropped (kept_view (disk_of geometry old) before hs sets) index changes (kept_view (disk_of geometry blocks) after (remove (set hs index new) (index + 1)) m)) (sym is_now)
       (is_dropped (disk_of geometry old) before blocks after hs sets index h new changes n kept can commits_there others stay)))

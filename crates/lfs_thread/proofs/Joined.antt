@@ -8,7 +8,7 @@ use Rattle.std.proofs.Math.Seq.{set-append_seam}
 use Rattle.lfs_model.specs.Blocks.{Blocks}
 use Rattle.std.specs.List.{IsDistinct}
 use Rattle.std.specs.Option.{option_and_then, option_map}
-use Rattle.lfs_tag.specs.ContentSeen.{tail_seen}
+use Rattle.lfs_tag.specs.ContentView.{tail_view}
 use Rattle.lfs_model.proofs.Completed.{completed_parts}
 use Rattle.lfs_model.specs.BlockSets.{BlockSets, IsUsed}
 use Rattle.lfs_model.specs.Disk.{Disk, block_count}
@@ -26,7 +26,7 @@ use Rattle.lfs_pair.specs.Commit.{Commits, made_at, made_of, IsAddressOn, Outsid
 use Rattle.lfs_pair.specs.Fresh.{CanBeFresh, IsFresh}
 use Rattle.lfs_pair.specs.Split.{AreApart}
 use Rattle.lfs_model.proofs.Staying.{AreElsewhere, raw_at-stays}
-use Rattle.lfs_thread.specs.Kept.{Header, seen, pair_on, pairs_on, IsHeader, AreHeaders, AllUsed, IsKept}
+use Rattle.lfs_thread.specs.Kept.{Header, kept_view, pair_on, pairs_on, IsHeader, AreHeaders, AllUsed, IsKept}
 use Rattle.lfs_thread.specs.Steps.{pair_in, made_in_thread, CanJoin, joined_pair, put_tail, with_two}
 use Rattle.lfs_thread.proofs.Keeping.{AllElsewhere, elsewhere_from, headers_right, headers-stay, pairs-stay, header-stays, header_content, pair_on_content, pair_on-stays, used_left, used_right, IsReplaced, pairs_are, kept_replaced, pair_elsewhere, fresh_elsewhere}
 use Rattle.lfs_thread.proofs.Changing.{IsAt, header_at_index, pair_at_index, made_of_header}
@@ -57,7 +57,7 @@ module _ (disk : Disk) (before : List Event) (blocks : Blocks) (after : List Eve
 -- what changes make of a pair is what they make of it beside the fresh one
 pub beside_made : (disk : Disk) (before : List Event) (blocks : Blocks) (after : List Event) (hs : List Header) (sets : BlockSets) (fresh : ℕ × ℕ) (index : ℕ) (h : Header) (changes : List Change) → IsAt hs index h
     → IsKept disk before hs sets → ¬ IsUsed sets fresh.0 → ¬ IsUsed sets fresh.1 → OutsideKeeps fresh disk.blocks blocks
-    → made_in_thread (seen (record disk { blocks = blocks }) after hs sets) index changes ≡ made_in_thread (seen disk before hs sets) index changes
+    → made_in_thread (kept_view (record disk { blocks = blocks }) after hs sets) index changes ≡ made_in_thread (kept_view disk before hs sets) index changes
 beside_made disk before blocks after hs sets fresh index h changes a kept first second others =
     ap (λ (p : Pair). option_and_then completed (made_at (record disk { blocks = blocks }) p.at changes)) (pair_at_index (record disk { blocks = blocks }) after hs sets index h a)
     ∙ ap (λ r. option_and_then completed (made_of r changes)) (raw_at-stays disk (pair_elsewhere apart) others)
@@ -82,7 +82,7 @@ beside_made disk before blocks after hs sets fresh index h changes a kept first 
 -- ---- the tail names it
 
 module _ (disk : Disk) (before : List Event) (blocks : Blocks) (after : List Event) (hs : List Header) (sets now : BlockSets) (index : ℕ) (h new f : Header) (fresh : ℕ × ℕ) (changes : List Change) (c : Content)
-    (a : IsAt hs index h) (kept : IsKept disk before hs sets) (made : made_in_thread (seen disk before hs sets) index changes ≡ Some c) (next : next_of c.tail ≡ Some fresh)
+    (a : IsAt hs index h) (kept : IsKept disk before hs sets) (made : made_in_thread (kept_view disk before hs sets) index changes ≡ Some c) (next : next_of c.tail ≡ Some fresh)
     (commits : Commits disk before changes h (record disk { blocks = blocks }) after new) (others : OutsideKeeps (address_in h) disk.blocks blocks) (stay : OutsideStays (address_in h) before after)
     (beside : IsHeader disk before f) (at_fresh : address_in f ≡ fresh) (empty : beside.content ≡ record { slots = []; tail = (pair_on disk (address_in h)).content.tail; move = no_gstate })
     (uses : SettlesTwo sets fresh now) where
@@ -116,7 +116,7 @@ module _ (disk : Disk) (before : List Event) (blocks : Blocks) (after : List Eve
   unfolding now_header
   now_pair = pair_on_content left (address_in new) c (header_content left after new now_header) ∙ ap (λ at. record { at = at; content = c }) commits.holds.same
 
-  was_pair : pair_in (seen disk before hs sets) index ≡ pair_on disk (address_in h)
+  was_pair : pair_in (kept_view disk before hs sets) index ≡ pair_on disk (address_in h)
   was_pair = pair_at_index disk before hs sets index h a
 
   used_parts : AllUsed sets (blocks_of (pairs_on disk a.front)) × (AllUsed sets (blocks_of (pairs_on disk (h ∷ []))) × AllUsed sets (blocks_of (pairs_on disk a.back)))
@@ -140,7 +140,7 @@ module _ (disk : Disk) (before : List Event) (blocks : Blocks) (after : List Eve
   f_header : IsHeader left after f
   f_header = header-stays f f_elsewhere others stay beside
 
-  f_pair : pair_on left (address_in f) ≡ joined_pair (seen disk before hs sets) index fresh
+  f_pair : pair_on left (address_in f) ≡ joined_pair (kept_view disk before hs sets) index fresh
   f_pair = pair_on-stays disk (address_in f) f_elsewhere others
       ∙ pair_on_content disk (address_in f) beside.content (header_content disk before f beside)
       ∙ ap₂ (λ (at : ℕ × ℕ) (x : Content). record { at = at; content = x }) at_fresh empty
@@ -187,16 +187,16 @@ module _ (disk : Disk) (before : List Event) (blocks : Blocks) (after : List Eve
       (kept_replaced disk before blocks after a.front (h ∷ []) (new ∷ f ∷ []) a.back ((address_in h).0 ∷ (address_in h).1 ∷ []) (fresh.0 ∷ fresh.1 ∷ []) sets now kept_parts replaced)
 
   abbrev then : Pair
-  then = record { at = (pair_in (seen disk before hs sets) index).at; content = c }
+  then = record { at = (pair_in (kept_view disk before hs sets) index).at; content = c }
 
-  pub joined_pairs : pairs_on left headers ≡ with_two (pairs_on disk hs) index then (joined_pair (seen disk before hs sets) index fresh)
+  pub joined_pairs : pairs_on left headers ≡ with_two (pairs_on disk hs) index then (joined_pair (kept_view disk before hs sets) index fresh)
   joined_pairs = ap (pairs_on left) headers_are
       ∙ pairs_are disk before blocks after a.front (h ∷ []) (new ∷ f ∷ []) a.back ((address_in h).0 ∷ (address_in h).1 ∷ []) (fresh.0 ∷ fresh.1 ∷ []) sets now kept_parts replaced
       ∙ ap₂ (λ p q. pairs_on disk a.front ++ p ∷ q ∷ pairs_on disk a.back) (now_pair ∙ ap (λ (p : Pair). record { at = p.at; content = c }) (sym was_pair)) f_pair
-      ∙ sym (ap₂ (λ (z : List Pair) (i : ℕ). with_two z i then (joined_pair (seen disk before hs sets) index fresh))
+      ∙ sym (ap₂ (λ (z : List Pair) (i : ℕ). with_two z i then (joined_pair (kept_view disk before hs sets) index fresh))
       (ap (pairs_on disk) a.parts ∙ map-append (λ x. pair_on disk (address_in x)) a.front (h ∷ a.back)) (a.place ∙ sym (length-map a.front (λ x. pair_on disk (address_in x))))
-      ∙ ap (λ z. insert z (length (pairs_on disk a.front) + 1) (joined_pair (seen disk before hs sets) index fresh)) (set-append_seam (pairs_on disk a.front) (pair_on disk (address_in h)) (pairs_on disk a.back) then)
-      ∙ insert_behind (pairs_on disk a.front) then (pairs_on disk a.back) (joined_pair (seen disk before hs sets) index fresh))
+      ∙ ap (λ z. insert z (length (pairs_on disk a.front) + 1) (joined_pair (kept_view disk before hs sets) index fresh)) (set-append_seam (pairs_on disk a.front) (pair_on disk (address_in h)) (pairs_on disk a.back) then)
+      ∙ insert_behind (pairs_on disk a.front) then (pairs_on disk a.back) (joined_pair (kept_view disk before hs sets) index fresh))
 
 -- ---- what the fresh pair is to hold
 
@@ -242,12 +242,12 @@ tail_named disk history hs sets index h a kept few = go (pair_on disk (address_i
         let real : (address_in x).0 == null_address ≡ false = ne_eqb (address_in x).0 null_address (λ e. absurd (omega (arith, e, f, few))) in
         subst (λ (to : ℕ × ℕ). IsAddress to × (is_null to ≡ false)) (sym same) ((omega (arith, f, few), omega (arith, s, few)), ap (λ b. b && (address_in x).1 == null_address) real)
 
-pub header_tail : (disk : Disk) (history : List Event) (h : Header) → IsHeader disk history h → (pair_on disk (address_in h)).content.tail ≡ option_map tail_seen h.tail
+pub header_tail : (disk : Disk) (history : List Event) (h : Header) → IsHeader disk history h → (pair_on disk (address_in h)).content.tail ≡ option_map tail_view h.tail
 header_tail disk history h is = ap (λ (q : Pair). q.content.tail) (pair_on_content disk (address_in h) is.content (header_content disk history h is))
     ∙ (completed_parts is.held is.content is.complete).tail ∙ sym is.is_pair.describes.sums.tail
 
 pub fresh_can : (disk : Disk) (history : List Event) (hs : List Header) (sets : BlockSets) (index : ℕ) (h : Header) (fresh : ℕ × ℕ) (changes : List Change) (t : Change) → IsAt hs index h → IsKept disk history hs sets
-    → block_count disk ≤ 65536 → CanJoin (seen disk history hs sets) index fresh changes → t ≡ put_tail (option_map tail_seen h.tail) → CanBeFresh disk fresh (t ∷ [])
+    → block_count disk ≤ 65536 → CanJoin (kept_view disk history hs sets) index fresh changes → t ≡ put_tail (option_map tail_view h.tail) → CanBeFresh disk fresh (t ∷ [])
 fresh_can disk history hs sets index h fresh changes t a kept few can e =
     subst (λ x. CanBeFresh disk fresh (x ∷ [])) (sym e)
     (subst (λ y. CanBeFresh disk fresh (put_tail y ∷ [])) (header_tail disk history h (header_at_index disk history hs index h a kept.each))

@@ -1,4 +1,4 @@
-pub mod AtHand
+pub mod CachedLogs
 pub mod Keeping
 pub mod Changing
 pub mod Coming
@@ -7,8 +7,8 @@ pub mod Begun
 pub mod Dropped
 pub mod Joined
 pub mod Threaded
-pub mod Told
-pub mod Lending
+pub mod Reported
+pub mod CachedPair
 pub mod GlobalState
 pub mod Beside
 pub mod ByBlocks

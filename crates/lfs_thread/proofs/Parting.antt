@@ -27,7 +27,7 @@ use Rattle.lfs_pair.specs.Cut.{CanBeCut, FitSlots, IsCut}
 use Rattle.lfs_pair.specs.Commit.{IsAddressOn, CanCommit, IsStill, KeepsFirst, made_at, made_of}
 use Rattle.lfs_model.proofs.FirstEntries.{superblock_anew}
 use Rattle.lfs_pair.specs.Split.{CanSplit, IsInside, Splits, OutsideBothKeeps, OutsideBothStays, LeftBySplit, AreParted, front_of, back_of}
-use Rattle.lfs_thread.specs.Kept.{Kept, Header, seen, pair_on, pairs_on, IsHeader, AllUsed, IsKept}
+use Rattle.lfs_thread.specs.Kept.{Kept, Header, kept_view, pair_on, pairs_on, IsHeader, AllUsed, IsKept}
 use Rattle.lfs_thread.specs.Steps.{pair_in, CanBeSplit, settled, front_pair, back_pair, with_two, IsSplit, AreHalves, ArePartsOf, IsAsBefore, IsLeftBySplit}
 use Rattle.lfs_thread.proofs.Coming.{two_unused, used_still, SettlesTwo, settles_two, held_address}
 use Rattle.lfs_thread.proofs.Keeping.{kept_thread, header_content, pair_on_content, used_left, used_right, IsReplaced, pairs_are, kept_replaced}
@@ -108,7 +108,7 @@ insert_behind xs y ys z =
 -- ---- before
 
 pub can_split : (disk : Disk) (before : List Event) (hs : List Header) (sets : BlockSets) (index : ℕ) (h : Header) (fresh : ℕ × ℕ) (changes : List Change) → IsAt hs index h → IsKept disk before hs sets
-    → CanBeSplit (seen disk before hs sets) index fresh changes → CanSplit disk before h fresh changes
+    → CanBeSplit (kept_view disk before hs sets) index fresh changes → CanSplit disk before h fresh changes
 can_split disk before hs sets index h fresh changes a kept can =
     let commit = can_commit disk before hs sets index h changes a kept can.can.content can.can.made in
     let used = blocks_used in
@@ -146,7 +146,7 @@ can_split disk before hs sets index h fresh changes a kept can =
 -- ---- after
 
 module _ (disk : Disk) (before : List Event) (blocks : Blocks) (after : List Event) (hs : List Header) (sets : BlockSets) (index : ℕ) (h new f : Header) (fresh : ℕ × ℕ) (changes : List Change)
-    (a : IsAt hs index h) (kept : IsKept disk before hs sets) (can : CanBeSplit (seen disk before hs sets) index fresh changes)
+    (a : IsAt hs index h) (kept : IsKept disk before hs sets) (can : CanBeSplit (kept_view disk before hs sets) index fresh changes)
     (splits : Splits disk before changes h fresh (record disk { blocks = blocks }) after new f) (others : OutsideBothKeeps (address_in h) fresh disk.blocks blocks)
     (stay : OutsideBothStays (address_in h) fresh before after) where
   abbrev left : Disk
@@ -164,7 +164,7 @@ module _ (disk : Disk) (before : List Event) (blocks : Blocks) (after : List Eve
   kept_parts : IsKept disk before (a.front ++ (h ∷ [] ++ a.back)) sets
   kept_parts = subst (λ z. IsKept disk before z sets) a.parts kept
 
-  was_pair : pair_in (seen disk before hs sets) index ≡ pair_on disk (address_in h)
+  was_pair : pair_in (kept_view disk before hs sets) index ≡ pair_on disk (address_in h)
   was_pair = pair_at_index disk before hs sets index h a
 
   is_whole : completed splits.new ≡ Some c
@@ -203,7 +203,7 @@ module _ (disk : Disk) (before : List Event) (blocks : Blocks) (after : List Eve
     complete = back_complete splits.new c splits.cut parts_of;
   }
 
-  new_pair : pair_on left (address_in new) ≡ front_pair (seen disk before hs sets) index c splits.cut fresh
+  new_pair : pair_on left (address_in new) ≡ front_pair (kept_view disk before hs sets) index c splits.cut fresh
   unfolding new_header
   new_pair = pair_on_content left (address_in new) (record { slots = take splits.cut c.slots; tail = Some (record { hard = true; to = fresh }); move = c.move }) (header_content left after new new_header)
       ∙ ap (λ at. record { at = at; content = record { slots = take splits.cut c.slots; tail = Some (record { hard = true; to = fresh }); move = c.move } }) (splits.front.same ∙ ap (λ (p : Pair). p.at) (sym was_pair))
@@ -260,28 +260,28 @@ module _ (disk : Disk) (before : List Event) (blocks : Blocks) (after : List Eve
   split_kept = subst (λ z. IsKept left after z now) (sym headers_are)
       (kept_replaced disk before blocks after a.front (h ∷ []) (new ∷ f ∷ []) a.back ((address_in h).0 ∷ (address_in h).1 ∷ fresh.0 ∷ fresh.1 ∷ []) (fresh.0 ∷ fresh.1 ∷ []) sets now kept_parts replaced)
 
-  split_pairs : pairs_on left headers ≡ with_two (pairs_on disk hs) index (front_pair (seen disk before hs sets) index c splits.cut fresh) (back_pair c splits.cut fresh)
+  split_pairs : pairs_on left headers ≡ with_two (pairs_on disk hs) index (front_pair (kept_view disk before hs sets) index c splits.cut fresh) (back_pair c splits.cut fresh)
   split_pairs = ap (pairs_on left) headers_are
       ∙ pairs_are disk before blocks after a.front (h ∷ []) (new ∷ f ∷ []) a.back ((address_in h).0 ∷ (address_in h).1 ∷ fresh.0 ∷ fresh.1 ∷ []) (fresh.0 ∷ fresh.1 ∷ []) sets now kept_parts replaced
       ∙ ap₂ (λ p q. pairs_on disk a.front ++ p ∷ q ∷ pairs_on disk a.back) new_pair fresh_pair
       ∙ sym (there)
     where
       p : Pair
-      p = front_pair (seen disk before hs sets) index c splits.cut fresh
+      p = front_pair (kept_view disk before hs sets) index c splits.cut fresh
 
-      there : with_two (pairs_on disk hs) index (front_pair (seen disk before hs sets) index c splits.cut fresh) (back_pair c splits.cut fresh)
-          ≡ pairs_on disk a.front ++ front_pair (seen disk before hs sets) index c splits.cut fresh ∷ back_pair c splits.cut fresh ∷ pairs_on disk a.back
-      there = ap₂ (λ (z : List Pair) (i : ℕ). with_two z i (front_pair (seen disk before hs sets) index c splits.cut fresh) (back_pair c splits.cut fresh))
+      there : with_two (pairs_on disk hs) index (front_pair (kept_view disk before hs sets) index c splits.cut fresh) (back_pair c splits.cut fresh)
+          ≡ pairs_on disk a.front ++ front_pair (kept_view disk before hs sets) index c splits.cut fresh ∷ back_pair c splits.cut fresh ∷ pairs_on disk a.back
+      there = ap₂ (λ (z : List Pair) (i : ℕ). with_two z i (front_pair (kept_view disk before hs sets) index c splits.cut fresh) (back_pair c splits.cut fresh))
           (ap (pairs_on disk) a.parts ∙ map-append (λ x. pair_on disk (address_in x)) a.front (h ∷ a.back)) (a.place ∙ sym (length-map a.front (λ x. pair_on disk (address_in x))))
-          ∙ ap (λ z. insert z (length (pairs_on disk a.front) + 1) (back_pair c splits.cut fresh)) (set-append_seam (pairs_on disk a.front) (pair_on disk (address_in h)) (pairs_on disk a.back) (front_pair (seen disk before hs sets) index c splits.cut fresh))
-          ∙ insert_behind (pairs_on disk a.front) (front_pair (seen disk before hs sets) index c splits.cut fresh) (pairs_on disk a.back) (back_pair c splits.cut fresh)
+          ∙ ap (λ z. insert z (length (pairs_on disk a.front) + 1) (back_pair c splits.cut fresh)) (set-append_seam (pairs_on disk a.front) (pair_on disk (address_in h)) (pairs_on disk a.back) (front_pair (kept_view disk before hs sets) index c splits.cut fresh))
+          ∙ insert_behind (pairs_on disk a.front) (front_pair (kept_view disk before hs sets) index c splits.cut fresh) (pairs_on disk a.back) (back_pair c splits.cut fresh)
 
-  pub is_split : IsSplit (seen disk before hs sets) index fresh changes (seen left after headers now)
+  pub is_split : IsSplit (kept_view disk before hs sets) index fresh changes (kept_view left after headers now)
   is_split = record {
     content = c;
     made = can.can.made;
     cut = splits.cut;
-    parts = parts_of_cut (seen disk before hs sets) index splits.new c splits.cut fresh left parts_of is_whole splits.logged splits.is_cut splits.inside
+    parts = parts_of_cut (kept_view disk before hs sets) index splits.new c splits.cut fresh left parts_of is_whole splits.logged splits.is_cut splits.inside
         (subst (λ (p : Pair). KeepsFirst disk p.at (Some (front_of splits.new splits.cut fresh)) left) (sym was_pair) splits.first);
     pairs = split_pairs;
     thread = kept_thread left after headers now split_kept;
@@ -291,7 +291,7 @@ module _ (disk : Disk) (before : List Event) (blocks : Blocks) (after : List Eve
 -- ---- in the code's words
 
 module _ (geometry later : Geometry) (old blocks : Blocks) (before after : List Event) (hs : List Header) (sets : BlockSets) (index : ℕ) (h new f : Header) (fresh : ℕ × ℕ) (changes : List Change)
-    (same : later ≡ geometry) (a : IsAt hs index h) (kept : IsKept (disk_of geometry old) before hs sets) (can : CanBeSplit (seen (disk_of geometry old) before hs sets) index fresh changes)
+    (same : later ≡ geometry) (a : IsAt hs index h) (kept : IsKept (disk_of geometry old) before hs sets) (can : CanBeSplit (kept_view (disk_of geometry old) before hs sets) index fresh changes)
     (splits : Splits (disk_of geometry old) before changes h fresh (disk_of later blocks) after new f) (others : OutsideBothKeeps (address_in h) fresh old blocks)
     (stay : OutsideBothStays (address_in h) fresh before after) (items : List Header) (are : items ≡ insert (set hs index new) (index + 1) f) (now : BlockSets) (is_now : now ≡ settled sets fresh) where
   splits_there : Splits (disk_of geometry old) before changes h fresh (disk_of geometry blocks) after new f
@@ -301,10 +301,10 @@ module _ (geometry later : Geometry) (old blocks : Blocks) (before after : List 
   device_split = subst (λ k. IsKept (disk_of k blocks) after items now) (sym same) (subst (λ z. IsKept (disk_of geometry blocks) after z now) (sym are) (subst (λ m. IsKept (disk_of geometry blocks) after (insert (set hs index new) (index + 1) f) m) (sym is_now)
       (split_kept (disk_of geometry old) before blocks after hs sets index h new f fresh changes a kept can splits_there others stay)))
 
-  pub device_is_split : IsSplit (seen (disk_of geometry old) before hs sets) index fresh changes (seen (disk_of later blocks) after items now)
-  device_is_split = subst (λ k. IsSplit (seen (disk_of geometry old) before hs sets) index fresh changes (seen (disk_of k blocks) after items now)) (sym same)
-      (subst (λ z. IsSplit (seen (disk_of geometry old) before hs sets) index fresh changes (seen (disk_of geometry blocks) after z now)) (sym are)
-      (subst (λ m. IsSplit (seen (disk_of geometry old) before hs sets) index fresh changes (seen (disk_of geometry blocks) after (insert (set hs index new) (index + 1) f) m)) (sym is_now)
+  pub device_is_split : IsSplit (kept_view (disk_of geometry old) before hs sets) index fresh changes (kept_view (disk_of later blocks) after items now)
+  device_is_split = subst (λ k. IsSplit (kept_view (disk_of geometry old) before hs sets) index fresh changes (kept_view (disk_of k blocks) after items now)) (sym same)
+      (subst (λ z. IsSplit (kept_view (disk_of geometry old) before hs sets) index fresh changes (kept_view (disk_of geometry blocks) after z now)) (sym are)
+      (subst (λ m. IsSplit (kept_view (disk_of geometry old) before hs sets) index fresh changes (kept_view (disk_of geometry blocks) after (insert (set hs index new) (index + 1) f) m)) (sym is_now)
       (is_split (disk_of geometry old) before blocks after hs sets index h new f fresh changes a kept can splits_there others stay)))
 
 -- what stands behind the header at an index is put there, and then it and the header are set
@@ -324,20 +324,20 @@ placed hs index h x new f a =
 -- ---- at a stop
 
 pub left_by_split : (disk : Disk) (before : List Event) (hs : List Header) (sets : BlockSets) (index : ℕ) (h : Header) (fresh : ℕ × ℕ) (changes : List Change) (blocks : Blocks) → IsAt hs index h → IsKept disk before hs sets
-    → CanBeSplit (seen disk before hs sets) index fresh changes → LeftBySplit disk (address_in h) fresh changes blocks
-    → IsLeftBySplit (seen disk before hs sets) index fresh changes blocks
+    → CanBeSplit (kept_view disk before hs sets) index fresh changes → LeftBySplit disk (address_in h) fresh changes blocks
+    → IsLeftBySplit (kept_view disk before hs sets) index fresh changes blocks
 left_by_split disk before hs sets index h fresh changes blocks a kept can l = record {
   others = subst (λ (p : Pair). OutsideBothKeeps p.at fresh disk.blocks blocks) (sym e) l.others;
   content = sides l.content;
 }
   where
-    e : pair_in (seen disk before hs sets) index ≡ pair_on disk (address_in h)
+    e : pair_in (kept_view disk before hs sets) index ≡ pair_on disk (address_in h)
     e = pair_at_index disk before hs sets index h a
 
     is : IsHeader disk before h
     is = header_at_index disk before hs index h a kept.each
 
-    was : content_at disk (address_in h) ≡ Some (pair_in (seen disk before hs sets) index).content
+    was : content_at disk (address_in h) ≡ Some (pair_in (kept_view disk before hs sets) index).content
     was = header_content disk before h is ∙ ap (λ (p : Pair). Some p.content) (sym (e ∙ pair_on_content disk (address_in h) is.content (header_content disk before h is)))
 
     made_whole : (raw : RawContent) → made_at disk (address_in h) changes ≡ Some raw → completed raw ≡ Some can.can.content
@@ -347,8 +347,8 @@ left_by_split disk before hs sets index h fresh changes blocks a kept can l = re
     whole raw made = is_complete raw can.can.content (made_whole raw made)
 
     sides : IsStill disk (address_in h) (record disk { blocks = blocks }) ⊎ AreParted disk (address_in h) fresh changes (record disk { blocks = blocks })
-        → IsAsBefore (seen disk before hs sets) index (record disk { blocks = blocks })
-        ⊎ AreHalves (seen disk before hs sets) index changes fresh (record disk { blocks = blocks })
+        → IsAsBefore (kept_view disk before hs sets) index (record disk { blocks = blocks })
+        ⊎ AreHalves (kept_view disk before hs sets) index changes fresh (record disk { blocks = blocks })
     sides (inl k) = inl (record {
       holds = ap (λ (p : Pair). content_at (record disk { blocks = blocks }) p.at) e ∙ ap (λ o. option_and_then completed o) k.content ∙ was;
       first = subst (λ (p : Pair). BeginsWith (holder_at disk p.at) superblock_entry → BeginsWith (holder_at (record disk { blocks = blocks }) p.at) superblock_entry) (sym e) (k.first superblock_entry);
@@ -359,6 +359,6 @@ left_by_split disk before hs sets index h fresh changes blocks a kept can l = re
       cut = k.cut;
       front = ap (λ (p : Pair). content_at (record disk { blocks = blocks }) p.at) e ∙ ap (λ o. option_and_then completed o) k.front.content ∙ front_complete k.new can.can.content k.cut fresh (whole k.new k.made);
       back = ap (λ o. option_and_then completed o) k.back ∙ back_complete k.new can.can.content k.cut (whole k.new k.made);
-      parts = parts_of_cut (seen disk before hs sets) index k.new can.can.content k.cut fresh (record disk { blocks = blocks }) (whole k.new k.made) (made_whole k.new k.made) k.logged k.is_cut k.inside
+      parts = parts_of_cut (kept_view disk before hs sets) index k.new can.can.content k.cut fresh (record disk { blocks = blocks }) (whole k.new k.made) (made_whole k.new k.made) k.logged k.is_cut k.inside
           (subst (λ (p : Pair). KeepsFirst disk p.at (Some (front_of k.new k.cut fresh)) (record disk { blocks = blocks })) (sym e) k.front.first);
     })

@@ -5,7 +5,7 @@ use Rattle.std.proofs.lemmas.List.{map-append}
 use Rattle.std.proofs.lemmas.List.Concat.{flat_map-append}
 use Rattle.lfs_model.specs.Blocks.{Blocks}
 use Rattle.std.specs.Option.{option_and_then, option_map}
-use Rattle.lfs_tag.specs.ContentSeen.{tail_seen}
+use Rattle.lfs_tag.specs.ContentView.{tail_view}
 use Rattle.lfs_model.proofs.Completed.{fits_pair}
 use Rattle.lfs_model.specs.View.{BeginsWith, superblock_entry}
 use Rattle.lfs_model.specs.BlockSets.{BlockSets, IsUsed}
@@ -25,7 +25,7 @@ use Rattle.lfs_pair.specs.Fresh.{IsFresh}
 use Rattle.lfs_pair.specs.Split.{AreApart, OutsideBothKeeps}
 use Rattle.lfs_model.proofs.FirstEntries.{superblock_anew}
 use Rattle.lfs_model.proofs.Staying.{AreElsewhere, raw_at-stays}
-use Rattle.lfs_thread.specs.Kept.{Kept, Header, seen, pair_on, pairs_on, IsHeader, AllUsed, IsKept}
+use Rattle.lfs_thread.specs.Kept.{Kept, Header, kept_view, pair_on, pairs_on, IsHeader, AllUsed, IsKept}
 use Rattle.lfs_thread.specs.Device.{StopsLeave}
 use Rattle.lfs_thread.specs.Steps.{pair_in, no_pair, IsBeside, made_in_thread, CanJoin, HasSuperblockFirst, IsAsBefore, IsJoined, IsJoinedOn, IsLeftByJoin, StaysFirst, joined_pair, put_tail, settled, with_two}
 use Rattle.lfs_thread.proofs.Keeping.{kept_thread, header_content, pair_on_content, pair_on-stays, used_right, pair_elsewhere, fresh_elsewhere, first_stays}
@@ -33,16 +33,16 @@ use Rattle.lfs_thread.proofs.Changing.{IsAt, Completes, can_commit, kept_read, h
 use Rattle.lfs_thread.proofs.Coming.{SettlesTwo, settles_two, held_address}
 use Rattle.lfs_thread.proofs.Dropped.{remove_behind}
 use Rattle.lfs_thread.proofs.Parting.{insert_behind}
-use Rattle.lfs_thread.proofs.Told.{keeps_by_both, keeps_by_fresh}
+use Rattle.lfs_thread.proofs.Reported.{keeps_by_both, keeps_by_fresh}
 use Rattle.lfs_thread.proofs.Joined.{beside_pairs, beside_kept, beside_made, joined_kept, joined_pairs, tail_named, header_tail, IsFreshHeader, fresh_header}
 
 -- ---- beside the thread, and then in it
 
 module _ (disk : Disk) (history : List Event) (hs : List Header) (sets : BlockSets) (index : ℕ) (h : Header) (fresh : ℕ × ℕ) (changes : List Change)
-    (a : IsAt hs index h) (kept : IsKept disk history hs sets) (can : CanJoin (seen disk history hs sets) index fresh changes)
+    (a : IsAt hs index h) (kept : IsKept disk history hs sets) (can : CanJoin (kept_view disk history hs sets) index fresh changes)
     (mid : Blocks) (then : List Event) (others : OutsideKeeps fresh disk.blocks mid) (stay : OutsideStays fresh history then) where
   abbrev old : Kept
-  old = seen disk history hs sets
+  old = kept_view disk history hs sets
 
   abbrev beside : Disk
   beside = record disk { blocks = mid }
@@ -56,7 +56,7 @@ module _ (disk : Disk) (history : List Event) (hs : List Header) (sets : BlockSe
   pub still_pairs : pairs_on beside hs ≡ pairs_on disk hs
   still_pairs = beside_pairs disk history mid then hs sets fresh kept uses.first_unused uses.second_unused others stay
 
-  still_made : made_in_thread (seen beside then hs sets) index changes ≡ Some can.content
+  still_made : made_in_thread (kept_view beside then hs sets) index changes ≡ Some can.content
   still_made = beside_made disk history mid then hs sets fresh index h changes a kept uses.first_unused uses.second_unused others ∙ can.made
 
   pub then_can : CanCommit beside then h changes
@@ -166,10 +166,10 @@ module _ (disk : Disk) (history : List Event) (hs : List Header) (sets : BlockSe
       is_whole = let m = made_of_header beside then hs sets index h changes can.content a still_made in
           ap completed (same_Some commits.new m.raw (sym commits.made ∙ m.is)) ∙ m.complete
 
-      same_at : pair_in (seen beside then hs sets) index ≡ pair_in old index
+      same_at : pair_in (kept_view beside then hs sets) index ≡ pair_in old index
       same_at = ap (λ ps. get_or ps index no_pair) still_pairs
 
-      pub is_joined : IsJoined old index fresh changes (seen left after (insert (set hs index new) (index + 1) f) (settled sets fresh))
+      pub is_joined : IsJoined old index fresh changes (kept_view left after (insert (set hs index new) (index + 1) f) (settled sets fresh))
       is_joined = record {
         content = can.content;
         made = can.made;
@@ -185,10 +185,10 @@ module _ (disk : Disk) (history : List Event) (hs : List Header) (sets : BlockSe
 -- ---- in the code's words
 
 module _ (geometry later : Geometry) (old mid : Blocks) (before then : List Event) (hs : List Header) (sets : BlockSets) (index : ℕ) (h : Header) (fresh : ℕ × ℕ) (changes : List Change)
-    (same : later ≡ geometry) (a : IsAt hs index h) (kept : IsKept (disk_of geometry old) before hs sets) (can : CanJoin (seen (disk_of geometry old) before hs sets) index fresh changes)
+    (same : later ≡ geometry) (a : IsAt hs index h) (kept : IsKept (disk_of geometry old) before hs sets) (can : CanJoin (kept_view (disk_of geometry old) before hs sets) index fresh changes)
     (others : OutsideKeeps fresh old mid) (stay : OutsideStays fresh before then) where
   abbrev was : Kept
-  was = seen (disk_of geometry old) before hs sets
+  was = kept_view (disk_of geometry old) before hs sets
 
   pub device_can : CanCommit (disk_of later mid) then h changes
   device_can = subst (λ k. CanCommit (disk_of k mid) then h changes) (sym same) (then_can (disk_of geometry old) before hs sets index h fresh changes a kept can mid then others stay)
@@ -202,8 +202,8 @@ module _ (geometry later : Geometry) (old mid : Blocks) (before then : List Even
 
   pub is_beside : (disk : Disk) (after : List Event) → disk ≡ disk_of later mid
       → ((raw : RawContent) (d : Content) → made_at (disk_of later mid) (address_in h) changes ≡ Some raw → completed raw ≡ Some d → FitsPair later.block_size later.page d → ⊥)
-      → IsBeside was index fresh changes (seen disk after hs sets)
-  is_beside disk after e too_large = subst (λ d. IsBeside was index fresh changes (seen d after hs sets)) (sym e) (subst (λ k. IsBeside was index fresh changes (seen (disk_of k mid) after hs sets)) (sym same) (record {
+      → IsBeside was index fresh changes (kept_view disk after hs sets)
+  is_beside disk after e too_large = subst (λ d. IsBeside was index fresh changes (kept_view d after hs sets)) (sym e) (subst (λ k. IsBeside was index fresh changes (kept_view (disk_of k mid) after hs sets)) (sym same) (record {
     content = can.content;
     made = can.made;
     too_large = λ f.
@@ -214,7 +214,7 @@ module _ (geometry later : Geometry) (old mid : Blocks) (before then : List Even
     others = others;
   }))
 
-  module _ (f : Header) (tail : Change) (is : IsFresh before (tail ∷ []) (disk_of later mid) then fresh f) (tail_is : tail ≡ put_tail (option_map tail_seen h.tail)) (few : length old ≤ 65536) where
+  module _ (f : Header) (tail : Change) (is : IsFresh before (tail ∷ []) (disk_of later mid) then fresh f) (tail_is : tail ≡ put_tail (option_map tail_view h.tail)) (few : length old ≤ 65536) where
     fresh_there : IsFreshHeader (disk_of geometry mid) then f fresh (pair_on (disk_of geometry old) (address_in h)).content.tail
     fresh_there =
         let on = held_address (disk_of geometry old) before hs sets fresh kept can.held in
@@ -244,10 +244,10 @@ module _ (geometry later : Geometry) (old mid : Blocks) (before then : List Even
           (subst (λ m. IsKept (disk_of geometry blocks) after (insert (set hs index new) (index + 1) f) m) (sym is_now)
           (is_kept (disk_of geometry old) before hs sets index h fresh changes a kept can mid then others stay f fresh_there blocks after new commits_there keeps stays)))
 
-      pub device_is_joined : IsJoined was index fresh changes (seen (disk_of now_geometry blocks) after items now)
-      device_is_joined = subst (λ k. IsJoined was index fresh changes (seen (disk_of k blocks) after items now)) (sym there)
-          (subst (λ z. IsJoined was index fresh changes (seen (disk_of geometry blocks) after z now)) (sym are)
-          (subst (λ m. IsJoined was index fresh changes (seen (disk_of geometry blocks) after (insert (set hs index new) (index + 1) f) m)) (sym is_now)
+      pub device_is_joined : IsJoined was index fresh changes (kept_view (disk_of now_geometry blocks) after items now)
+      device_is_joined = subst (λ k. IsJoined was index fresh changes (kept_view (disk_of k blocks) after items now)) (sym there)
+          (subst (λ z. IsJoined was index fresh changes (kept_view (disk_of geometry blocks) after z now)) (sym are)
+          (subst (λ m. IsJoined was index fresh changes (kept_view (disk_of geometry blocks) after (insert (set hs index new) (index + 1) f) m)) (sym is_now)
           (is_joined (disk_of geometry old) before hs sets index h fresh changes a kept can mid then others stay f fresh_there blocks after new commits_there keeps stays)))
 
 -- a header put behind another one is taken out again

@@ -23,7 +23,7 @@ abbrev pub Work : Type 0 → Type 0 → Type 0 → Type 1
 Work F D X = Once F (MutBor D × (MutBor BlockSets × Unit {0})) (X × (MutBor D × (MutBor BlockSets × Unit {0})))
 
 -- the device and the map are the thread's
-pub record Shows {D : Type 0} (g : Ghosts D) (t : Kept) (device : D) (sets : BlockSets) : Type 0 where
+pub record IsOnDevice {D : Type 0} (g : Ghosts D) (t : Kept) (device : D) (sets : BlockSets) : Type 0 where
   pub disk : disk_on g device ≡ t.disk
   pub history : g.history device ≡ t.history
   pub map : sets ≡ t.map
@@ -59,6 +59,6 @@ pub record HasRun {F D X : Type 0} (g : Ghosts D) (call : Work F D X) (work : F)
   pub map : BlockSets
   pub later : D
   pub later_map : BlockSets
-  pub before : Shows g old device map
-  pub after : Shows g new later later_map
+  pub before : IsOnDevice g old device map
+  pub after : IsOnDevice g new later later_map
   pub run : Runs call work device map x later later_map

@@ -3,7 +3,7 @@ use Rattle.std.specs.Prelude.{ℕ, ◌≡◌, ◌≢◌, ◌<◌, ◌⊎◌, Lis
 use Rattle.lfs_device.specs.declared.device.BlockDevice.{Ghosts}
 use Rattle.lfs_device.specs.declared.error.Error.{Error}
 use Rattle.lfs_device.specs.declared.error.Error.TheVariants.{Io, NoMemory}
-use Rattle.lfs_device.specs.Calls.{ReadsOnly, TellsFaults}
+use Rattle.lfs_device.specs.Calls.{ReadsOnly, ReportsFaults}
 use Rattle.lfs_device.specs.Shown.{disk_of}
 use Rattle.lfs_model.specs.Blocks.{Blocks, SameButThese}
 use Rattle.lfs_model.specs.History.{Event, EachSince, LeavesOnly, OnlyReads, faults}
@@ -17,15 +17,15 @@ abbrev pub four_of : ℕ × ℕ → ℕ × ℕ → List ℕ
 four_of at fresh = at.0 ∷ at.1 ∷ fresh.0 ∷ fresh.1 ∷ []
 
 -- `Io` comes with a fault of the device, and any other result with none. At `NoMemory` nothing was written.
-pub record TellsErrors {D X : Type 0} (g : Ghosts D) (old new : D) (result : Result X Error) : Type 0 where
+pub record ReportsErrors {D X : Type 0} (g : Ghosts D) (old new : D) (result : Result X Error) : Type 0 where
   pub errors : IfErr result (λ e. (e ≡ Io) ⊎ (e ≡ NoMemory))
-  pub faults : TellsFaults g old new result
+  pub faults : ReportsFaults g old new result
   pub unwritten : result ≡ Err NoMemory → ReadsOnly g old new
 
 -- `Io` comes with a fault of the device, and any other result with none. At `NoMemory` no block was written but these.
-pub record TellsErrorsBeside {D X : Type 0} (g : Ghosts D) (bs : List ℕ) (old new : D) (result : Result X Error) : Type 0 where
+pub record ReportsErrorsBeside {D X : Type 0} (g : Ghosts D) (bs : List ℕ) (old new : D) (result : Result X Error) : Type 0 where
   pub errors : IfErr result (λ e. (e ≡ Io) ⊎ (e ≡ NoMemory))
-  pub faults : TellsFaults g old new result
+  pub faults : ReportsFaults g old new result
   pub beside : result ≡ Err NoMemory → SameButThese bs (g.blocks old) (g.blocks new)
 
 -- The device comes back with an error, and was only read. `Io` comes with a fault of the device, and any other error with none.

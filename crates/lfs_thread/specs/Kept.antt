@@ -26,7 +26,7 @@ pub record Kept : Type 0 where
   pub pairs : List Pair
   pub map : BlockSets
 
--- What contracts see of a thread: what is kept, which blocks are at hand, and whether a call failed.
+-- What contracts see of a thread: what is kept, which blocks are cached, and whether a call failed.
 pub record State : Type 0 where
   pub kept : Kept
   pub cache : CachedBlocks
@@ -39,8 +39,8 @@ pair_on disk at = record { at = at; content = unwrap_or (content_at disk at) (re
 abbrev pub pairs_on : Disk → List Header → List Pair
 pairs_on disk headers = map (λ h. pair_on disk (address_in h)) headers
 
-abbrev pub seen : Disk → List Event → List Header → BlockSets → Kept
-seen disk history headers sets = record { disk = disk; history = history; pairs = pairs_on disk headers; map = sets }
+abbrev pub kept_view : Disk → List Event → List Header → BlockSets → Kept
+kept_view disk history headers sets = record { disk = disk; history = history; pairs = pairs_on disk headers; map = sets }
 
 -- The disk has the pair as its header says, and each of its slots has a name and a struct.
 pub record IsHeader (disk : Disk) (history : List Event) (h : Header) : Type 0 where
@@ -77,7 +77,7 @@ pub record WasKept (disk : Disk) (history : List Event) (headers : List Header) 
   pub size : length sets ≡ block_count disk
   pub used : AllUsed sets (blocks_of (pairs_on disk headers))
 
--- each block at hand has the bytes that the device has
+-- each cached block has the bytes that the device has
 abbrev pub IsCurrent : Blocks → CachedBlocks → Type 0
 IsCurrent blocks cache = (b : ℕ) (bytes : List ℕ) → cached cache b ≡ Some bytes → bytes ≡ block_in blocks b
 
@@ -86,8 +86,8 @@ IsCurrent blocks cache = (b : ℕ) (bytes : List ℕ) → cached cache b ≡ Som
 abbrev pub disk_on : {D : Type 0} → Ghosts D → D → Disk
 disk_on g device = disk_of (g.geometry device) (g.blocks device)
 
-abbrev pub seen_on : {D : Type 0} → Ghosts D → D → List Header → BlockSets → Kept
-seen_on g device headers sets = seen (disk_on g device) (g.history device) headers sets
+abbrev pub kept_view_on : {D : Type 0} → Ghosts D → D → List Header → BlockSets → Kept
+kept_view_on g device headers sets = kept_view (disk_on g device) (g.history device) headers sets
 
 abbrev pub IsKeptOn : {D : Type 0} → Ghosts D → D → List Header → BlockSets → Type 0
 IsKeptOn g device headers sets = IsKept (disk_on g device) (g.history device) headers sets

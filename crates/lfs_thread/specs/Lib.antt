@@ -1,7 +1,7 @@
 pub mod Kept
 pub mod Device
 pub mod Steps
-pub mod Lent
+pub mod CachedLog
 pub mod Begun
 pub mod Reading
 pub mod Beside

@@ -3,7 +3,7 @@ use Rattle.std.specs.Prelude.{ℕ, ◌≡◌, ◌+◌, ◌*◌, ◌⊎◌, false
 use Rattle.lfs_device.specs.declared.device.BlockDevice.{Ghosts}
 use Rattle.lfs_device.specs.declared.error.Error.{Error}
 use Rattle.lfs_device.specs.declared.error.Error.TheVariants.{Corrupt, Io, NoMemory}
-use Rattle.lfs_device.specs.Calls.{ReadsOnly, TellsFaults}
+use Rattle.lfs_device.specs.Calls.{ReadsOnly, ReportsFaults}
 use Rattle.lfs_model.specs.BlockSets.{AreInFlight, AreUsed, BlockSets, Used}
 use Rattle.lfs_model.specs.Content.{content_at}
 use Rattle.lfs_model.specs.Disk.{Disk}
@@ -14,10 +14,10 @@ use Rattle.lfs_thread.specs.Begun.{CanStand}
 use Rattle.lfs_thread.specs.Kept.{Header, IsHeader, State, disk_on}
 
 -- The device was only read. `Io` comes with a fault of the device, and any other result without one.
-pub record TellsReading {D X : Type 0} (g : Ghosts D) (old new : D) (result : Result X Error) : Type 0 where
+pub record ReportsReading {D X : Type 0} (g : Ghosts D) (old new : D) (result : Result X Error) : Type 0 where
   pub device : ReadsOnly g old new
   pub errors : IfErr result (λ e. (e ≡ Corrupt) ⊎ ((e ≡ Io) ⊎ (e ≡ NoMemory)))
-  pub faults : TellsFaults g old new result
+  pub faults : ReportsFaults g old new result
 
 -- The header is that of the pair at an address. The pair can stand there, and its blocks are marked now.
 pub record IsReadAt (disk : Disk) (history : List Event) (at : ℕ × ℕ) (old new : BlockSets) (h : Header) : Type 0 where

@@ -56,14 +56,14 @@ pub record IsUnwritten (old new : Kept) : Type 0 where
   pub reads : OnlyReads old.disk.blocks old.history new.history
 
 -- `Io` comes with a fault of the device, and any other result with none. At `NoMemory` nothing was written.
-pub record HasTold {X : Type 0} (old new : Kept) (result : Result X Error) : Type 0 where
+pub record HasReported {X : Type 0} (old new : Kept) (result : Result X Error) : Type 0 where
   pub errors : IfErr result (λ e. (e ≡ Io) ⊎ (e ≡ NoMemory))
   pub fault : IsErrOf result Io → faults old.history < faults new.history
   pub no_fault : ¬ IsErrOf result Io → faults new.history ≡ faults old.history
   pub unwritten : result ≡ Err NoMemory → IsUnwritten old new
 
 -- `Io` comes with a fault of the device, and any other result with none. At `NoMemory` no block was written but these.
-pub record HasToldBeside {X : Type 0} (bs : List ℕ) (old new : Kept) (result : Result X Error) : Type 0 where
+pub record HasReportedBeside {X : Type 0} (bs : List ℕ) (old new : Kept) (result : Result X Error) : Type 0 where
   pub errors : IfErr result (λ e. (e ≡ Io) ⊎ (e ≡ NoMemory))
   pub fault : IsErrOf result Io → faults old.history < faults new.history
   pub no_fault : ¬ IsErrOf result Io → faults new.history ≡ faults old.history
@@ -125,7 +125,7 @@ pub record IsRefused (old : Kept) (index : ℕ) (changes : List Change) (new : K
   pub only : IsOnlyRead old new
 
 -- What a stop leaves of a commit: the pair with its old content or with what the changes make.
-pub record IsLeft (old : Kept) (index : ℕ) (changes : List Change) (left : Blocks) : Type 0 where
+pub record IsLeftByChange (old : Kept) (index : ℕ) (changes : List Change) (left : Blocks) : Type 0 where
   pub content : Content
   pub is : (content ≡ (pair_in old index).content) ⊎ ((made_in_thread old index changes ≡ Some content) × FitsPair old.disk.block_size old.disk.page content)
   pub written : IsWrittenAs old index content (record old.disk { blocks = left })

@@ -3,22 +3,22 @@
 ghost use Rattle.std.specs.Prelude.{◌≡◌, ◌+◌, IfOk, OnOk, option_map};
 ghost use Rattle.lfs_model.specs.Cache.{cached, without};
 ghost use Rattle.lfs_model.specs.Slots.{address_of};
-ghost use Rattle.lfs_pair.specs.ChangeSeen.{changes_seen};
+ghost use Rattle.lfs_pair.specs.ChangeView.{changes_view};
 ghost use Rattle.lfs_pair.specs.Commit.{CanCommit, Commits, IsFull, LeftByChange};
 ghost use Rattle.lfs_pair.specs.Pair.{address_in};
 ghost use Rattle.lfs_pair.specs.Split.{CanSplit, LeftBySplit, Splits};
 ghost use Rattle.lfs_pair.specs.Writing.{ChangesReading};
 ghost use Rattle.lfs_thread.specs.Kept.{IsCurrent, disk_on};
-ghost use Rattle.lfs_thread.specs.Lent.{read_if_missing};
-ghost use Rattle.lfs_thread.specs.Device.{StopsLeave, TellsErrors, four_of, two_of};
+ghost use Rattle.lfs_thread.specs.CachedLog.{read_if_missing};
+ghost use Rattle.lfs_thread.specs.Device.{StopsLeave, ReportsErrors, four_of, two_of};
 
 use lfs_cache::Cache;
 use lfs_device::{BlockDevice, Error};
 use lfs_pair::{Change, Outcome, Pair, commit, commit_in, split, split_in};
 use std::alloc::Global;
 
-// Commits changes to a pair. The active block isn't read where it is at hand. Afterwards neither
-// block of the pair is at hand.
+// Commits changes to a pair. The active block isn't read where it is cached. Afterwards neither
+// block of the pair is cached.
 pub(crate) fn commit_to<D: BlockDevice>(
     alloc: Global,
     device: &mut D,
@@ -26,16 +26,16 @@ pub(crate) fn commit_to<D: BlockDevice>(
     pair: &mut Pair,
     changes: &[Change<'_>],
 ) -> Result<Outcome, Error>
-    requires can { CanCommit (disk_on D.BlockDevice device.old) (D.history device.old) pair.old (changes_seen changes.now) }
+    requires can { CanCommit (disk_on D.BlockDevice device.old) (D.history device.old) pair.old (changes_view changes.now) }
     requires current { IsCurrent (D.blocks device.old) cache.old }
     ensures done { result ≡ Ok Outcome.Done
-        → Commits (disk_on D.BlockDevice device.old) (D.history device.old) (changes_seen changes.now) pair.old (disk_on D.BlockDevice device.new) (D.history device.new) pair.new }
-    ensures full { result ≡ Ok Outcome.Full → IsFull D.BlockDevice (changes_seen changes.now) device.old device.new pair.old pair.new }
+        → Commits (disk_on D.BlockDevice device.old) (D.history device.old) (changes_view changes.now) pair.old (disk_on D.BlockDevice device.new) (D.history device.new) pair.new }
+    ensures full { result ≡ Ok Outcome.Full → IsFull D.BlockDevice (changes_view changes.now) device.old device.new pair.old pair.new }
     ensures current { IsCurrent (D.blocks device.new) cache.new }
     ensures device { ChangesReading D.BlockDevice (1 + read_if_missing (cached cache.old pair.old.active)) (two_of (address_in pair.old)) device.old device.new }
-    ensures errors { TellsErrors D.BlockDevice device.old device.new result }
+    ensures errors { ReportsErrors D.BlockDevice device.old device.new result }
     ensures stops { StopsLeave (D.history device.old) (D.history device.new)
-        (LeftByChange (disk_on D.BlockDevice device.old) (address_in pair.old) (changes_seen changes.now)) }
+        (LeftByChange (disk_on D.BlockDevice device.old) (address_in pair.old) (changes_view changes.now)) }
 {
     match take_pair(cache, pair.blocks, pair.active) {
         Some(block) => commit_in(alloc, device, pair, &block, changes),
@@ -43,8 +43,8 @@ pub(crate) fn commit_to<D: BlockDevice>(
     }
 }
 
-// Splits a pair. The active block isn't read where it is at hand. Afterwards no block of the pair
-// or of the fresh pair is at hand.
+// Splits a pair. The active block isn't read where it is cached. Afterwards no block of the pair
+// or of the fresh pair is cached.
 pub(crate) fn split_to<D: BlockDevice>(
     alloc: Global,
     device: &mut D,
@@ -53,15 +53,15 @@ pub(crate) fn split_to<D: BlockDevice>(
     fresh: [u32; 2],
     changes: &[Change<'_>],
 ) -> Result<Pair, Error>
-    requires can { CanSplit (disk_on D.BlockDevice device.old) (D.history device.old) pair.old (address_of fresh) (changes_seen changes.now) }
+    requires can { CanSplit (disk_on D.BlockDevice device.old) (D.history device.old) pair.old (address_of fresh) (changes_view changes.now) }
     requires current { IsCurrent (D.blocks device.old) cache.old }
-    ensures splits { IfOk result (λ fresh_pair. Splits (disk_on D.BlockDevice device.old) (D.history device.old) (changes_seen changes.now) pair.old (address_of fresh)
+    ensures splits { IfOk result (λ fresh_pair. Splits (disk_on D.BlockDevice device.old) (D.history device.old) (changes_view changes.now) pair.old (address_of fresh)
         (disk_on D.BlockDevice device.new) (D.history device.new) pair.new fresh_pair) }
     ensures current { IsCurrent (D.blocks device.new) cache.new }
     ensures device { ChangesReading D.BlockDevice (3 + read_if_missing (cached cache.old pair.old.active)) (four_of (address_in pair.old) (address_of fresh)) device.old device.new }
-    ensures errors { TellsErrors D.BlockDevice device.old device.new result }
+    ensures errors { ReportsErrors D.BlockDevice device.old device.new result }
     ensures stops { StopsLeave (D.history device.old) (D.history device.new)
-        (LeftBySplit (disk_on D.BlockDevice device.old) (address_in pair.old) (address_of fresh) (changes_seen changes.now)) }
+        (LeftBySplit (disk_on D.BlockDevice device.old) (address_in pair.old) (address_of fresh) (changes_view changes.now)) }
 {
     let held = take_pair(cache, pair.blocks, pair.active);
     forget_pair(cache, fresh);

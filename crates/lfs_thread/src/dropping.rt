@@ -2,11 +2,11 @@
 
 ghost use Rattle.std.specs.Prelude.{◌≡◌, ◌+◌, OnOk};
 ghost use Rattle.lfs_pair.specs.Writing.{ChangesReading};
-ghost use Rattle.lfs_pair.specs.ChangeSeen.{changes_seen};
-ghost use Rattle.lfs_thread.specs.Device.{StopsLeave, TellsErrors, two_of};
-ghost use Rattle.lfs_thread.specs.Kept.{IsCurrent, IsKeptOn, seen_on};
-ghost use Rattle.lfs_thread.specs.Lent.{at_hand_of, read_if_missing};
-ghost use Rattle.lfs_thread.specs.Steps.{CanDrop, IsDropped, IsLeft, IsRefused, pair_in};
+ghost use Rattle.lfs_pair.specs.ChangeView.{changes_view};
+ghost use Rattle.lfs_thread.specs.Device.{StopsLeave, ReportsErrors, two_of};
+ghost use Rattle.lfs_thread.specs.Kept.{IsCurrent, IsKeptOn, kept_view_on};
+ghost use Rattle.lfs_thread.specs.CachedLog.{cached_log_of, read_if_missing};
+ghost use Rattle.lfs_thread.specs.Steps.{CanDrop, IsDropped, IsLeftByChange, IsRefused, pair_in};
 
 use crate::committing::commit_to;
 use lfs_alloc::BlockMap;
@@ -29,17 +29,17 @@ pub(crate) fn drop_pair<D: BlockDevice>(
 ) -> Result<Outcome, Error>
     requires kept { IsKeptOn D.BlockDevice device.old pairs.old.items map.old }
     requires current { IsCurrent (D.blocks device.old) cache.old }
-    requires can { CanDrop (seen_on D.BlockDevice device.old pairs.old.items map.old) index (changes_seen changes.now) }
+    requires can { CanDrop (kept_view_on D.BlockDevice device.old pairs.old.items map.old) index (changes_view changes.now) }
     ensures kept { OnOk result (IsKeptOn D.BlockDevice device.new pairs.new.items map.new) }
     ensures current { IsCurrent (D.blocks device.new) cache.new }
-    ensures is_dropped { result ≡ Ok Outcome.Done → IsDropped (seen_on D.BlockDevice device.old pairs.old.items map.old) index (changes_seen changes.now)
-        (seen_on D.BlockDevice device.new pairs.new.items map.new) }
-    ensures full { result ≡ Ok Outcome.Full → IsRefused (seen_on D.BlockDevice device.old pairs.old.items map.old) index (changes_seen changes.now)
-        (seen_on D.BlockDevice device.new pairs.new.items map.new) }
-    ensures device { ChangesReading D.BlockDevice (1 + read_if_missing (at_hand_of (seen_on D.BlockDevice device.old pairs.old.items map.old) cache.old index)) (two_of (pair_in (seen_on D.BlockDevice device.old pairs.old.items map.old) index).at) device.old device.new }
-    ensures errors { TellsErrors D.BlockDevice device.old device.new result }
+    ensures is_dropped { result ≡ Ok Outcome.Done → IsDropped (kept_view_on D.BlockDevice device.old pairs.old.items map.old) index (changes_view changes.now)
+        (kept_view_on D.BlockDevice device.new pairs.new.items map.new) }
+    ensures full { result ≡ Ok Outcome.Full → IsRefused (kept_view_on D.BlockDevice device.old pairs.old.items map.old) index (changes_view changes.now)
+        (kept_view_on D.BlockDevice device.new pairs.new.items map.new) }
+    ensures device { ChangesReading D.BlockDevice (1 + read_if_missing (cached_log_of (kept_view_on D.BlockDevice device.old pairs.old.items map.old) cache.old index)) (two_of (pair_in (kept_view_on D.BlockDevice device.old pairs.old.items map.old) index).at) device.old device.new }
+    ensures errors { ReportsErrors D.BlockDevice device.old device.new result }
     ensures stops { StopsLeave (D.history device.old) (D.history device.new)
-        (IsLeft (seen_on D.BlockDevice device.old pairs.old.items map.old) index (changes_seen changes.now)) }
+        (IsLeftByChange (kept_view_on D.BlockDevice device.old pairs.old.items map.old) index (changes_view changes.now)) }
 {
     let outcome = commit_to(alloc, device, cache, &mut pairs[index], changes)?;
     if let Outcome::Full = outcome {

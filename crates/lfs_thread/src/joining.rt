@@ -3,12 +3,12 @@
 ghost use Rattle.std.specs.Prelude.{◌≡◌, ◌+◌, OnOk};
 ghost use Rattle.std.specs.Option.{option_map};
 ghost use Rattle.lfs_model.specs.Slots.{address_of};
-ghost use Rattle.lfs_tag.specs.ContentSeen.{tail_seen};
+ghost use Rattle.lfs_tag.specs.ContentView.{tail_view};
 ghost use Rattle.lfs_pair.specs.Writing.{ChangesReading};
-ghost use Rattle.lfs_pair.specs.ChangeSeen.{change_seen, changes_seen};
-ghost use Rattle.lfs_thread.specs.Device.{StopsLeave, TellsErrorsBeside, four_of, two_of};
-ghost use Rattle.lfs_thread.specs.Kept.{IsCurrent, IsKeptOn, seen_on};
-ghost use Rattle.lfs_thread.specs.Lent.{at_hand_of, read_if_missing};
+ghost use Rattle.lfs_pair.specs.ChangeView.{change_view, changes_view};
+ghost use Rattle.lfs_thread.specs.Device.{StopsLeave, ReportsErrorsBeside, four_of, two_of};
+ghost use Rattle.lfs_thread.specs.Kept.{IsCurrent, IsKeptOn, kept_view_on};
+ghost use Rattle.lfs_thread.specs.CachedLog.{cached_log_of, read_if_missing};
 ghost use Rattle.lfs_thread.specs.Steps.{CanJoin, IsBeside, IsJoined, IsLeftByJoin, put_tail, pair_in};
 
 use crate::committing::{commit_to, forget_pair};
@@ -35,17 +35,17 @@ pub(crate) fn join_pair<D: BlockDevice>(
 ) -> Result<Outcome, Error>
     requires kept { IsKeptOn D.BlockDevice device.old pairs.old.items map.old }
     requires current { IsCurrent (D.blocks device.old) cache.old }
-    requires can { CanJoin (seen_on D.BlockDevice device.old pairs.old.items map.old) index (address_of fresh) (changes_seen changes.now) }
+    requires can { CanJoin (kept_view_on D.BlockDevice device.old pairs.old.items map.old) index (address_of fresh) (changes_view changes.now) }
     ensures kept { OnOk result (IsKeptOn D.BlockDevice device.new pairs.new.items map.new) }
     ensures current { IsCurrent (D.blocks device.new) cache.new }
-    ensures is_joined { result ≡ Ok Outcome.Done → IsJoined (seen_on D.BlockDevice device.old pairs.old.items map.old) index (address_of fresh) (changes_seen changes.now)
-        (seen_on D.BlockDevice device.new pairs.new.items map.new) }
-    ensures full { result ≡ Ok Outcome.Full → IsBeside (seen_on D.BlockDevice device.old pairs.old.items map.old) index (address_of fresh) (changes_seen changes.now)
-        (seen_on D.BlockDevice device.new pairs.new.items map.new) }
-    ensures device { ChangesReading D.BlockDevice (3 + read_if_missing (at_hand_of (seen_on D.BlockDevice device.old pairs.old.items map.old) cache.old index)) (four_of (pair_in (seen_on D.BlockDevice device.old pairs.old.items map.old) index).at (address_of fresh)) device.old device.new }
-    ensures errors { TellsErrorsBeside D.BlockDevice (two_of (address_of fresh)) device.old device.new result }
+    ensures is_joined { result ≡ Ok Outcome.Done → IsJoined (kept_view_on D.BlockDevice device.old pairs.old.items map.old) index (address_of fresh) (changes_view changes.now)
+        (kept_view_on D.BlockDevice device.new pairs.new.items map.new) }
+    ensures full { result ≡ Ok Outcome.Full → IsBeside (kept_view_on D.BlockDevice device.old pairs.old.items map.old) index (address_of fresh) (changes_view changes.now)
+        (kept_view_on D.BlockDevice device.new pairs.new.items map.new) }
+    ensures device { ChangesReading D.BlockDevice (3 + read_if_missing (cached_log_of (kept_view_on D.BlockDevice device.old pairs.old.items map.old) cache.old index)) (four_of (pair_in (kept_view_on D.BlockDevice device.old pairs.old.items map.old) index).at (address_of fresh)) device.old device.new }
+    ensures errors { ReportsErrorsBeside D.BlockDevice (two_of (address_of fresh)) device.old device.new result }
     ensures stops { StopsLeave (D.history device.old) (D.history device.new)
-        (IsLeftByJoin (seen_on D.BlockDevice device.old pairs.old.items map.old) index (address_of fresh) (changes_seen changes.now)) }
+        (IsLeftByJoin (kept_view_on D.BlockDevice device.old pairs.old.items map.old) index (address_of fresh) (changes_view changes.now)) }
 {
     let mut pair = pairs[index];
     // This takes the memory for the fresh pair's header, before anything is written.
@@ -67,7 +67,7 @@ pub(crate) fn join_pair<D: BlockDevice>(
 
 // Returns the change that sets this tail.
 fn tail_change<'a>(tail: &Option<Tail>) -> Change<'a>
-    ensures { change_seen result ≡ put_tail (option_map tail_seen tail.now) }
+    ensures { change_view result ≡ put_tail (option_map tail_view tail.now) }
 {
     match tail {
         None => Change::Tail {

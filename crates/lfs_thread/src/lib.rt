@@ -3,18 +3,18 @@
 #![tactic(auto)]
 
 mod committing;
+mod deltas;
 mod dropping;
 mod finding;
 mod joining;
 mod parts;
 mod places;
 mod reading;
-mod shares;
 mod splitting;
 mod thread;
 
+pub use deltas::with_delta;
 pub use finding::number_of;
 pub use parts::Parts;
 pub use places::Places;
-pub use shares::with_share;
 pub use thread::Thread;

@@ -3,7 +3,7 @@
 ghost use Rattle.std.specs.Prelude.{◌≡◌, ◌+◌, ◌*◌, ℕ, [], length, replicate, IfOk, List, OnOk};
 ghost use Rattle.std.specs.Option.{option_map};
 ghost use Rattle.lfs_model.specs.Slots.{address_of};
-ghost use Rattle.lfs_tag.specs.ContentSeen.{tail_seen};
+ghost use Rattle.lfs_tag.specs.ContentView.{tail_view};
 ghost use Rattle.lfs_model.specs.BlockSets.{AreInFlight, AreUsed};
 ghost use Rattle.lfs_model.specs.BlockSets.BlockState.{Free};
 ghost use Rattle.lfs_model.specs.Content.{content_at};
@@ -11,7 +11,7 @@ ghost use Rattle.lfs_model.specs.History.{reads};
 ghost use Rattle.lfs_model.specs.Thread.{IsThread, Pair as ThreadPair, blocks_of, next_of};
 ghost use Rattle.lfs_thread.specs.Begun.{CanStand};
 ghost use Rattle.lfs_thread.specs.Kept.{IsKeptOn, disk_on, pairs_on};
-ghost use Rattle.lfs_thread.specs.Reading.{IsReadAt, TellsReading};
+ghost use Rattle.lfs_thread.specs.Reading.{IsReadAt, ReportsReading};
 
 use lfs_alloc::BlockMap;
 use lfs_device::{BlockDevice, Error};
@@ -32,7 +32,7 @@ pub(crate) fn read_pairs<D: BlockDevice>(
     ensures marked { OnOk result (AreUsed map.new (blocks_of (pairs_on (disk_on D.BlockDevice device.new) pairs.new.items)) × AreInFlight map.new []) }
     ensures corrupt { result ≡ Err Error.Corrupt → (ps : List ThreadPair)
         → ¬ IsThread (content_at (disk_on D.BlockDevice device.old)) (D.geometry device.old).block_count ps }
-    ensures told { TellsReading D.BlockDevice device.old device.new result }
+    ensures reported { ReportsReading D.BlockDevice device.old device.new result }
     ensures few { OnOk result (reads (D.history device.new) ≡ reads (D.history device.old) + 2 * length pairs.new.items) }
 {
     let block_count = device.geometry().block_count;
@@ -53,7 +53,7 @@ pub(crate) fn read_pairs<D: BlockDevice>(
 
 // Returns the address that a pair's tail names.
 fn tail_of(pair: &Pair) -> Option<[u32; 2]>
-    ensures { option_map address_of result ≡ next_of (option_map tail_seen pair.now.tail) }
+    ensures { option_map address_of result ≡ next_of (option_map tail_view pair.now.tail) }
 {
     match pair.tail {
         None => None,
@@ -72,7 +72,7 @@ fn read_pair<D: BlockDevice>(
     requires { length map.old ≡ (D.geometry device.old).block_count }
     ensures read { IfOk result (IsReadAt (disk_on D.BlockDevice device.old) (D.history device.new) (address_of at) map.old map.new) }
     ensures corrupt { result ≡ Err Error.Corrupt → ¬ CanStand (disk_on D.BlockDevice device.old) map.old (address_of at) }
-    ensures told { TellsReading D.BlockDevice device.old device.new result }
+    ensures reported { ReportsReading D.BlockDevice device.old device.new result }
     ensures few { OnOk result (reads (D.history device.new) ≡ reads (D.history device.old) + 2) }
 {
     let [first, second] = at;

@@ -3,10 +3,10 @@
 ghost use Rattle.std.specs.Prelude.{◌≡◌, ◌+◌, OnOk};
 ghost use Rattle.lfs_model.specs.Slots.{address_of};
 ghost use Rattle.lfs_pair.specs.Writing.{ChangesReading};
-ghost use Rattle.lfs_pair.specs.ChangeSeen.{changes_seen};
-ghost use Rattle.lfs_thread.specs.Device.{StopsLeave, TellsErrors, four_of};
-ghost use Rattle.lfs_thread.specs.Kept.{IsCurrent, IsKeptOn, seen_on};
-ghost use Rattle.lfs_thread.specs.Lent.{at_hand_of, read_if_missing};
+ghost use Rattle.lfs_pair.specs.ChangeView.{changes_view};
+ghost use Rattle.lfs_thread.specs.Device.{StopsLeave, ReportsErrors, four_of};
+ghost use Rattle.lfs_thread.specs.Kept.{IsCurrent, IsKeptOn, kept_view_on};
+ghost use Rattle.lfs_thread.specs.CachedLog.{cached_log_of, read_if_missing};
 ghost use Rattle.lfs_thread.specs.Steps.{CanBeSplit, IsLeftBySplit, IsSplit, pair_in};
 
 use crate::committing::split_to;
@@ -30,15 +30,15 @@ pub(crate) fn split_pair<D: BlockDevice>(
 ) -> Result<(), Error>
     requires kept { IsKeptOn D.BlockDevice device.old pairs.old.items map.old }
     requires current { IsCurrent (D.blocks device.old) cache.old }
-    requires can { CanBeSplit (seen_on D.BlockDevice device.old pairs.old.items map.old) index (address_of fresh) (changes_seen changes.now) }
+    requires can { CanBeSplit (kept_view_on D.BlockDevice device.old pairs.old.items map.old) index (address_of fresh) (changes_view changes.now) }
     ensures kept { OnOk result (IsKeptOn D.BlockDevice device.new pairs.new.items map.new) }
     ensures current { IsCurrent (D.blocks device.new) cache.new }
-    ensures is_split { OnOk result (IsSplit (seen_on D.BlockDevice device.old pairs.old.items map.old) index (address_of fresh) (changes_seen changes.now)
-        (seen_on D.BlockDevice device.new pairs.new.items map.new)) }
-    ensures device { ChangesReading D.BlockDevice (3 + read_if_missing (at_hand_of (seen_on D.BlockDevice device.old pairs.old.items map.old) cache.old index)) (four_of (pair_in (seen_on D.BlockDevice device.old pairs.old.items map.old) index).at (address_of fresh)) device.old device.new }
-    ensures errors { TellsErrors D.BlockDevice device.old device.new result }
+    ensures is_split { OnOk result (IsSplit (kept_view_on D.BlockDevice device.old pairs.old.items map.old) index (address_of fresh) (changes_view changes.now)
+        (kept_view_on D.BlockDevice device.new pairs.new.items map.new)) }
+    ensures device { ChangesReading D.BlockDevice (3 + read_if_missing (cached_log_of (kept_view_on D.BlockDevice device.old pairs.old.items map.old) cache.old index)) (four_of (pair_in (kept_view_on D.BlockDevice device.old pairs.old.items map.old) index).at (address_of fresh)) device.old device.new }
+    ensures errors { ReportsErrors D.BlockDevice device.old device.new result }
     ensures stops { StopsLeave (D.history device.old) (D.history device.new)
-        (IsLeftBySplit (seen_on D.BlockDevice device.old pairs.old.items map.old) index (address_of fresh) (changes_seen changes.now)) }
+        (IsLeftBySplit (kept_view_on D.BlockDevice device.old pairs.old.items map.old) index (address_of fresh) (changes_view changes.now)) }
 {
     let mut pair = pairs[index];
     // This takes the memory for the fresh pair's header, before anything is written.

@@ -7,22 +7,22 @@ ghost use Rattle.lfs_model.specs.SkipLists.{IsList, bytes_of};
 ghost use Rattle.lfs_model.specs.History.{OnlyReads, faults, reads};
 ghost use Rattle.lfs_model.specs.Slots.{address_of};
 ghost use Rattle.lfs_model.specs.Thread.{IsThread, Pair as ThreadPair, blocks_of, gstate_of, is_hard};
-ghost use Rattle.lfs_tag.specs.ContentSeen.{tail_seen};
-ghost use Rattle.lfs_tag.specs.FieldsSeen.{move_seen};
-ghost use Rattle.lfs_pair.specs.ChangeSeen.{changes_seen};
-ghost use Rattle.lfs_thread.specs.Beside.{CanRun, HasRun, IsDividedAs, LeavesPairs, Runs, Shows};
+ghost use Rattle.lfs_tag.specs.ContentView.{tail_view};
+ghost use Rattle.lfs_tag.specs.FieldsView.{move_view};
+ghost use Rattle.lfs_pair.specs.ChangeView.{changes_view};
+ghost use Rattle.lfs_thread.specs.Beside.{CanRun, HasRun, IsDividedAs, LeavesPairs, Runs, IsOnDevice};
 ghost use Rattle.lfs_thread.specs.Device.{GivesBack, StopsLeave, four_of, two_of};
-ghost use Rattle.lfs_thread.specs.Kept.{IsCurrent, IsKeptOn, WasKeptOn, disk_on, seen_on};
-ghost use Rattle.lfs_thread.specs.Lent.{IsBlockOf, at_hand, brought, read_if_missing};
+ghost use Rattle.lfs_thread.specs.Kept.{IsCurrent, IsKeptOn, WasKeptOn, disk_on, kept_view_on};
+ghost use Rattle.lfs_thread.specs.CachedLog.{IsBlockOf, cached_log, cache_after_load, read_if_missing};
 ghost use Rattle.lfs_thread.specs.Reading.{IsThreadOf};
-ghost use Rattle.lfs_thread.specs.Steps.{CanBeSplit, CanChange, CanDrop, CanJoin, HasTold, HasToldBeside, IsBeside, IsJoined, IsLeftByJoin, IsChanged, IsDropped, IsLeft, IsLeftBySplit, IsOnlyRead, IsRefused, IsSplit, WritesReading, pair_in};
+ghost use Rattle.lfs_thread.specs.Steps.{CanBeSplit, CanChange, CanDrop, CanJoin, HasReported, HasReportedBeside, IsBeside, IsJoined, IsLeftByJoin, IsChanged, IsDropped, IsLeftByChange, IsLeftBySplit, IsOnlyRead, IsRefused, IsSplit, WritesReading, pair_in};
 
 use crate::committing::commit_to;
+use crate::deltas::joined_state;
 use crate::dropping::drop_pair;
 use crate::joining::join_pair;
 use crate::parts::Parts;
 use crate::reading::read_pairs;
-use crate::shares::joined_state;
 use crate::splitting::split_pair;
 use lfs_alloc::BlockMap;
 use lfs_cache::Cache;
@@ -50,12 +50,12 @@ pub struct Thread<D: BlockDevice> {
 
 impl<D: BlockDevice> Model for Thread<D> {
     ghost use Rattle.std.specs.Prelude.{◌≡◌, false};
-    ghost use Rattle.lfs_thread.specs.Kept.{IsCurrent, IsKeptOn, State, seen_on};
+    ghost use Rattle.lfs_thread.specs.Kept.{IsCurrent, IsKeptOn, State, kept_view_on};
 
     ghost Value = { State };
 
     ghost view = { λ t. record {
-      kept = seen_on D.BlockDevice t.device t.pairs.items t.map;
+      kept = kept_view_on D.BlockDevice t.device t.pairs.items t.map;
       cache = t.cache;
       failed = t.has_failed;
     } };
@@ -103,7 +103,7 @@ impl<D: BlockDevice> Thread<D> {
     pub fn into_parts(self) -> Parts<D>
         requires works { self.failed ≡ false }
         ensures kept { IsKeptOn D.BlockDevice result.device result.pairs.items result.map }
-        ensures same { seen_on D.BlockDevice result.device result.pairs.items result.map ≡ self.kept }
+        ensures same { kept_view_on D.BlockDevice result.device result.pairs.items result.map ≡ self.kept }
         ensures current { IsCurrent (D.blocks result.device) result.cache }
         ensures cache { result.cache ≡ self.cache }
     {
@@ -122,7 +122,7 @@ impl<D: BlockDevice> Thread<D> {
         requires kept { WasKeptOn D.BlockDevice parts.device parts.pairs.items parts.map }
         requires current { IsCurrent (D.blocks parts.device) parts.cache }
         ensures works { result.failed ≡ false }
-        ensures kept { result.kept ≡ seen_on D.BlockDevice parts.device parts.pairs.items parts.map }
+        ensures kept { result.kept ≡ kept_view_on D.BlockDevice parts.device parts.pairs.items parts.map }
         ensures cache { result.cache ≡ parts.cache }
     {
         Thread {
@@ -151,11 +151,11 @@ impl<D: BlockDevice> Thread<D> {
         self.device
     }
 
-    /// Returns the global state: the exclusive or of all pairs' shares (DESIGN.md of littlefs, "The
+    /// Returns the global state: the exclusive or of all pairs' deltas (DESIGN.md of littlefs, "The
     /// move problem").
     pub fn state(&self) -> MoveState
         requires works { self.now.failed ≡ false }
-        ensures { move_seen result ≡ gstate_of self.now.kept.pairs }
+        ensures { move_view result ≡ gstate_of self.now.kept.pairs }
     {
         joined_state(&self.pairs)
     }
@@ -206,47 +206,47 @@ impl<D: BlockDevice> Thread<D> {
     pub fn tail(&self, index: usize) -> Option<Tail>
         requires works { self.now.failed ≡ false }
         requires below { index < length self.now.kept.pairs }
-        ensures { option_map tail_seen result ≡ (pair_in self.now.kept index).content.tail }
+        ensures { option_map tail_view result ≡ (pair_in self.now.kept index).content.tail }
     {
         self.pairs[index].tail
     }
 
-    /// Returns a pair's share of the global state.
-    pub fn share(&self, index: usize) -> MoveState
+    /// Returns a pair's delta of the global state.
+    pub fn delta(&self, index: usize) -> MoveState
         requires works { self.now.failed ≡ false }
         requires below { index < length self.now.kept.pairs }
-        ensures { move_seen result ≡ (pair_in self.now.kept index).content.move }
+        ensures { move_view result ≡ (pair_in self.now.kept index).content.move }
     {
         self.pairs[index].move_state
     }
 
-    /// Reads the active block of a pair into the cache, by at most one read. A block at hand isn't
+    /// Reads the active block of a pair into the cache, by at most one read. A cached block isn't
     /// read. The least recent block of the cache is dropped where there were eight.
     ///
     /// Errors: `Io` where the read failed, and `NoMemory` where memory for the block isn't granted.
     /// The thread is as it was after either, and works on.
-    pub fn bring(&mut self, index: usize) -> Result<(), Error>
+    pub fn load_pair(&mut self, index: usize) -> Result<(), Error>
         requires works { self.old.failed ≡ false }
         requires below { index < length self.old.kept.pairs }
-        ensures at_hand { OnOk result (IsSome (at_hand self.new index)) }
-        ensures no_call { IsSome (at_hand self.old index) → self.new.kept ≡ self.old.kept }
+        ensures cached_log { OnOk result (IsSome (cached_log self.new index)) }
+        ensures no_call { IsSome (cached_log self.old index) → self.new.kept ≡ self.old.kept }
         ensures only { IsOnlyRead self.old.kept self.new.kept }
         ensures few { reads self.new.kept.history ≤ reads self.old.kept.history + 1 }
         ensures works { self.new.failed ≡ false }
-        ensures errors { HasTold self.old.kept self.new.kept result }
-        // The eight blocks that were brought last stay at hand.
-        ensures recent { OnOk result (self.new.cache ≡ brought self.old index) }
+        ensures errors { HasReported self.old.kept self.new.kept result }
+        // The eight blocks that were loaded last stay cached.
+        ensures recent { OnOk result (self.new.cache ≡ cache_after_load self.old index) }
     {
         let block = self.pairs[index].active;
         self.cache.fill(&mut self.device, block)
     }
 
     /// Returns the log of a pair, without a copy. Its checksums aren't computed again. Returns None
-    /// where the pair's active block isn't at hand.
+    /// where the pair's active block isn't cached.
     pub fn lend(&self, index: usize) -> Option<Log<'_>>
         requires works { self.now.failed ≡ false }
         requires below { index < length self.now.kept.pairs }
-        ensures lent { result ≡ at_hand self.now index }
+        ensures lent { result ≡ cached_log self.now index }
         ensures holds { IfSome result (λ log. IsBlockOf log (pair_in self.now.kept index).content) }
         ensures holder { IfSome result (λ log. holder_at self.now.kept.disk (pair_in self.now.kept index).at ≡ Some log) }
     {
@@ -276,7 +276,7 @@ impl<D: BlockDevice> Thread<D> {
         ensures bytes { IfOk result (λ n. take n buf.new ≡ slice_range (bytes_of self.old.kept.disk.blocks self.old.kept.disk.block_size head size) pos (pos + n)) }
         ensures only { IsOnlyRead self.old.kept self.new.kept }
         ensures same { (self.new.failed ≡ false) × (self.new.cache ≡ self.old.cache) }
-        ensures errors { HasTold self.old.kept self.new.kept result }
+        ensures errors { HasReported self.old.kept self.new.kept result }
     {
         read_at(&mut self.device, head, size, pos, buf)
     }
@@ -304,13 +304,13 @@ impl<D: BlockDevice> Thread<D> {
     }
 
     /// Commits changes to a pair. Its tail still names the same pair afterwards. The changes may
-    /// change the pair's share of the global state, and whether its tail is hard. The active block
-    /// isn't read where it is at hand. It isn't at hand afterwards.
+    /// change the pair's delta of the global state, and whether its tail is hard. The active block
+    /// isn't read where it is cached. It isn't cached afterwards.
     ///
     /// Returns `Full` where what the changes make doesn't fit the pair; nothing is written then.
     ///
     /// Errors: `Io` where a call of the device failed. `NoMemory` where memory for the slots and
-    /// for two blocks isn't granted, of which one may be at hand; nothing is written then. After
+    /// for two blocks isn't granted, of which one may be cached; nothing is written then. After
     /// either the thread has failed.
     pub fn change(
         &mut self,
@@ -319,13 +319,13 @@ impl<D: BlockDevice> Thread<D> {
         changes: &[Change<'_>],
     ) -> Result<Outcome, Error>
         requires works { self.old.failed ≡ false }
-        requires can { CanChange self.old.kept index (changes_seen changes.now) }
-        ensures done { result ≡ Ok Outcome.Done → IsChanged self.old.kept index (changes_seen changes.now) self.new.kept }
-        ensures full { result ≡ Ok Outcome.Full → IsRefused self.old.kept index (changes_seen changes.now) self.new.kept }
+        requires can { CanChange self.old.kept index (changes_view changes.now) }
+        ensures done { result ≡ Ok Outcome.Done → IsChanged self.old.kept index (changes_view changes.now) self.new.kept }
+        ensures full { result ≡ Ok Outcome.Full → IsRefused self.old.kept index (changes_view changes.now) self.new.kept }
         ensures failed { self.new.failed ≡ is_err result }
-        ensures errors { HasTold self.old.kept self.new.kept result }
-        ensures device { WritesReading (1 + read_if_missing (at_hand self.old index)) (two_of (pair_in self.old.kept index).at) self.old.kept self.new.kept }
-        ensures stops { StopsLeave self.old.kept.history self.new.kept.history (IsLeft self.old.kept index (changes_seen changes.now)) }
+        ensures errors { HasReported self.old.kept self.new.kept result }
+        ensures device { WritesReading (1 + read_if_missing (cached_log self.old index)) (two_of (pair_in self.old.kept index).at) self.old.kept self.new.kept }
+        ensures stops { StopsLeave self.old.kept.history self.new.kept.history (IsLeftByChange self.old.kept index (changes_view changes.now)) }
     {
         let outcome = commit_to(
             alloc,
@@ -339,7 +339,7 @@ impl<D: BlockDevice> Thread<D> {
     }
 
     /// Splits a pair: what the changes make of it is cut in two. The pair keeps the first slots and
-    /// its share of the global state. The fresh pair, in the two blocks `fresh`, comes after it in
+    /// its delta of the global state. The fresh pair, in the two blocks `fresh`, comes after it in
     /// the thread. It gets the other slots and the tail, which still names the same pair. The two
     /// blocks are in flight before, and used afterwards.
     ///
@@ -352,12 +352,12 @@ impl<D: BlockDevice> Thread<D> {
         changes: &[Change<'_>],
     ) -> Result<(), Error>
         requires works { self.old.failed ≡ false }
-        requires can { CanBeSplit self.old.kept index (address_of fresh) (changes_seen changes.now) }
-        ensures done { OnOk result (IsSplit self.old.kept index (address_of fresh) (changes_seen changes.now) self.new.kept) }
+        requires can { CanBeSplit self.old.kept index (address_of fresh) (changes_view changes.now) }
+        ensures done { OnOk result (IsSplit self.old.kept index (address_of fresh) (changes_view changes.now) self.new.kept) }
         ensures failed { self.new.failed ≡ is_err result }
-        ensures errors { HasTold self.old.kept self.new.kept result }
-        ensures device { WritesReading (3 + read_if_missing (at_hand self.old index)) (four_of (pair_in self.old.kept index).at (address_of fresh)) self.old.kept self.new.kept }
-        ensures stops { StopsLeave self.old.kept.history self.new.kept.history (IsLeftBySplit self.old.kept index (address_of fresh) (changes_seen changes.now)) }
+        ensures errors { HasReported self.old.kept self.new.kept result }
+        ensures device { WritesReading (3 + read_if_missing (cached_log self.old index)) (four_of (pair_in self.old.kept index).at (address_of fresh)) self.old.kept self.new.kept }
+        ensures stops { StopsLeave self.old.kept.history self.new.kept.history (IsLeftBySplit self.old.kept index (address_of fresh) (changes_view changes.now)) }
     {
         let result = split_pair(
             alloc,
@@ -390,13 +390,13 @@ impl<D: BlockDevice> Thread<D> {
         changes: &[Change<'_>],
     ) -> Result<Outcome, Error>
         requires works { self.old.failed ≡ false }
-        requires can { CanJoin self.old.kept index (address_of fresh) (changes_seen changes.now) }
-        ensures done { result ≡ Ok Outcome.Done → IsJoined self.old.kept index (address_of fresh) (changes_seen changes.now) self.new.kept }
-        ensures full { result ≡ Ok Outcome.Full → IsBeside self.old.kept index (address_of fresh) (changes_seen changes.now) self.new.kept }
+        requires can { CanJoin self.old.kept index (address_of fresh) (changes_view changes.now) }
+        ensures done { result ≡ Ok Outcome.Done → IsJoined self.old.kept index (address_of fresh) (changes_view changes.now) self.new.kept }
+        ensures full { result ≡ Ok Outcome.Full → IsBeside self.old.kept index (address_of fresh) (changes_view changes.now) self.new.kept }
         ensures failed { self.new.failed ≡ is_err result }
-        ensures errors { HasToldBeside (two_of (address_of fresh)) self.old.kept self.new.kept result }
-        ensures device { WritesReading (3 + read_if_missing (at_hand self.old index)) (four_of (pair_in self.old.kept index).at (address_of fresh)) self.old.kept self.new.kept }
-        ensures stops { StopsLeave self.old.kept.history self.new.kept.history (IsLeftByJoin self.old.kept index (address_of fresh) (changes_seen changes.now)) }
+        ensures errors { HasReportedBeside (two_of (address_of fresh)) self.old.kept self.new.kept result }
+        ensures device { WritesReading (3 + read_if_missing (cached_log self.old index)) (four_of (pair_in self.old.kept index).at (address_of fresh)) self.old.kept self.new.kept }
+        ensures stops { StopsLeave self.old.kept.history self.new.kept.history (IsLeftByJoin self.old.kept index (address_of fresh) (changes_view changes.now)) }
     {
         let outcome = join_pair(
             alloc,
@@ -424,13 +424,13 @@ impl<D: BlockDevice> Thread<D> {
         changes: &[Change<'_>],
     ) -> Result<Outcome, Error>
         requires works { self.old.failed ≡ false }
-        requires can { CanDrop self.old.kept index (changes_seen changes.now) }
-        ensures done { result ≡ Ok Outcome.Done → IsDropped self.old.kept index (changes_seen changes.now) self.new.kept }
-        ensures full { result ≡ Ok Outcome.Full → IsRefused self.old.kept index (changes_seen changes.now) self.new.kept }
+        requires can { CanDrop self.old.kept index (changes_view changes.now) }
+        ensures done { result ≡ Ok Outcome.Done → IsDropped self.old.kept index (changes_view changes.now) self.new.kept }
+        ensures full { result ≡ Ok Outcome.Full → IsRefused self.old.kept index (changes_view changes.now) self.new.kept }
         ensures failed { self.new.failed ≡ is_err result }
-        ensures errors { HasTold self.old.kept self.new.kept result }
-        ensures device { WritesReading (1 + read_if_missing (at_hand self.old index)) (two_of (pair_in self.old.kept index).at) self.old.kept self.new.kept }
-        ensures stops { StopsLeave self.old.kept.history self.new.kept.history (IsLeft self.old.kept index (changes_seen changes.now)) }
+        ensures errors { HasReported self.old.kept self.new.kept result }
+        ensures device { WritesReading (1 + read_if_missing (cached_log self.old index)) (two_of (pair_in self.old.kept index).at) self.old.kept self.new.kept }
+        ensures stops { StopsLeave self.old.kept.history self.new.kept.history (IsLeftByChange self.old.kept index (changes_view changes.now)) }
     {
         let outcome = drop_pair(
             alloc,
@@ -455,8 +455,8 @@ impl<D: BlockDevice> Thread<D> {
         work: F,
     ) -> Result<X, Error>
         requires works { self.old.failed ≡ false }
-        requires can { (device : D) (map : BlockMap) → Shows D.BlockDevice self.old.kept device map → CanRun F.FnOnce work device map }
-        requires leaves { (device : D) (map : BlockMap) (x : X) (later : D) (later_map : BlockMap) → Shows D.BlockDevice self.old.kept device map
+        requires can { (device : D) (map : BlockMap) → IsOnDevice D.BlockDevice self.old.kept device map → CanRun F.FnOnce work device map }
+        requires leaves { (device : D) (map : BlockMap) (x : X) (later : D) (later_map : BlockMap) → IsOnDevice D.BlockDevice self.old.kept device map
             → Runs F.FnOnce work device map x later later_map → LeavesPairs D.BlockDevice self.old.kept device map later later_map }
         ensures ran { IfOk result (λ x. HasRun D.BlockDevice F.FnOnce work self.old.kept x self.new.kept) }
         ensures pairs { self.new.kept.pairs ≡ self.old.kept.pairs }
@@ -488,7 +488,7 @@ impl<D: BlockDevice> Thread<D> {
     /// Makes a failed thread of its parts. Nothing is known of what its device holds.
     pub fn unread(parts: Parts<D>) -> Thread<D>
         ensures failed { result.failed ≡ true }
-        ensures kept { result.kept ≡ seen_on D.BlockDevice parts.device parts.pairs.items parts.map }
+        ensures kept { result.kept ≡ kept_view_on D.BlockDevice parts.device parts.pairs.items parts.map }
     {
         Thread {
             device: parts.device,

@@ -9,7 +9,7 @@ use Rattle.lfs_tool.specs.Broken.{IsBroken}
 use Rattle.lfs_tool.specs.Found.{IsFound}
 use Rattle.lfs_tool.specs.declared.finding.Finding.{Finding}
 use Rattle.lfs_tool.specs.Held.{plain_pair}
-use Rattle.lfs_tool.specs.HeldSeen.{pair_seen, pairs_seen}
+use Rattle.lfs_tool.specs.HeldView.{pair_view, pairs_view}
 use Rattle.lfs_tool.specs.Leading.{IsNamed, LinksTo}
 use Rattle.lfs_tool.specs.Reading.{AreHeld, IsHeld}
 use Rattle.lfs_tool.specs.declared.held.HeldPair.{HeldPair}
@@ -32,7 +32,7 @@ pub named_next : (disk : Disk) (at : ℕ × ℕ) (held : List HeldPair) → AreH
 named_next disk at held h = (h.pairs, h.begins)
 
 -- one pair more
-pub held_more : (disk : Disk) (at : ℕ × ℕ) (held all : List HeldPair) (h : HeldPair) → AreHeld disk (Some at) held → IsHeld disk at h → all ≡ held ++ h ∷ [] → AreHeld disk (next_of (pair_seen h).content.tail) all
+pub held_more : (disk : Disk) (at : ℕ × ℕ) (held all : List HeldPair) (h : HeldPair) → AreHeld disk (Some at) held → IsHeld disk at h → all ≡ held ++ h ∷ [] → AreHeld disk (next_of (pair_view h).content.tail) all
 held_more disk at held all h before is same =
     let p : Pair = record { at = at; content = is.content } in
     record {
@@ -41,9 +41,9 @@ held_more disk at held all h before is same =
         links = subst (λ t. LinksTo (Some anchor) (before.pairs ++ p ∷ []) (next_of t)) (sym (ap (λ (q : Pair). q.content.tail) is.is)) (links_more (Some anchor) (Some at) before.pairs p before.begins.links refl);
         contents = contents_more disk before.pairs p before.begins.contents is.holds;
       };
-      are = ap pairs_seen same ∙ map-append pair_seen held (h ∷ []) ∙ ap₂ (λ xs y. xs ++ y ∷ []) before.are is.is ∙ sym (map-append plain_pair before.pairs (p ∷ []));
+      are = ap pairs_view same ∙ map-append pair_view held (h ∷ []) ∙ ap₂ (λ xs y. xs ++ y ∷ []) before.are is.is ∙ sym (map-append plain_pair before.pairs (p ∷ []));
     }
 
 -- a rule that all pairs of the thread break
-pub whole_found : (disk : Disk) (held : List HeldPair) (f : Finding) → AreHeld disk None held → IsBroken disk (pairs_seen held) f → IsFound disk f
+pub whole_found : (disk : Disk) (held : List HeldPair) (f : Finding) → AreHeld disk None held → IsBroken disk (pairs_view held) f → IsFound disk f
 whole_found disk held f h broken = inr (h.pairs, (h.begins, subst (λ ps. IsBroken disk ps f) h.are broken))

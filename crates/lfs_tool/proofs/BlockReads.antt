@@ -13,7 +13,7 @@ use Rattle.lfs_tool.specs.Excerpt.{AreExcerpts, IsBlockExcerpt}
 use Rattle.lfs_model.specs.Blocks.{Blocks, cut}
 use Rattle.lfs_model.specs.Disk.{IsImage}
 use Rattle.lfs_tool.specs.Blocks.{AreRead, Fills, IsPushed}
-use Rattle.lfs_tool.specs.Told.{IsReadToEnd}
+use Rattle.lfs_tool.specs.Reported.{IsReadToEnd}
 use Rattle.lfs_tool.proofs.Images.{image_fits}
 use Rattle.lfs_tool.proofs.KnownBytes.{ended_behind, past_the_most, reads_on}
 

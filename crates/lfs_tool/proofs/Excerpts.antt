@@ -7,7 +7,7 @@ use Rattle.lfs_device.specs.Shown.{disk_of as shown, ordered}
 use Rattle.lfs_tool.specs.declared.block_excerpt.BlockExcerpt.{BlockExcerpt}
 use Rattle.lfs_tool.specs.declared.excerpt.Excerpt.{Excerpt}
 use Rattle.lfs_tool.specs.ExcerptBlocks.{HaveSize, blocks_shown}
-use Rattle.lfs_tool.specs.ExcerptSeen.{blocks_of, geometry_of}
+use Rattle.lfs_tool.specs.ExcerptView.{excerpt_blocks, geometry_of}
 use Rattle.lfs_tool.specs.Excerpt.{AreExcerpts, IsExcerpt}
 use Rattle.lfs_tool.specs.ExcerptShape.{divided_shown}
 use Rattle.lfs_model.specs.Blocks.{cut}
@@ -55,7 +55,7 @@ abbrev pub AreListedAlike : Type 0
 AreListedAlike = (disk excerpt : Disk) (view : View) → IsExcerpt disk excerpt → HasView excerpt view → (whole : View) × (HasView disk whole × ((text : List ℕ) → IsListing view.tree text → IsListing whole.tree text))
 
 pub lists_by_excerpt : AreListedAlike → (block_size page : ℕ) (bytes text : List ℕ) (blocks : List BlockExcerpt) (e : Excerpt) → AreRead block_size bytes blocks → IsGeometry block_size page (length blocks)
-    → HaveSize block_size blocks → IsShownAs block_size page blocks e → (order : NameOrder) → HasLines (ordered order (shown (geometry_of e) (blocks_of e))) text → Lists block_size page bytes text
+    → HaveSize block_size blocks → IsShownAs block_size page blocks e → (order : NameOrder) → HasLines (ordered order (shown (geometry_of e) (excerpt_blocks e))) text → Lists block_size page bytes text
 lists_by_excerpt alike block_size page bytes text blocks e are geometry have is order lines =
     let found = listed_from (disk_with block_size page order blocks) text (sizes_of block_size page order blocks geometry.no_smaller have) (subst (λ d. HasLines d text) (is.disk order) lines) in
     let (view, (shows, listing)) = found in
@@ -66,7 +66,7 @@ abbrev pub AreRefusedAlike : Type 0
 AreRefusedAlike = (disk excerpt : Disk) (ps : List Pair) → IsExcerpt disk excerpt → IsAccepted disk ps → IsAccepted excerpt ps
 
 pub refuses_by_excerpt : AreRefusedAlike → (block_size page : ℕ) (bytes : List ℕ) (blocks : List BlockExcerpt) (e : Excerpt) (error : Error) → AreRead block_size bytes blocks → IsGeometry block_size page (length blocks)
-    → IsShownAs block_size page blocks e → IsNotMounted (shown (geometry_of e) (blocks_of e)) error → Refuses block_size page bytes error
+    → IsShownAs block_size page blocks e → IsNotMounted (shown (geometry_of e) (excerpt_blocks e)) error → Refuses block_size page bytes error
 refuses_by_excerpt alike block_size page bytes blocks e Corrupt are geometry is none = (
   image_of_blocks block_size page bytes blocks are geometry,
   λ view (order, (ps, (accepted, same))).

@@ -14,9 +14,9 @@ use Rattle.lfs_model.specs.Refusals.{as_path}
 use Rattle.lfs_model.proofs.Counts.{Each, each_append, each_both, each_weaker}
 use Rattle.lfs_model.proofs.Paths.{append_step, cancel, not_longer}
 use Rattle.lfs_tool_folders.specs.InMemory.{items_by}
-use Rattle.lfs_tool_folders.specs.Entries.{AreAll, AreRead, AreWithin, Holds, Place, places_in}
+use Rattle.lfs_tool_folders.specs.Entries.{AreAll, AreRead, AreWithin, HoldsSource, Place, places_in}
 use Rattle.lfs_tool_folders.specs.declared.entries.Entry.{Entry}
-use Rattle.lfs_tool.specs.Carried.{node_by}
+use Rattle.lfs_tool.specs.Applied.{node_by}
 use Rattle.lfs_tool.proofs.NamesGiven.{Rising, before_it, each_given, each_names, kind_moved, less_unlike, name_at_end, none_given, rising_from, rising_right}
 use Rattle.lfs_tool.proofs.PathPlaces.{AreComponents, added_above, added_aside, added_there, path_more, read_back}
 
@@ -91,7 +91,7 @@ whole_shows s f within new w h (m ∷ rest) =
 -- ---- what comes into a folder
 
 -- The folder has the names so far, the names that come are greater, and nothing is there yet.
-record IsBegun (s : Source) (f : Path) (ns : List Name) (gs : List (Name × Bool)) (es : List Entry) (t : Tree) : Type 0 where
+record IsSourceBegun (s : Source) (f : Path) (ns : List Name) (gs : List (Name × Bool)) (es : List Entry) (t : Tree) : Type 0 where
   read : AreRead (Some s) (places_in (path_bytes f) gs) es
   folder : t f ≡ Some (DirectoryNode [] ns)
   rising : Rising (ns ++ given_names gs)
@@ -112,14 +112,14 @@ record HasCome (s : Source) (p : Path) (is_folder : Bool) (es : List Entry) (t :
   new : AreNew es t
 
 abbrev Grows : ℕ → Type 0
-Grows n = (s : Source) (f : Path) (ns : List Name) (gs : List (Name × Bool)) (es : List Entry) (t : Tree) → length es ≤ n → IsBegun s f ns gs es t → HasGrown s f ns gs es t
+Grows n = (s : Source) (f : Path) (ns : List Name) (gs : List (Name × Bool)) (es : List Entry) (t : Tree) → length es ≤ n → IsSourceBegun s f ns gs es t → HasGrown s f ns gs es t
 
 a_file : (s : Source) (p : Path) (bytes : List ℕ) (t : Tree) → bytes ≡ s.bytes (path_bytes p) → t p ≡ Some (FileNode [] bytes) → ((m : Name) (rest : Path) → t (p ++ m ∷ rest) ≡ None)
     → (rest : Path) → IsNodeOf (file_at s (path_bytes p) rest) (t (p ++ rest))
 a_file s p bytes t is there none [] = subst (IsNodeOf (Some (AFile (s.bytes (path_bytes p))))) (sym (ap t (append-nil p) ∙ there)) (refl, is)
 a_file s p bytes t is there none (m ∷ rest) = subst (IsNodeOf None) (sym (none m rest)) tt
 
-come : (n : ℕ) → Grows n → (s : Source) (p : Path) (is_folder : Bool) (o : Option (List ℕ)) (within : List (Name × Bool)) (es : List Entry) (t : Tree) → length es ≤ n → Holds (Some s) (path_bytes p) is_folder o within
+come : (n : ℕ) → Grows n → (s : Source) (p : Path) (is_folder : Bool) (o : Option (List ℕ)) (within : List (Name × Bool)) (es : List Entry) (t : Tree) → length es ≤ n → HoldsSource (Some s) (path_bytes p) is_folder o within
     → AreRead (Some s) (places_in (path_bytes p) within) es → AreComponents p → t p ≡ Some (node_by o) → ((m : Name) (rest : Path) → t (p ++ m ∷ rest) ≡ None) → HasCome s p is_folder es t
 come n ih s p false None within es t few holds read path there none = absurd holds
 come n ih s p false (Some bytes) within es t few holds read path there none =
@@ -154,12 +154,12 @@ come n ih s p true None within es t few holds read path there none =
     each_away q away (g ∷ gs) = ((λ rest e. away (g.0 ∷ rest) e), each_away q away gs)
 come n ih s p true (Some bytes) within es t few holds read path there none = absurd holds
 
-nothing_grows : (s : Source) (f : Path) (ns : List Name) (es : List Entry) (t : Tree) → IsBegun s f ns [] es t → HasGrown s f ns [] es t
+nothing_grows : (s : Source) (f : Path) (ns : List Name) (es : List Entry) (t : Tree) → IsSourceBegun s f ns [] es t → HasGrown s f ns [] es t
 nothing_grows s f ns es t b =
     let nothing : es ≡ [] = none_read (Some s) [] es refl b.read in
     subst (λ xs. HasGrown s f ns [] xs t) (sym nothing) (record { folder = b.folder ∙ ap (λ xs. Some (DirectoryNode [] xs)) (sym (append-nil ns)); below = tt; others = λ q a h. refl; new = tt })
 
-module _ (n : ℕ) (ih : Grows n) (s : Source) (f : Path) (ns : List Name) (g : Name × Bool) (gs : List (Name × Bool)) (e : Entry) (es : List Entry) (t : Tree) (few : length es ≤ n) (b : IsBegun s f ns (g ∷ gs) (e ∷ es) t) where
+module _ (n : ℕ) (ih : Grows n) (s : Source) (f : Path) (ns : List Name) (g : Name × Bool) (gs : List (Name × Bool)) (e : Entry) (es : List Entry) (t : Tree) (few : length es ≤ n) (b : IsSourceBegun s f ns (g ∷ gs) (e ∷ es) t) where
   abbrev p : Path
   p = f ++ g.0 ∷ []
 
@@ -204,7 +204,7 @@ module _ (n : ℕ) (ih : Grows n) (s : Source) (f : Path) (ns : List Name) (g : 
   back_few = omega (arith, few, ap length k.joined, length-append k.front k.back)
 
   comes : HasCome s p g.1 k.front one
-  comes = come n ih s p g.1 (items_by e.bytes) within k.front one front_few (subst (λ x. Holds (Some s) x g.1 (items_by e.bytes) within) spelled_path b.read.1.1.0)
+  comes = come n ih s p g.1 (items_by e.bytes) within k.front one front_few (subst (λ x. HoldsSource (Some s) x g.1 (items_by e.bytes) within) spelled_path b.read.1.1.0)
       (subst (λ x. AreRead (Some s) (places_in x within) k.front) spelled_path k.first) components there beyond
 
   abbrev two : Tree

@@ -4,7 +4,7 @@ use Rattle.std.specs.Prelude.{IfSome, slice_get}
 use Rattle.lfs_model.specs.Slots.{Slot}
 use Rattle.lfs_model.specs.Thread.{Pair}
 use Rattle.lfs_tool.specs.Broken.{HasAt, IsEntrySlot}
-use Rattle.lfs_tool.specs.HeldSeen.{held_seen, pair_seen, pairs_seen}
+use Rattle.lfs_tool.specs.HeldView.{held_view, pair_view, pairs_view}
 use Rattle.lfs_tool.specs.declared.finding.Place.{Place}
 use Rattle.lfs_tool.specs.declared.held.HeldPair.{HeldPair}
 use Rattle.lfs_tool.specs.declared.held.HeldSlot.{HeldSlot}
@@ -15,11 +15,11 @@ there f [] i x l at = absurd (omega arith)
 there f (y ∷ xs) zero x l at = ap (λ z. Some (f z)) (sym at)
 there f (y ∷ xs) (suc i) x l at = there f xs i x (omega arith) at
 
-pub slot_there : (slots : List HeldSlot) (i : ℕ) (s : HeldSlot) → i < length slots → s ≡ get_or slots i s → slice_get (map held_seen slots) i ≡ Some (held_seen s)
-slot_there = there held_seen
+pub slot_there : (slots : List HeldSlot) (i : ℕ) (s : HeldSlot) → i < length slots → s ≡ get_or slots i s → slice_get (map held_view slots) i ≡ Some (held_view s)
+slot_there = there held_view
 
-pub pair_there : (pairs : List HeldPair) (i : ℕ) (p : HeldPair) → i < length pairs → p ≡ get_or pairs i p → slice_get (pairs_seen pairs) i ≡ Some (pair_seen p)
-pair_there = there pair_seen
+pub pair_there : (pairs : List HeldPair) (i : ℕ) (p : HeldPair) → i < length pairs → p ≡ get_or pairs i p → slice_get (pairs_view pairs) i ≡ Some (pair_view p)
+pair_there = there pair_view
 
 pub further_on : {A : Type 0} (from id : ℕ) → from ≤ id → A ⊎ (0 < from) → A ⊎ (0 < id)
 further_on from id l (inl a) = inl a

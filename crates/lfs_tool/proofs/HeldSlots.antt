@@ -9,10 +9,10 @@ use Rattle.lfs_model.specs.LoggedContent.{HasParts, HaveParts}
 use Rattle.lfs_model.specs.Slots.{Content, Gstate, Slot, Tail, address_of}
 use Rattle.lfs_model.specs.Thread.{Pair}
 use Rattle.lfs_model.proofs.Completed.{complete_parts}
-use Rattle.lfs_tag.specs.ContentSeen.{tail_seen}
-use Rattle.lfs_tag.specs.FieldsSeen.{move_seen}
+use Rattle.lfs_tag.specs.ContentView.{tail_view}
+use Rattle.lfs_tag.specs.FieldsView.{move_view}
 use Rattle.lfs_tool.specs.Held.{listed, plain, plain_among}
-use Rattle.lfs_tool.specs.HeldSeen.{held_seen}
+use Rattle.lfs_tool.specs.HeldView.{held_view}
 use Rattle.lfs_tool.specs.Reading.{IsHeld}
 use Rattle.lfs_tool.specs.declared.held.HeldPair.{HeldPair}
 
@@ -32,7 +32,7 @@ plain_complete (x ∷ xs) all h =
 
 -- a content whose slots are complete is held
 pub is_held : (disk : Disk) (at : ℕ × ℕ) (raw : RawContent) (held : HeldPair) → raw_at disk at ≡ Some raw → is_some (complete_all raw.slots) ≡ true → address_of held.at ≡ at
-    → map held_seen held.slots.items ≡ plain_among raw.slots → option_map tail_seen held.tail ≡ raw.tail → move_seen held.share ≡ raw.move → IsHeld disk at held
+    → map held_view held.slots.items ≡ plain_among raw.slots → option_map tail_view held.tail ≡ raw.tail → move_view held.delta ≡ raw.move → IsHeld disk at held
 is_held disk at raw held is full same slots tail move = go (complete_all raw.slots) refl full
   where
     go : (o : Option (List Slot)) → complete_all raw.slots ≡ o → is_some {T = List Slot} o ≡ true → IsHeld disk at held
@@ -43,8 +43,8 @@ is_held disk at raw held is full same slots tail move = go (complete_all raw.slo
         record {
           content = with_slots all;
           holds = ap (λ r. option_and_then completed r) is ∙ ap (option_map with_slots) e;
-          is = ap (λ a. pair a (map held_seen held.slots.items) (option_map tail_seen held.tail) (move_seen held.share)) same
-              ∙ ap (λ s. pair at s (option_map tail_seen held.tail) (move_seen held.share)) (slots ∙ plain_complete raw.slots all e)
-              ∙ ap (λ t. pair at (map plain all) t (move_seen held.share)) tail
+          is = ap (λ a. pair a (map held_view held.slots.items) (option_map tail_view held.tail) (move_view held.delta)) same
+              ∙ ap (λ s. pair at s (option_map tail_view held.tail) (move_view held.delta)) (slots ∙ plain_complete raw.slots all e)
+              ∙ ap (λ t. pair at (map plain all) t (move_view held.delta)) tail
               ∙ ap (λ m. pair at (map plain all) raw.tail m) move;
         }

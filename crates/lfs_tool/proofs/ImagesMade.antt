@@ -4,7 +4,7 @@ use Rattle.std.specs.Prelude.{Err, IfErr, IfSome, IsErrAnd, Ok, Result, ◌≢�
 use Rattle.lfs_device.specs.declared.error.Error.{Error}
 use Rattle.lfs_device.specs.declared.error.Error.TheVariants.{NoMemory}
 use Rattle.std.proofs.lemmas.Nat.{div-mul-add, mod-mul-add}
-use Rattle.lfs_device.specs.RamDevice.{blocks_of, bytes_of, geometry_of}
+use Rattle.lfs_device.specs.RamDevice.{ram_blocks, bytes_of, geometry_of}
 use Rattle.lfs_device.specs.Shown as device
 use Rattle.lfs_device.specs.declared.geometry.Geometry.{Geometry}
 use Rattle.lfs_device.specs.declared.ram.RamDevice.{RamDevice}
@@ -15,7 +15,7 @@ use Rattle.lfs_model.specs.Fresh.{IsFresh, empty_tree}
 use Rattle.lfs_model.specs.Geometry.{IsGeometry}
 use Rattle.lfs_model.specs.Headline.{IsSettled, AgreesWithDisk, session_after_all}
 use Rattle.lfs_model.specs.Operations.{Operation, Reply}
-use Rattle.lfs_model.specs.Run.{AreTurns, Moment}
+use Rattle.lfs_model.specs.Run.{AreSessionSteps, SystemState}
 use Rattle.lfs_model.specs.Session.{Session}
 use Rattle.lfs_model.specs.Source.{IsTreeOf, Source}
 use Rattle.lfs_model.specs.State.{HasFailed, Healthy, State, mounted}
@@ -25,18 +25,18 @@ use Rattle.lfs_model.specs.Shown.{tree_in}
 use Rattle.lfs_model.proofs.Cuts.{length-cut}
 use Rattle.lfs_model.proofs.Kept.{fresh_defined, fresh_settled, fresh_true}
 use Rattle.lfs_model.proofs.Uniqueness.{one_thread}
-use Rattle.lfs_fs.specs.Held.{Held, moment_of}
+use Rattle.lfs_fs.specs.Held.{Held, system_state_of}
 use Rattle.lfs_tool_folders.specs.Entries.{AreAll}
 use Rattle.lfs_tool_folders.specs.declared.entries.Entry.{Entry}
-use Rattle.lfs_tool.specs.Carried.{AreCarried, IsFirstRefusal, operations_of, operations_of_all}
+use Rattle.lfs_tool.specs.Applied.{AreAllAccepted, IsFirstRefusal, operations_of, operations_of_all}
 use Rattle.lfs_tool.specs.Made.{AreLeft, Begins, IsMade, IsRefused}
 use Rattle.lfs_tool.proofs.Growing.{carried_tree, tree_after}
 use Rattle.lfs_tool.proofs.Refusing.{IsFromFresh, anywhere, comes, has_carried}
 
 -- ---- the geometry
 
-pub begins : (g : Geometry) (d : RamDevice) (h : Held) → geometry_of d ≡ g → IsFresh h.tree.disk → (moment_of h).state ≡ Healthy (mounted empty_tree) → SameGeometry (device.ordered g.order (device.disk_of (geometry_of d) (blocks_of d))) h.tree.disk
-    → Begins g (moment_of h)
+pub begins : (g : Geometry) (d : RamDevice) (h : Held) → geometry_of d ≡ g → IsFresh h.tree.disk → (system_state_of h).state ≡ Healthy (mounted empty_tree) → SameGeometry (device.ordered g.order (device.disk_of (geometry_of d) (ram_blocks d))) h.tree.disk
+    → Begins g (system_state_of h)
 begins g d h is fresh state same = record {
   fresh = fresh;
   block_size = same.block_size ∙ ap (λ (x : Geometry). x.block_size) is;
@@ -46,12 +46,12 @@ begins g d h is fresh state same = record {
   mounts = state;
 }
 
-turns_geometry : (operations : List Operation) (replies : List Reply) (a b : Moment) → AreTurns a operations replies b → SameGeometry a.disk b.disk
-turns_geometry [] [] a b e = subst (λ (m : Moment). SameGeometry a.disk m.disk) e (record { block_size = refl; page = refl; order = refl; count = refl })
-turns_geometry [] (reply ∷ replies) a b e = absurd e
-turns_geometry (op ∷ operations) [] a b e = absurd e
-turns_geometry (op ∷ operations) (reply ∷ replies) a b (next, (turn, rest)) =
-    let s = turns_geometry operations replies next b rest in
+session_steps_geometry : (operations : List Operation) (replies : List Reply) (a b : SystemState) → AreSessionSteps a operations replies b → SameGeometry a.disk b.disk
+session_steps_geometry [] [] a b e = subst (λ (m : SystemState). SameGeometry a.disk m.disk) e (record { block_size = refl; page = refl; order = refl; count = refl })
+session_steps_geometry [] (reply ∷ replies) a b e = absurd e
+session_steps_geometry (op ∷ operations) [] a b e = absurd e
+session_steps_geometry (op ∷ operations) (reply ∷ replies) a b (next, (turn, rest)) =
+    let s = session_steps_geometry operations replies next b rest in
     let t = turn.geometry in
     record { block_size = s.block_size ∙ t.block_size; page = s.page ∙ t.page; order = s.order ∙ t.order; count = s.count ∙ t.count }
 
@@ -69,11 +69,11 @@ some_bytes : (g : Geometry) → 1 ≤ g.block_size
 some_bytes g = let least : 1024 ≤ g.block_size = g.valid.no_smaller in omega (arith, least)
 
 -- what the run left in the device
-pub left : (g : Geometry) (from to : Moment) (es : List Entry) (d : RamDevice) (bytes : List ℕ) → Begins g from → AreCarried from (operations_of_all es) to
-    → device.ordered to.disk.order (device.disk_of (geometry_of d) (blocks_of d)) ≡ to.disk
+pub left : (g : Geometry) (from to : SystemState) (es : List Entry) (d : RamDevice) (bytes : List ℕ) → Begins g from → AreAllAccepted from (operations_of_all es) to
+    → device.ordered to.disk.order (device.disk_of (geometry_of d) (ram_blocks d)) ≡ to.disk
     → bytes ≡ bytes_of d → AreLeft g es bytes
 left g from to es d bytes b c shown is =
-    let same = turns_geometry (operations_of_all es) c.replies from to c.turns in
+    let same = session_steps_geometry (operations_of_all es) c.replies from to c.session_steps in
     let size : (geometry_of d).block_size ≡ g.block_size = ap (λ (k : Disk). k.block_size) shown ∙ same.block_size ∙ b.block_size in
     let page : (geometry_of d).page ≡ g.page = ap (λ (k : Disk). k.page) shown ∙ same.page ∙ b.page in
     let order : to.disk.order ≡ g.order = same.order ∙ b.order in
@@ -137,7 +137,7 @@ made g known es bytes all l = record {
 
 -- ---- what is passed on
 
-pub refused : {X : Type 0} (r : Result X Error) (e : Error) (g : Geometry) (from : Moment) (es : List Entry) → IsErrAnd r (λ f. f ≡ e) → Begins g from → (e ≢ NoMemory → IsFirstRefusal from (operations_of_all es) e)
+pub refused : {X : Type 0} (r : Result X Error) (e : Error) (g : Geometry) (from : SystemState) (es : List Entry) → IsErrAnd r (λ f. f ≡ e) → Begins g from → (e ≢ NoMemory → IsFirstRefusal from (operations_of_all es) e)
     → IfErr r (λ f. f ≢ NoMemory → IsRefused g es f)
 refused (Ok x) e g from es is b h = tt
 refused (Err f) e g from es is b h = λ other. record { from = from; begins = b; first = subst (IsFirstRefusal from (operations_of_all es)) (sym is) (h (λ x. other (is ∙ x))) }

@@ -4,7 +4,7 @@ use Rattle.std.specs.Prelude.{IfErr}
 use Rattle.lfs_device.specs.declared.device.BlockDevice.{Ghosts}
 use Rattle.lfs_device.specs.declared.error.Error.{Error}
 use Rattle.lfs_device.specs.declared.error.Error.TheVariants.{Io, NoMemory}
-use Rattle.lfs_device.specs.Calls.{ReadsOnly, TellsFaults}
+use Rattle.lfs_device.specs.Calls.{ReadsOnly, ReportsFaults}
 use Rattle.lfs_model.specs.History.{faults}
 use Rattle.lfs_model.proofs.Histories.{OnlyReads-trans, began}
 use Rattle.lfs_tool.specs.Device.{Looks}
@@ -17,8 +17,8 @@ pub record HasLooked {D : Type 0} (g : Ghosts D) (old new : D) : Type 0 where
 pub not_yet : {D : Type 0} (g : Ghosts D) (d : D) → HasLooked g d d
 not_yet g d = record { device = record { same = refl; geometry = refl; reads = began }; no_fault = refl }
 
-pub looked : {D X : Type 0} (g : Ghosts D) (old new : D) (r : Result X Error) (x : X) → r ≡ Ok x → ReadsOnly g old new → TellsFaults g old new r → HasLooked g old new
-looked g old new r x e device told = record { device = device; no_fault = told.no_fault (λ k. let z = sym e ∙ k in absurd (cc)) }
+pub looked : {D X : Type 0} (g : Ghosts D) (old new : D) (r : Result X Error) (x : X) → r ≡ Ok x → ReadsOnly g old new → ReportsFaults g old new r → HasLooked g old new
+looked g old new r x e device reported = record { device = device; no_fault = reported.no_fault (λ k. let z = sym e ∙ k in absurd (cc)) }
 
 pub on : {D : Type 0} (g : Ghosts D) (old mid new : D) → HasLooked g old mid → HasLooked g mid new → HasLooked g old new
 on g old mid new a b = record {

@@ -10,7 +10,7 @@ use Rattle.lfs_model.specs.Headline.{ComesFromFresh, session_after_all}
 use Rattle.lfs_model.specs.History.{faults}
 use Rattle.lfs_model.specs.Listing.{operations_for}
 use Rattle.lfs_model.specs.Operations.{Operation}
-use Rattle.lfs_model.specs.Run.{Moment, Shows, is_refusal}
+use Rattle.lfs_model.specs.Run.{SystemState, Shows, is_refusal}
 use Rattle.lfs_model.specs.Session.{Surroundings}
 use Rattle.lfs_model.specs.Slots.{no_gstate}
 use Rattle.lfs_model.specs.State.{Healthy, is_remount, mounted}
@@ -20,28 +20,28 @@ use Rattle.lfs_fs.specs.Held.{FailsBy}
 use Rattle.lfs_lookup.specs.Refusals as refusals
 use Rattle.lfs_tool_folders.specs.InMemory.{items_by}
 use Rattle.lfs_tool_folders.specs.declared.entries.Entry.{Entry}
-use Rattle.lfs_tool.specs.Carried.{AreCarried, AreEndedBy, Ends, HasNoFile, IsFirstRefusal, node_by, operations_of}
+use Rattle.lfs_tool.specs.Applied.{AreAllAccepted, AreEndedBy, Ends, HasNoFile, IsFirstRefusal, node_by, operations_of}
 use Rattle.lfs_tool.proofs.Runs.{ended_before, ended_on}
 use Rattle.lfs_tool.proofs.Stepping.{HasCarried, carried_from}
 
 -- ---- a run from a fresh disk
 
-pub record IsFromFresh (from : Moment) : Type 0 where
+pub record IsFromFresh (from : SystemState) : Type 0 where
   pub fresh : IsFresh from.disk
   pub mounts : from.state ≡ Healthy (mounted empty_tree)
 
-pub comes : (from to : Moment) (operations : List Operation) (f : IsFromFresh from) (c : AreCarried from operations to) → ComesFromFresh operations c.replies to
-comes from to operations f c = record { from = from; fresh = f.fresh; mounts = f.mounts; turns = c.turns }
+pub comes : (from to : SystemState) (operations : List Operation) (f : IsFromFresh from) (c : AreAllAccepted from operations to) → ComesFromFresh operations c.replies to
+comes from to operations f c = record { from = from; fresh = f.fresh; mounts = f.mounts; session_steps = c.session_steps }
 
 -- any surroundings: what accepted operations leave doesn't depend on them
 abbrev pub anywhere : Surroundings
 anywhere = record { writable = true; block_size = 0; page = 0; block_count = 0; used = []; gstate = no_gstate }
 
-pub has_carried : (from to : Moment) (es : List Entry) (f : IsFromFresh from) (c : AreCarried from (flat_map operations_of es) to) →
+pub has_carried : (from to : SystemState) (es : List Entry) (f : IsFromFresh from) (c : AreAllAccepted from (flat_map operations_of es) to) →
     HasCarried (session_after_all anywhere (mounted empty_tree) (flat_map operations_of es) c.replies) es empty_tree
-has_carried from to es f c = carried_from anywhere es empty_tree [] c.replies from to tt (recursion_from_All (λ r. is_refusal r ≡ false) c.replies c.accepted) c.turns
+has_carried from to es f c = carried_from anywhere es empty_tree [] c.replies from to tt (recursion_from_All (λ r. is_refusal r ≡ false) c.replies c.accepted) c.session_steps
 
-pub no_file : (from to : Moment) (es : List Entry) → IsFromFresh from → AreCarried from (flat_map operations_of es) to → HasNoFile to
+pub no_file : (from to : SystemState) (es : List Entry) → IsFromFresh from → AreAllAccepted from (flat_map operations_of es) to → HasNoFile to
 no_file from to es f c = record {
   session = session_after_all anywhere (mounted empty_tree) (flat_map operations_of es) c.replies;
   healthy = fresh_defined (flat_map operations_of es) c.replies to anywhere (comes from to (flat_map operations_of es) f c);
@@ -58,7 +58,7 @@ no_remount e = go (items_by e.bytes)
     go (Some bytes) = (refl, (refl, (refl, tt)))
 
 -- no call of the device has failed
-only_memory : (e : Error) (at to : Moment) (op : Operation) → FailsBy e at op to → is_remount op ≡ false → faults to.calls ≡ 0 → e ≡ NoMemory
+only_memory : (e : Error) (at to : SystemState) (op : Operation) → FailsBy e at op to → is_remount op ≡ false → faults to.calls ≡ 0 → e ≡ NoMemory
 only_memory e at to op h other none = go h.errors
   where
     go : (e ≡ Io) ⊎ ((e ≡ NoMemory) ⊎ ((e ≡ Corrupt) × (is_remount op ≡ true) × Shows at.disk None)) → e ≡ NoMemory
@@ -66,7 +66,7 @@ only_memory e at to op h other none = go h.errors
     go (inr (inl memory)) = memory
     go (inr (inr corrupt)) = absurd (let k = sym other ∙ corrupt.1 in cc)
 
-refusal_first : (e : Error) (from to : Moment) (operations : List Operation) → AreEndedBy e from operations to → refusals.is_refusal e ≡ true → IsFirstRefusal from operations e
+refusal_first : (e : Error) (from to : SystemState) (operations : List Operation) → AreEndedBy e from operations to → refusals.is_refusal e ≡ true → IsFirstRefusal from operations e
 refusal_first e from to operations k is = record {
   done = k.done;
   next = k.next;
@@ -86,7 +86,7 @@ parts es i d lt =
     ∙ flat_map-append operations_of (take i es) (get_or es i d ∷ drop (i + 1) es)
     ∙ sym (append_assoc (flat_map operations_of (take i es)) (operations_of (get_or es i d)) (flat_map operations_of (drop (i + 1) es)))
 
-pub first_refused : (e : Error) (es : List Entry) (i : ℕ) (d : Entry) (from at to : Moment) → i < length es → IsFromFresh from → AreCarried from (flat_map operations_of (take i es)) at
+pub first_refused : (e : Error) (es : List Entry) (i : ℕ) (d : Entry) (from at to : SystemState) → i < length es → IsFromFresh from → AreAllAccepted from (flat_map operations_of (take i es)) at
     → AreEndedBy e at (operations_of (get_or es i d)) to → faults to.calls ≡ 0 → e ≢ NoMemory → IsFirstRefusal from (flat_map operations_of es) e
 first_refused e es i d from at to lt f c k none not_memory = go (refusals.is_refusal e) refl
   where

@@ -2,14 +2,14 @@
 use Rattle.std.proofs.Common.{ℕ, zero, suc, ◌≡◌, ◌+◌, ◌-◌, ◌<◌, ◌≤◌, ◌&&◌, ◌∙◌, Bool, true, false, cond, List, [], ◌∷◌, drop, get_or, length, refl, sym, ap, subst, arith, length-drop}
 use Rattle.lfs_model.specs.Thread.{directory_pairs, meets_superblock, superblocks_before}
 use Rattle.lfs_model.specs.View.{first_slots}
-use Rattle.lfs_tool.specs.HeldSeen.{pair_seen, pairs_seen}
+use Rattle.lfs_tool.specs.HeldView.{pair_view, pairs_view}
 use Rattle.lfs_tool.specs.declared.held.HeldPair.{HeldPair}
 
 -- the pairs from an index on
-pub seen_from : (pairs : List HeldPair) (i j : ℕ) (h : HeldPair) → j ≡ suc i → i < length pairs → h ≡ get_or pairs i h → pairs_seen (drop i pairs) ≡ pair_seen h ∷ pairs_seen (drop j pairs)
+pub seen_from : (pairs : List HeldPair) (i j : ℕ) (h : HeldPair) → j ≡ suc i → i < length pairs → h ≡ get_or pairs i h → pairs_view (drop i pairs) ≡ pair_view h ∷ pairs_view (drop j pairs)
 seen_from [] i j h e l at = absurd (omega arith)
-seen_from (x ∷ pairs) zero j h e l at = subst (λ k. pairs_seen (x ∷ pairs) ≡ pair_seen h ∷ pairs_seen (drop k (x ∷ pairs))) (sym e) (ap (λ y. pair_seen y ∷ pairs_seen pairs) (sym at))
-seen_from (x ∷ pairs) (suc i) j h e l at = subst (λ k. pairs_seen (drop i pairs) ≡ pair_seen h ∷ pairs_seen (drop k (x ∷ pairs))) (sym e) (seen_from pairs i (suc i) h refl (omega arith) at)
+seen_from (x ∷ pairs) zero j h e l at = subst (λ k. pairs_view (x ∷ pairs) ≡ pair_view h ∷ pairs_view (drop k (x ∷ pairs))) (sym e) (ap (λ y. pair_view y ∷ pairs_view pairs) (sym at))
+seen_from (x ∷ pairs) (suc i) j h e l at = subst (λ k. pairs_view (drop i pairs) ≡ pair_view h ∷ pairs_view (drop k (x ∷ pairs))) (sym e) (seen_from pairs i (suc i) h refl (omega arith) at)
 
 -- at most one more than those behind
 pub one_more : (b : Bool) (r : ℕ) → cond b (1 + r) 0 ≤ 1 + r
@@ -17,7 +17,7 @@ one_more true r = omega arith
 one_more false r = omega arith
 
 -- the root stays among the pairs
-pub stays_inside : (pairs : List HeldPair) (index root : ℕ) (m b : Bool) → m ≡ meets_superblock (pairs_seen (drop index pairs)) → index ≤ length pairs → (index < length pairs → index + root < length pairs) → 0 < index
+pub stays_inside : (pairs : List HeldPair) (index root : ℕ) (m b : Bool) → m ≡ meets_superblock (pairs_view (drop index pairs)) → index ≤ length pairs → (index < length pairs → index + root < length pairs) → 0 < index
     → (index - 1) + cond (m && b) (1 + root) 0 < length pairs
 stays_inside pairs index root false b e l h some = omega arith
 stays_inside pairs index root true false e l h some = omega arith
@@ -25,7 +25,7 @@ stays_inside pairs index root true true e l h some = go (drop index pairs) refl
   where
     go : (rest : List HeldPair) → drop index pairs ≡ rest → (index - 1) + (1 + root) < length pairs
     go [] is =
-        let bad : true ≡ false = e ∙ ap (λ r. meets_superblock (pairs_seen r)) is in
+        let bad : true ≡ false = e ∙ ap (λ r. meets_superblock (pairs_view r)) is in
         cc
     go (x ∷ rest) is =
         let n : length (drop index pairs) ≡ suc (length rest) = ap length is in
@@ -34,12 +34,12 @@ stays_inside pairs index root true true e l h some = go (drop index pairs) refl
         let more = h below in
         omega arith
 
-first_from : (pairs : List HeldPair) (i : ℕ) (h : HeldPair) → i < length pairs → h ≡ get_or pairs i h → first_slots (drop i (pairs_seen pairs)) ≡ (pair_seen h).content.slots
+first_from : (pairs : List HeldPair) (i : ℕ) (h : HeldPair) → i < length pairs → h ≡ get_or pairs i h → first_slots (drop i (pairs_view pairs)) ≡ (pair_view h).content.slots
 first_from [] i h l at = absurd (omega arith)
-first_from (x ∷ pairs) zero h l at = ap (λ y. (pair_seen y).content.slots) (sym at)
+first_from (x ∷ pairs) zero h l at = ap (λ y. (pair_view y).content.slots) (sym at)
 first_from (x ∷ pairs) (suc i) h l at = first_from pairs i h (omega arith) at
 
 -- the slots of the root directory's first pair
-pub first_of_root : (pairs : List HeldPair) (root : ℕ) (h : HeldPair) → root ≡ superblocks_before (pairs_seen pairs) → root < length pairs → h ≡ get_or pairs root h
-    → first_slots (directory_pairs (pairs_seen pairs)) ≡ (pair_seen h).content.slots
-first_of_root pairs root h e l at = ap (λ r. first_slots (drop r (pairs_seen pairs))) (sym e) ∙ first_from pairs root h l at
+pub first_of_root : (pairs : List HeldPair) (root : ℕ) (h : HeldPair) → root ≡ superblocks_before (pairs_view pairs) → root < length pairs → h ≡ get_or pairs root h
+    → first_slots (directory_pairs (pairs_view pairs)) ≡ (pair_view h).content.slots
+first_of_root pairs root h e l at = ap (λ r. first_slots (drop r (pairs_view pairs))) (sym e) ∙ first_from pairs root h l at

@@ -12,12 +12,12 @@ use Rattle.lfs_model.specs.Effects.{applied, committed, effect_of, reply_or, wit
 use Rattle.lfs_model.specs.Refusals.{as_path, refusal_of}
 use Rattle.lfs_model.specs.State.{Healthy, State, answered_in}
 use Rattle.lfs_model.specs.Tree.{Path, FileNode, DirectoryNode, Tree}
-use Rattle.lfs_model.specs.Run.{AreTurns, IsTurn, Moment, is_refusal}
+use Rattle.lfs_model.specs.Run.{AreSessionSteps, IsSessionStep, SystemState, is_refusal}
 use Rattle.lfs_model.specs.Headline.{session_after_all}
 use Rattle.lfs_model.proofs.Counts.{Each}
 use Rattle.lfs_tool_folders.specs.InMemory.{items_by}
 use Rattle.lfs_tool_folders.specs.declared.entries.Entry.{Entry}
-use Rattle.lfs_tool.specs.Carried.{AreClosed, node_by, operations_of}
+use Rattle.lfs_tool.specs.Applied.{AreClosed, node_by, operations_of}
 use Rattle.lfs_tool.proofs.Growing.{AreNew, grown, tree_after}
 
 pub first_is_free : (files : Files) → AreClosed files → free_number files ≡ 0
@@ -65,12 +65,12 @@ file_comes t p (b ∷ bytes) e =
 -- ---- an entry
 
 -- The operations of an entry are done, and more follow.
-record HasStepped (around : Surroundings) (path : List ℕ) (o : Option (List ℕ)) (more : List Operation) (t : Tree) (files : Files) (replies : List Reply) (to : Moment) : Type 0 where
+record HasStepped (around : Surroundings) (path : List ℕ) (o : Option (List ℕ)) (more : List Operation) (t : Tree) (files : Files) (replies : List Reply) (to : SystemState) : Type 0 where
   tree : Tree
   left_open : Files
   left : List Reply
-  between : Moment
-  turns : AreTurns between more left to
+  between : SystemState
+  session_steps : AreSessionSteps between more left to
   accepted : Accepted left
   closed : AreClosed left_open
   is : session_after_all around (with_files t files) (operations_for path (node_by o) ++ more) replies ≡ session_after_all around (with_files tree left_open) more left
@@ -81,15 +81,15 @@ accepted_effect : (around : Surroundings) (s : Session) (op : Operation) (reply 
     → session_after_all around (cond (is_refusal reply) s (effect_of around s op).1) more left ≡ session_after_all around (effect_of around s op).1 more left
 accepted_effect around s op reply more left e = ap (λ b. session_after_all around (cond b s (effect_of around s op).1) more left) e
 
-folder_stepped : (around : Surroundings) (path : List ℕ) (more : List Operation) (t : Tree) (files : Files) (replies : List Reply) (from to : Moment) → AreClosed files → Accepted replies
-    → AreTurns from (ops.Mkdir path ∷ more) replies to → HasStepped around path None more t files replies to
+folder_stepped : (around : Surroundings) (path : List ℕ) (more : List Operation) (t : Tree) (files : Files) (replies : List Reply) (from to : SystemState) → AreClosed files → Accepted replies
+    → AreSessionSteps from (ops.Mkdir path ∷ more) replies to → HasStepped around path None more t files replies to
 folder_stepped around path more t files [] from to closed accepted h = absurd h
 folder_stepped around path more t files (reply ∷ left) from to closed accepted (between, (turn, rest)) = record {
   tree = added (as_path path) (DirectoryNode [] []) t;
   left_open = files;
   left = left;
   between = between;
-  turns = rest;
+  session_steps = rest;
   accepted = accepted.1;
   closed = closed;
   is = accepted_effect around (with_files t files) (ops.Mkdir path) reply more left accepted.0;
@@ -106,8 +106,8 @@ file_effect_is around path bytes t (None ∷ []) h = refl
 file_effect_is around path bytes t (None ∷ f ∷ fs) h = absurd h
 file_effect_is around path bytes t (Some o ∷ fs) h = absurd h
 
-file_stepped : (around : Surroundings) (path bytes : List ℕ) (more : List Operation) (t : Tree) (files : Files) (replies : List Reply) (from to : Moment) → AreClosed files → Accepted replies
-    → AreTurns from (ops.Open path new_file_flags ∷ ops.Write 0 bytes ∷ ops.Close 0 ∷ more) replies to → HasStepped around path (Some bytes) more t files replies to
+file_stepped : (around : Surroundings) (path bytes : List ℕ) (more : List Operation) (t : Tree) (files : Files) (replies : List Reply) (from to : SystemState) → AreClosed files → Accepted replies
+    → AreSessionSteps from (ops.Open path new_file_flags ∷ ops.Write 0 bytes ∷ ops.Close 0 ∷ more) replies to → HasStepped around path (Some bytes) more t files replies to
 file_stepped around path bytes more t files [] from to closed accepted h = absurd h
 file_stepped around path bytes more t files (a ∷ []) from to closed accepted (one, (turn, h)) = absurd h
 file_stepped around path bytes more t files (a ∷ b ∷ []) from to closed accepted (one, (turn, (two, (next, h)))) = absurd h
@@ -120,7 +120,7 @@ file_stepped around path bytes more t files (a ∷ b ∷ c ∷ left) from to clo
       left_open = None ∷ [];
       left = left;
       between = three;
-      turns = rest;
+      session_steps = rest;
       accepted = accepted.1.1.1;
       closed = tt;
       is = accepted_effect around s (ops.Open path new_file_flags) a (ops.Write 0 bytes ∷ ops.Close 0 ∷ more) (b ∷ c ∷ left) accepted.0
@@ -130,8 +130,8 @@ file_stepped around path bytes more t files (a ∷ b ∷ c ∷ left) from to clo
       comes = file_comes t (as_path path) bytes;
     }
 
-stepped : (around : Surroundings) (path : List ℕ) (o : Option (List ℕ)) (more : List Operation) (t : Tree) (files : Files) (replies : List Reply) (from to : Moment) → AreClosed files → Accepted replies
-    → AreTurns from (operations_for path (node_by o) ++ more) replies to → HasStepped around path o more t files replies to
+stepped : (around : Surroundings) (path : List ℕ) (o : Option (List ℕ)) (more : List Operation) (t : Tree) (files : Files) (replies : List Reply) (from to : SystemState) → AreClosed files → Accepted replies
+    → AreSessionSteps from (operations_for path (node_by o) ++ more) replies to → HasStepped around path o more t files replies to
 stepped around path None more = folder_stepped around path more
 stepped around path (Some bytes) more = file_stepped around path bytes more
 
@@ -141,13 +141,13 @@ pub record HasCarried (s : Session) (es : List Entry) (t : Tree) : Type 0 where
   pub closed : AreClosed s.files
   pub tree : AreNew es t → s.tree ≡ tree_after es t
 
-pub carried_from : (around : Surroundings) (es : List Entry) (t : Tree) (files : Files) (replies : List Reply) (from to : Moment) → AreClosed files → Accepted replies
-    → AreTurns from (flat_map operations_of es) replies to → HasCarried (session_after_all around (with_files t files) (flat_map operations_of es) replies) es t
+pub carried_from : (around : Surroundings) (es : List Entry) (t : Tree) (files : Files) (replies : List Reply) (from to : SystemState) → AreClosed files → Accepted replies
+    → AreSessionSteps from (flat_map operations_of es) replies to → HasCarried (session_after_all around (with_files t files) (flat_map operations_of es) replies) es t
 carried_from around [] t files [] from to closed accepted h = record { closed = closed; tree = λ e. refl }
 carried_from around [] t files (reply ∷ replies) from to closed accepted h = absurd h
 carried_from around (e ∷ es) t files replies from to closed accepted h =
     let k = stepped around e.path.items (items_by e.bytes) (flat_map operations_of es) t files replies from to closed accepted h in
-    let c = carried_from around es k.tree k.left_open k.left k.between to k.closed k.accepted k.turns in
+    let c = carried_from around es k.tree k.left_open k.left k.between to k.closed k.accepted k.session_steps in
     record {
       closed = subst (λ (s : Session). AreClosed s.files) (sym k.is) c.closed;
       tree = λ new.
@@ -165,7 +165,7 @@ number_in around s path fd None e = ap number e
     number _ = 0
 number_in around s path fd (Some error) e = absurd (cc)
 
-pub opened_first : (from to : Moment) (s : Session) (path : List ℕ) (fd : ℕ) → from.state ≡ Healthy s → AreClosed s.files → IsTurn from (ops.Open path new_file_flags) (ops.Opened fd) to → fd ≡ 0
+pub opened_first : (from to : SystemState) (s : Session) (path : List ℕ) (fd : ℕ) → from.state ≡ Healthy s → AreClosed s.files → IsSessionStep from (ops.Open path new_file_flags) (ops.Opened fd) to → fd ≡ 0
 opened_first from to s path fd state closed turn =
     let a = turn.answered in
     let e : answered_in a.around (Healthy s) (ops.Open path new_file_flags) ≡ (Some (ops.Opened fd), to.state) = ap (λ z. answered_in a.around z (ops.Open path new_file_flags)) (sym state) ∙ a.answers in

@@ -11,11 +11,11 @@ use Rattle.lfs_model.specs.declared.order.NameOrder.{NameOrder}
 use Rattle.lfs_device.specs.declared.error.Error.TheVariants.{Corrupt, Invalid, NoMemory}
 use Rattle.lfs_device.specs.declared.error.Error.{Error}
 use Rattle.lfs_device.specs.Shown.{ordered}
-use Rattle.lfs_lookup.specs.Walk.{AllShow, IsWalked, Place, Shows, ShowsNode}
+use Rattle.lfs_lookup.specs.Walk.{AllShow, IsWalked, Place, PlaceShows, ShowsNode}
 use Rattle.lfs_tool.specs.declared.errors.ToolError.{ToolError}
 use Rattle.lfs_tool.specs.declared.errors.ToolError.TheVariants.{Fs, Output}
 use Rattle.lfs_tool.specs.Listed.{Refuses}
-use Rattle.lfs_tool.specs.Unpacked.{AreLists, FailsToUnpack, FailsToUnpackImage, HasBegun, HasDone, IsBegunOf, IsBegunOfImage, IsDoneOf, IsDoneOfImage, IsUnpacked, TellsTarget, Unpacks, action_at, action_below, actions_at}
+use Rattle.lfs_tool.specs.Unpacked.{AreLists, FailsToUnpack, FailsToUnpackImage, HasBegun, HasDone, IsBegunOf, IsBegunOfImage, IsDoneOf, IsDoneOfImage, IsUnpacked, ReportsTarget, Unpacks, action_at, action_below, actions_at}
 use Rattle.lfs_tool.proofs.Images.{all_read, most}
 
 -- ---- what was found of a tree unpacks it
@@ -38,7 +38,7 @@ action_node disk path (Inline bytes) node (attributes, is) = ap (action_for path
 action_node disk path (Ctz head size) node (attributes, (is, list)) = ap (action_for path) (sym is)
 action_node disk path (Branch to) node (attributes, (names, is)) = ap (action_for path) (sym is)
 
-action_shown : (disk : Disk) (p : Place) (e : Entry) → Shows disk p e → action_at disk p ≡ action_of e
+action_shown : (disk : Disk) (p : Place) (e : Entry) → PlaceShows disk p e → action_at disk p ≡ action_of e
 action_shown disk p e s = action_node disk p.path p.struct e.node s.node ∙ ap (λ path. action_for path e.node) s.path
 
 actions_shown : (disk : Disk) (ps : List Place) (es : List Entry) → AllShow disk ps es → actions_at disk ps ≡ map action_of es
@@ -60,11 +60,11 @@ module _ (disk now : Disk) (order : NameOrder) (ps : List Pair) (places : List P
   begun_of old new h = (actions_at (ordered order disk) places, (unpacks, subst (λ d. HasBegun old new (actions_at d places)) same h))
 
 pub fails_begun : {X : Type 0} (disk : Disk) (old new : Option (List Action)) (was now : ℕ) (r : Result X ToolError) (begun : Type 0) → OnErr r begun → (begun → IsBegunOf disk old new)
-    → TellsTarget was now r → IfErr r (FailsToUnpack disk old new)
-fails_begun disk old new was now (Ok x) begun h to tells = tt
-fails_begun disk old new was now (Err Output) begun h to tells = to h
-fails_begun disk old new was now (Err (Fs NoMemory)) begun h to tells = inr (to h)
-fails_begun disk old new was now (Err e) begun h to tells = absurd tells
+    → ReportsTarget was now r → IfErr r (FailsToUnpack disk old new)
+fails_begun disk old new was now (Ok x) begun h to reports = tt
+fails_begun disk old new was now (Err Output) begun h to reports = to h
+fails_begun disk old new was now (Err (Fs NoMemory)) begun h to reports = inr (to h)
+fails_begun disk old new was now (Err e) begun h to reports = absurd reports
 
 -- ---- of an image
 

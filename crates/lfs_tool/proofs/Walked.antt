@@ -7,7 +7,7 @@ use Rattle.lfs_model.specs.Slots.{Branch, Ctz, Inline, Struct}
 use Rattle.lfs_model.specs.Tree.{Node}
 use Rattle.lfs_model.specs.View.{HasView, View, view_in}
 use Rattle.lfs_model.proofs.ListSizes.{length-bytes_of}
-use Rattle.lfs_lookup.specs.Walk.{AllShow, Place, Shows, ShowsNode}
+use Rattle.lfs_lookup.specs.Walk.{AllShow, Place, PlaceShows, ShowsNode}
 use Rattle.lfs_tool.specs.Listed.{HasLines, line_at, line_with, lines_at, size_in}
 
 pub record HasSizes (disk : Disk) : Type 0 where
@@ -24,7 +24,7 @@ line_node disk sizes path (Ctz head size) node (attributes, (is, list)) =
     ap (λ k. line_with (Some k) path) (sym (length-bytes_of disk.blocks disk.block_size sizes.count head size sizes.enough sizes.divided list)) ∙ ap (line_for path) (sym is)
 line_node disk sizes path (Branch to) node (attributes, (names, is)) = ap (line_for path) (sym is)
 
-line_shown : (disk : Disk) → HasSizes disk → (p : Place) (e : Entry) → Shows disk p e → line_at p ≡ line_of e
+line_shown : (disk : Disk) → HasSizes disk → (p : Place) (e : Entry) → PlaceShows disk p e → line_at p ≡ line_of e
 line_shown disk sizes p e s = line_node disk sizes p.path p.struct e.node s.node ∙ ap (λ path. line_for path e.node) s.path
 
 lines_shown : (disk : Disk) → HasSizes disk → (ps : List Place) (es : List Entry) → AllShow disk ps es → lines_at ps ≡ lines_of es

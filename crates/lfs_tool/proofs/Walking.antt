@@ -17,10 +17,10 @@ use Rattle.lfs_model.specs.Tree.{Path, Node, FileNode, DirectoryNode, Tree}
 use Rattle.lfs_model.proofs.Counts.{Each, each_weaker}
 use Rattle.lfs_model.proofs.Names.{greater}
 use Rattle.lfs_model.proofs.Paths.{append_step}
-use Rattle.lfs_tool_folders.specs.Entries.{AreAll, AreRead, AreWithin, Holds, Place, places_in}
+use Rattle.lfs_tool_folders.specs.Entries.{AreAll, AreRead, AreWithin, HoldsSource, Place, places_in}
 use Rattle.lfs_tool_folders.specs.InMemory.{items_by}
 use Rattle.lfs_tool_folders.specs.declared.entries.Entry.{Entry}
-use Rattle.lfs_tool.specs.Carried.{node_by, operations_of, operations_of_all}
+use Rattle.lfs_tool.specs.Applied.{node_by, operations_of, operations_of_all}
 use Rattle.lfs_tool.specs.Made.{CarryOver}
 use Rattle.lfs_tool.proofs.Growing.{beneath, carried_tree, tree_after}
 use Rattle.lfs_tool.proofs.NamesGiven.{Rising, each_found, kind_moved, less_unlike, rising_from}
@@ -150,7 +150,7 @@ met_folder s tree q folder within (Some (DirectoryNode attributes shown)) e at l
           (subst (λ ns. AllStand s (map (λ name. q ++ name ∷ []) ns) (places_in folder within)) (sym same) (below_stand s q folder within at leads (kinds_within s folder within w)));
     }
 
-met : (s : Source) (tree : Tree) (q : Path) (folder : List ℕ) (k : Bool) (o : Option (List ℕ)) (within : List (Name × Bool)) → IsTreeOf s tree → Stands s q (folder, k) → Holds (Some s) folder k o within
+met : (s : Source) (tree : Tree) (q : Path) (folder : List ℕ) (k : Bool) (o : Option (List ℕ)) (within : List (Name × Bool)) → IsTreeOf s tree → Stands s q (folder, k) → HoldsSource (Some s) folder k o within
     → IsMet s tree q (folder, k) o within
 met s tree q folder false None within shows stands holds = absurd holds
 met s tree q folder false (Some bytes) within shows stands holds =

@@ -5,7 +5,7 @@ use Rattle.lfs_tool_line.specs.Matches.{HasOneMode, HasOrder, IsFaultOf, Parses,
 use Rattle.lfs_tool.specs.Ending.{own_line, shows_help, status_of}
 use Rattle.lfs_tool.specs.declared.errors.Fault.{Fault}
 use Rattle.lfs_tool.specs.declared.errors.Fault.TheVariants.{Line, Tool}
-use Rattle.lfs_tool.specs.Told.{HasShown}
+use Rattle.lfs_tool.specs.Reported.{HasShown}
 use Rattle.lfs_tool.specs.declared.writer.Writer.{Ghosts}
 
 -- the words are a command line

@@ -5,7 +5,7 @@ use Rattle.lfs_tool.specs.declared.block_excerpt.BlockExcerpt.{BlockExcerpt}
 use Rattle.lfs_tool.specs.ExcerptBlocks.{block_shown, blocks_shown}
 use Rattle.lfs_device.specs.Shown.{disk_of, ordered}
 use Rattle.lfs_tool.specs.declared.excerpt.Excerpt.{Excerpt}
-use Rattle.lfs_tool.specs.ExcerptSeen.{blocks_of, geometry_of}
+use Rattle.lfs_tool.specs.ExcerptView.{excerpt_blocks, geometry_of}
 use Rattle.lfs_tool.specs.Excerpt.{AreExcerpts, IsBlockExcerpt}
 use Rattle.lfs_model.specs.Blocks.{cut}
 use Rattle.lfs_model.specs.declared.order.NameOrder.{NameOrder}
@@ -30,4 +30,4 @@ pub record IsPushed (block : List ℕ) (old new : List BlockExcerpt) : Type 0 wh
 
 -- the device shows these blocks, of that size and in such pages, with the names in any order
 pub record IsShownAs (block_size page : ℕ) (blocks : List BlockExcerpt) (e : Excerpt) : Type 0 where
-  pub disk : (order : NameOrder) → ordered order (disk_of (geometry_of e) (blocks_of e)) ≡ record { block_size = block_size; page = page; order = order; blocks = blocks_shown blocks }
+  pub disk : (order : NameOrder) → ordered order (disk_of (geometry_of e) (excerpt_blocks e)) ≡ record { block_size = block_size; page = page; order = order; blocks = blocks_shown blocks }

@@ -5,13 +5,13 @@ use Rattle.lfs_device.specs.declared.geometry.Geometry.{Geometry}
 use Rattle.lfs_device.specs.declared.device.BlockDevice.{Ghosts}
 use Rattle.lfs_device.specs.declared.error.Error.{Error}
 use Rattle.lfs_device.specs.declared.error.Error.TheVariants.{Io, NoMemory}
-use Rattle.lfs_device.specs.Calls.{ReadsOnly, TellsFaults}
+use Rattle.lfs_device.specs.Calls.{ReadsOnly, ReportsFaults}
 
 -- The device was only read; `Io` comes with a fault of it, and any other answer without one.
 pub record Looks {D X : Type 0} (g : Ghosts D) (old new : D) (result : Result X Error) : Type 0 where
   pub device : ReadsOnly g old new
   pub errors : IfErr result (λ e. (e ≡ Io) ⊎ (e ≡ NoMemory))
-  pub faults : TellsFaults g old new result
+  pub faults : ReportsFaults g old new result
 
 -- the disk has blocks of that size, so many
 pub record HasSizes (disk : Disk) (geometry : Geometry) : Type 0 where

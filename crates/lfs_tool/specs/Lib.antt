@@ -1,5 +1,5 @@
 pub mod Held
-pub mod HeldSeen
+pub mod HeldView
 pub mod Leading
 pub mod Stated
 pub mod Broken
@@ -15,10 +15,10 @@ pub mod Paths
 pub mod Placed
 pub mod Excerpt
 pub mod ExcerptBlocks
-pub mod ExcerptSeen
+pub mod ExcerptView
 pub mod ExcerptShape
 pub mod Watched
-pub mod Told
+pub mod Reported
 pub mod Known
 pub mod Blocks
 pub mod Orders
@@ -26,7 +26,7 @@ pub mod Errors
 pub mod Ending
 pub mod Listed
 pub mod Unpacked
-pub mod Carried
+pub mod Applied
 pub mod Made
 pub mod Checked
 pub mod CheckedLines

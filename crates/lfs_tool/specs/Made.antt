@@ -5,7 +5,7 @@ use Rattle.lfs_model.specs.Disk.{IsImage, block_count, disk_of}
 use Rattle.lfs_model.specs.Fresh.{IsFresh, empty_tree}
 use Rattle.lfs_model.specs.Listing.{IsCarryingOver}
 use Rattle.lfs_model.specs.Operations.{Operation}
-use Rattle.lfs_model.specs.Run.{Moment}
+use Rattle.lfs_model.specs.Run.{SystemState}
 use Rattle.lfs_model.specs.Slots.{no_gstate}
 use Rattle.lfs_model.specs.Source.{Source, IsTreeOf}
 use Rattle.lfs_model.specs.State.{Healthy, mounted}
@@ -19,14 +19,14 @@ use Rattle.lfs_device.specs.declared.geometry.Geometry.{Geometry}
 use Rattle.lfs_tool.specs.declared.errors.ToolError.{ToolError}
 use Rattle.lfs_tool.specs.declared.errors.ToolError.TheVariants.{Input}
 use Rattle.lfs_tool.specs.Known.{AppendsBeginning}
-use Rattle.lfs_tool.specs.Carried.{AreCarried, IsFirstRefusal, operations_of_all}
+use Rattle.lfs_tool.specs.Applied.{AreAllAccepted, IsFirstRefusal, operations_of_all}
 use Rattle.lfs_tool_folders.specs.Entries.{AreAll, FailsOr, HasBadNames}
 use Rattle.lfs_tool_folders.specs.declared.entries.Entry.{Entry}
 
 -- ---- a run
 
 -- A session begins on a fresh disk of the geometry.
-pub record Begins (geometry : Geometry) (from : Moment) : Type 0 where
+pub record Begins (geometry : Geometry) (from : SystemState) : Type 0 where
   pub fresh : IsFresh from.disk
   pub block_size : from.disk.block_size ≡ geometry.block_size
   pub page : from.disk.page ≡ geometry.page
@@ -36,16 +36,16 @@ pub record Begins (geometry : Geometry) (from : Moment) : Type 0 where
 
 -- These are the bytes of the disk that the operations of the entries leave, none of them refused.
 pub record AreLeft (geometry : Geometry) (entries : List Entry) (bytes : List ℕ) : Type 0 where
-  pub from : Moment
+  pub from : SystemState
   pub begins : Begins geometry from
-  pub to : Moment
-  pub carried : AreCarried from (operations_of_all entries) to
+  pub to : SystemState
+  pub carried : AreAllAccepted from (operations_of_all entries) to
   pub len : length bytes ≡ geometry.block_size * geometry.block_count
   pub disk : to.disk ≡ disk_of geometry.block_size geometry.page geometry.order bytes
 
 -- An operation of the entries is refused, and this is the first refusal.
 pub record IsRefused (geometry : Geometry) (entries : List Entry) (e : Error) : Type 0 where
-  pub from : Moment
+  pub from : SystemState
   pub begins : Begins geometry from
   pub first : IsFirstRefusal from (operations_of_all entries) e
 
@@ -55,7 +55,7 @@ CarryOver known operations = IfSome known (λ s. (tree : Tree) × (IsTreeOf s tr
 
 -- ---- an image
 
--- An image of the geometry that is accepted, in the writing profile, without a share of the global state, and shows the
+-- An image of the geometry that is accepted, in the writing profile, without a delta of the global state, and shows the
 -- source's tree.
 pub record IsMade (geometry : Geometry) (known : Option Source) (bytes : List ℕ) : Type 0 where
   pub len : length bytes ≡ geometry.block_size * geometry.block_count
@@ -72,8 +72,8 @@ IsCreated geometry known old new = (entries : List Entry) × (AreAll known entri
     × (CarryOver known (operations_of_all entries) × ((image : List ℕ) × (AreLeft geometry entries image × (IsMade geometry known image × Appends old new image)))))
 
 -- what is known to be written grew by a beginning of an image of the source
-abbrev pub IsBegun : Geometry → Option Source → Option (List ℕ) → Option (List ℕ) → Type 0
-IsBegun geometry known old new = (image : List ℕ) × (IsMade geometry known image × AppendsBeginning old new image)
+abbrev pub IsBeginningOfImage : Geometry → Option Source → Option (List ℕ) → Option (List ℕ) → Type 0
+IsBeginningOfImage geometry known old new = (image : List ℕ) × (IsMade geometry known image × AppendsBeginning old new image)
 
 -- an operation that carries over what the source has is refused, and this is the first refusal
 abbrev pub HasRefusal : Geometry → Option Source → Error → Type 0
@@ -81,6 +81,6 @@ HasRefusal geometry known e = (entries : List Entry) × (AreAll known entries ×
 
 -- `Input` comes where the source fails, which it does once, or where it doesn't and a folder in it has bad names; behind
 -- any other answer it has failed as often as before
-abbrev pub TellsSource : {X : Type 0} → ℕ → ℕ → Option Source → Result X ToolError → Type 0
-TellsSource old new known (Err Input) = FailsOr old new (IfSome known HasBadNames)
-TellsSource old new known other = new ≡ old
+abbrev pub ReportsSource : {X : Type 0} → ℕ → ℕ → Option Source → Result X ToolError → Type 0
+ReportsSource old new known (Err Input) = FailsOr old new (IfSome known HasBadNames)
+ReportsSource old new known other = new ≡ old

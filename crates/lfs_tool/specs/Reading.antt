@@ -6,7 +6,7 @@ use Rattle.lfs_model.specs.Slots.{Content}
 use Rattle.lfs_model.specs.Thread.{Pair}
 use Rattle.lfs_tool.specs.Found.{IsUnread}
 use Rattle.lfs_tool.specs.Held.{plain_pair, plain_pairs}
-use Rattle.lfs_tool.specs.HeldSeen.{pair_seen, pairs_seen}
+use Rattle.lfs_tool.specs.HeldView.{pair_view, pairs_view}
 use Rattle.lfs_tool.specs.Leading.{BeginsWith, IsNamed}
 use Rattle.lfs_tool.specs.declared.held.HeldPair.{HeldPair}
 use Rattle.lfs_tool.specs.declared.following.Followed.{Followed}
@@ -18,7 +18,7 @@ use Rattle.lfs_tool.specs.declared.pairs.Read.TheVariants as read
 pub record IsHeld (disk : Disk) (at : ℕ × ℕ) (held : HeldPair) : Type 0 where
   pub content : Content
   pub holds : content_at disk at ≡ Some content
-  pub is : pair_seen held ≡ plain_pair (record { at = at; content = content })
+  pub is : pair_view held ≡ plain_pair (record { at = at; content = content })
 
 -- the pair at an address, or what is wrong with it where the thread names it
 abbrev pub IsRead : Disk → ℕ × ℕ → Read → Type 0
@@ -34,7 +34,7 @@ IsNext disk at (read.Broken finding) = IsUnread disk finding
 pub record AreHeld (disk : Disk) (next : Option (ℕ × ℕ)) (held : List HeldPair) : Type 0 where
   pub pairs : List Pair
   pub begins : BeginsWith disk pairs next
-  pub are : pairs_seen held ≡ plain_pairs pairs
+  pub are : pairs_view held ≡ plain_pairs pairs
 
 -- all pairs of the thread, or what is wrong with it
 abbrev pub IsFollowed : Disk → Followed → Type 0

@@ -11,7 +11,7 @@ use Rattle.lfs_model.specs.Tree.{Node, FileNode, DirectoryNode}
 use Rattle.lfs_model.specs.View.{IsAccepted}
 use Rattle.lfs_model.specs.declared.order.NameOrder.{NameOrder}
 use Rattle.lfs_model.specs.declared.order.NameOrder.TheVariants as order
-use Rattle.lfs_lookup.specs.Items.{structure_seen}
+use Rattle.lfs_lookup.specs.Items.{structure_view}
 use Rattle.lfs_lookup.specs.declared.walking.TreeItem.{TreeItem}
 use Rattle.lfs_tool.specs.declared.verdict.Summary.{Summary}
 use Rattle.lfs_tool.specs.declared.verdict.Orders.{Orders}
@@ -32,7 +32,7 @@ is_file_struct (Ctz head size) = true
 is_file_struct (Branch to) = false
 
 abbrev pub is_file_item : TreeItem → Bool
-is_file_item i = is_file_struct (structure_seen i.structure)
+is_file_item i = is_file_struct (structure_view i.structure)
 
 -- ---- an accepted image
 

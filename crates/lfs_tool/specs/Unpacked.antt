@@ -49,14 +49,14 @@ abbrev pub AreLists : Disk → List Place → Type 0
 AreLists disk places = AllByRecursion (λ p. IsListIfCtz disk p.struct) places
 
 -- `Output` comes where the target has failed, and any other answer where it hasn't: then memory ran out, if it is an error
-abbrev pub TellsFault : ℕ → ℕ → ToolError → Type 0
-TellsFault old new Output = new ≡ suc old
-TellsFault old new (Fs NoMemory) = new ≡ old
-TellsFault old new other = ⊥
+abbrev pub ReportsFault : ℕ → ℕ → ToolError → Type 0
+ReportsFault old new Output = new ≡ suc old
+ReportsFault old new (Fs NoMemory) = new ≡ old
+ReportsFault old new other = ⊥
 
-abbrev pub TellsTarget : {X : Type 0} → ℕ → ℕ → Result X ToolError → Type 0
-TellsTarget old new (Ok x) = new ≡ old
-TellsTarget old new (Err e) = TellsFault old new e
+abbrev pub ReportsTarget : {X : Type 0} → ℕ → ℕ → Result X ToolError → Type 0
+ReportsTarget old new (Ok x) = new ≡ old
+ReportsTarget old new (Err e) = ReportsFault old new e
 
 -- ---- a device in memory, and an image
 

@@ -7,7 +7,7 @@ ghost use Rattle.lfs_tool.specs.Listed.{Lists, Refuses};
 ghost use Rattle.lfs_tool.specs.Unpacked.{IsBegunOfImage, IsDoneOfImage};
 ghost use Rattle.lfs_tool.specs.Checked.{IsCheckedAs, is_accepted};
 ghost use Rattle.lfs_tool.specs.CheckedLines.{checked_text};
-ghost use Rattle.lfs_tool.specs.Told.{IsReadToEnd, Tells, TellsWriter};
+ghost use Rattle.lfs_tool.specs.Reported.{IsReadToEnd, ReportsOnce, ReportsWriter};
 
 use crate::{Line, Reader, ToolError, Writer, check, list, unpack};
 use lfs_device::Error;
@@ -28,14 +28,14 @@ pub fn list_asked<R: Reader, W: Writer>(
         (text : _) × (Lists line.now.block_size line.now.page bytes text × Appends (W.contents out.old) (W.contents out.new) text))) }
 
     // The writer isn't touched, unless it fails: then a beginning of the lines may be written.
-    ensures writer { TellsWriter W.Writer out.old out.new result }
+    ensures writer { ReportsWriter W.Writer out.old out.new result }
     ensures beginning { IsErrOf result ToolError.Output → IfSome (R.remaining image.old) (λ bytes.
         (text : _) × (Lists line.now.block_size line.now.page bytes text × AppendsBeginning (W.contents out.old) (W.contents out.new) text)) }
 
     // When each other error comes.
     ensures refused { (e : _) → IsErrOf result (ToolError.Fs e)
         → IsListError e × IfSome (R.remaining image.old) (λ bytes. Refuses line.now.block_size line.now.page bytes e) }
-    ensures input { Tells ToolError.Input (R.faults image.old) (R.faults image.new) result }
+    ensures input { ReportsOnce ToolError.Input (R.faults image.old) (R.faults image.new) result }
     ensures read { ¬ IsErrOf result ToolError.Input → ¬ IsErrOf result (ToolError.Fs Error.NoMemory) → IsReadToEnd (R.remaining image.old) (R.remaining image.new) }
 {
     list(alloc, image, line.block_size, line.page, out)
@@ -56,13 +56,13 @@ pub fn check_asked<R: Reader, W: Writer>(
         (checked : _) × (IsCheckedAs line.now.block_size line.now.page bytes checked × (accepted ≡ is_accepted checked) × Appends (W.contents out.old) (W.contents out.new) (checked_text checked)))) }
 
     // The writer isn't touched, unless it fails: then a beginning of the lines may be written.
-    ensures writer { TellsWriter W.Writer out.old out.new result }
+    ensures writer { ReportsWriter W.Writer out.old out.new result }
     ensures beginning { IsErrOf result ToolError.Output → IfSome (R.remaining image.old) (λ bytes.
         (checked : _) × (IsCheckedAs line.now.block_size line.now.page bytes checked × AppendsBeginning (W.contents out.old) (W.contents out.new) (checked_text checked))) }
 
     // When each other error comes.
     ensures refused { (e : _) → IsErrOf result (ToolError.Fs e) → e ≡ Error.NoMemory }
-    ensures input { Tells ToolError.Input (R.faults image.old) (R.faults image.new) result }
+    ensures input { ReportsOnce ToolError.Input (R.faults image.old) (R.faults image.new) result }
     ensures read { ¬ IsErrOf result ToolError.Input → ¬ IsErrOf result (ToolError.Fs Error.NoMemory) → IsReadToEnd (R.remaining image.old) (R.remaining image.new) }
 {
     check(alloc, image, line.block_size, line.page, out)
@@ -88,9 +88,9 @@ pub fn unpack_asked<R: Reader, T: Target>(
 
     // When each error comes.
     ensures refused { (e : _) → IsErrOf result (ToolError.Fs e) → IfSome (R.remaining image.old) (λ bytes. Refuses line.now.block_size line.now.page bytes e) }
-    ensures input { Tells ToolError.Input (R.faults image.old) (R.faults image.new) result }
+    ensures input { ReportsOnce ToolError.Input (R.faults image.old) (R.faults image.new) result }
     ensures read { ¬ IsErrOf result ToolError.Input → ¬ IsErrOf result (ToolError.Fs Error.NoMemory) → IsReadToEnd (R.remaining image.old) (R.remaining image.new) }
-    ensures output { Tells ToolError.Output (T.faults target.old) (T.faults target.new) result }
+    ensures output { ReportsOnce ToolError.Output (T.faults target.old) (T.faults target.new) result }
 {
     unpack(alloc, image, line.block_size, line.page, target)
 }

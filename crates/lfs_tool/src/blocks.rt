@@ -3,10 +3,10 @@
 ghost use Rattle.std.specs.Prelude.{◌≡◌, ◌≤◌, ◌*◌, IfErr, IfOk, IfSome, OnOk, None, length, suc};
 ghost use Rattle.lfs_tool.specs.ExcerptBlocks.{HaveSize};
 ghost use Rattle.lfs_model.specs.Disk.{IsImage};
-ghost use Rattle.lfs_tool.specs.ExcerptSeen.{size_of};
+ghost use Rattle.lfs_tool.specs.ExcerptView.{size_of};
 ghost use Rattle.lfs_tool.specs.Blocks.{AreRead, Fills, IsPushed};
 ghost use Rattle.lfs_tool.specs.Known.{FailsToRead};
-ghost use Rattle.lfs_tool.specs.Told.{IsReadToEnd};
+ghost use Rattle.lfs_tool.specs.Reported.{IsReadToEnd};
 
 use crate::input::IMAGE_MAX;
 use crate::{BlockExcerpt, Cutter, Reader, ToolError};

@@ -3,7 +3,7 @@
 ghost use Rattle.std.specs.Prelude.{◌≡◌, IfOk, IfSome, IsErrOf};
 ghost use Rattle.std.specs.Io.KnownBytes.{Appends};
 ghost use Rattle.lfs_tool.specs.Known.{AppendsBeginning};
-ghost use Rattle.lfs_tool.specs.Told.{IsReadToEnd, Tells, TellsWriter};
+ghost use Rattle.lfs_tool.specs.Reported.{IsReadToEnd, ReportsOnce, ReportsWriter};
 ghost use Rattle.lfs_tool.specs.Checked.{IsCheckedAs, is_accepted};
 ghost use Rattle.lfs_tool.specs.CheckedLines.{checked_text};
 
@@ -47,13 +47,13 @@ pub fn check<R: Reader, W: Writer>(
         (checked : _) × (IsCheckedAs block_size page bytes checked × (accepted ≡ is_accepted checked) × Appends (W.contents out.old) (W.contents out.new) (checked_text checked)))) }
 
     // The writer isn't touched, unless it fails: then a beginning of the lines may be written.
-    ensures writer { TellsWriter W.Writer out.old out.new result }
+    ensures writer { ReportsWriter W.Writer out.old out.new result }
     ensures beginning { IsErrOf result ToolError.Output → IfSome (R.remaining image.old) (λ bytes.
         (checked : _) × (IsCheckedAs block_size page bytes checked × AppendsBeginning (W.contents out.old) (W.contents out.new) (checked_text checked))) }
 
     // When each other error comes.
     ensures refused { (e : _) → IsErrOf result (ToolError.Fs e) → e ≡ Error.NoMemory }
-    ensures input { Tells ToolError.Input (R.faults image.old) (R.faults image.new) result }
+    ensures input { ReportsOnce ToolError.Input (R.faults image.old) (R.faults image.new) result }
     ensures read { ¬ IsErrOf result ToolError.Input → ¬ IsErrOf result (ToolError.Fs Error.NoMemory) → IsReadToEnd (R.remaining image.old) (R.remaining image.new) }
 {
     let checked = examine(alloc, image, block_size, page)?;

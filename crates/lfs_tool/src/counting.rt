@@ -6,10 +6,10 @@ ghost use Rattle.lfs_model.specs.Profile.{IsWritable};
 ghost use Rattle.lfs_model.specs.Shown.{used_blocks};
 ghost use Rattle.lfs_model.specs.Thread.{superblocks_before};
 ghost use Rattle.lfs_model.specs.View.{IsAccepted};
-ghost use Rattle.lfs_tag.specs.FieldsSeen.{move_seen};
+ghost use Rattle.lfs_tag.specs.FieldsView.{move_view};
 ghost use Rattle.lfs_thread.specs.Steps.{IsOnlyRead};
-ghost use Rattle.lfs_lookup.specs.Items.{structure_seen};
-ghost use Rattle.lfs_lookup.specs.Walk.{IsWalked, founds_seen};
+ghost use Rattle.lfs_lookup.specs.Items.{structure_view};
+ghost use Rattle.lfs_lookup.specs.Walk.{IsWalked, founds_view};
 ghost use Rattle.lfs_tool.specs.Summary.{HasSummary, is_file_item, is_file_struct, is_half_done};
 
 use crate::verdict::Summary;
@@ -20,7 +20,7 @@ use lfs_thread::Thread;
 use std::alloc::Global;
 
 fn is_file(structure: &Structure) -> bool
-    ensures { result ≡ is_file_struct (structure_seen structure.now) }
+    ensures { result ≡ is_file_struct (structure_view structure.now) }
 {
     match structure {
         Structure::Inline(_) => true,
@@ -45,7 +45,7 @@ fn count_files(items: &[TreeItem]) -> usize
 
 // Whether a global state says that an operation isn't ended.
 fn is_half_done(state: &MoveState) -> bool
-    ensures { result ≡ is_half_done (move_seen state.now) }
+    ensures { result ≡ is_half_done (move_view state.now) }
 {
     state.sync || state.kind != 0
 }
@@ -54,7 +54,7 @@ fn is_half_done(state: &MoveState) -> bool
 fn items_in(alloc: Global, thread: &mut Thread<Ordered<RamDevice>>) -> Result<Vec<TreeItem>, Error>
     requires works { thread.old.failed ≡ false }
     requires accepted { IsAccepted thread.old.kept.disk thread.old.kept.pairs }
-    ensures walked { IfOk result (λ items. IsWalked thread.old.kept.disk thread.old.kept.pairs (founds_seen items.items)) }
+    ensures walked { IfOk result (λ items. IsWalked thread.old.kept.disk thread.old.kept.pairs (founds_view items.items)) }
     ensures only { (IsOnlyRead thread.old.kept thread.new.kept) × (thread.new.failed ≡ false) }
     ensures err { IfErr result (λ e. e ≡ Error.NoMemory) }
 {

@@ -1,6 +1,6 @@
 ghost use Rattle.std.specs.Prelude.{◌≡◌, ◌≢◌, ◌⊎◌, IsErrOf, OnOk};
-ghost use Rattle.lfs_tool.specs.Told.{TellsWriter};
-ghost use Rattle.lfs_tool.specs.Made.{HasRefusal, IsBegun, IsCreated, TellsSource};
+ghost use Rattle.lfs_tool.specs.Reported.{ReportsWriter};
+ghost use Rattle.lfs_tool.specs.Made.{HasRefusal, IsBeginningOfImage, IsCreated, ReportsSource};
 ghost use Rattle.lfs_tool.specs.Asked.{HasNoGeometry, HasSizes};
 
 use crate::{Line, ToolError, Writer, create, geometry_for};
@@ -23,14 +23,14 @@ pub fn create_asked<S: Source, W: Writer>(
     ensures ok { OnOk result ((g : _) × (HasSizes line.now g × IsCreated g (S.shown source.old) (W.contents out.old) (W.contents out.new))) }
 
     // The writer isn't touched, unless it fails: then a beginning of the image may be written.
-    ensures writer { TellsWriter W.Writer out.old out.new result }
+    ensures writer { ReportsWriter W.Writer out.old out.new result }
     ensures beginning { IsErrOf result ToolError.Output
-        → (g : _) × (HasSizes line.now g × IsBegun g (S.shown source.old) (W.contents out.old) (W.contents out.new)) }
+        → (g : _) × (HasSizes line.now g × IsBeginningOfImage g (S.shown source.old) (W.contents out.old) (W.contents out.new)) }
 
     // When each other error comes. The source has a fault at `Input` alone.
     ensures refused { (e : _) → IsErrOf result (ToolError.Fs e) → e ≢ Error.NoMemory
         → HasNoGeometry line.now e ⊎ ((g : _) × (HasSizes line.now g × HasRefusal g (S.shown source.old) e)) }
-    ensures source { TellsSource (S.faults source.old) (S.faults source.new) (S.shown source.old) result }
+    ensures source { ReportsSource (S.faults source.old) (S.faults source.new) (S.shown source.old) result }
     ensures unread { HasNoGeometry line.now Error.Invalid → (source.new ≡ source.old) × IsErrOf result (ToolError.Fs Error.Invalid) }
 {
     match geometry_for(line.size, line.block_size, line.page) {

@@ -21,7 +21,7 @@ pub struct Cutter {
 impl Cutter {
     ghost use Rattle.std.specs.Prelude.{◌≡◌, IfOk};
     ghost use Rattle.lfs_tool.specs.ExcerptBlocks.{block_shown};
-    ghost use Rattle.lfs_tool.specs.ExcerptSeen.{size_of};
+    ghost use Rattle.lfs_tool.specs.ExcerptView.{size_of};
     ghost use Rattle.lfs_tool.specs.Excerpt.{IsBlockExcerpt, is_kept_whole, kept_bytes};
 
     /// For blocks of so many bytes, 132 at least. `NoMemory` where its room isn't granted.

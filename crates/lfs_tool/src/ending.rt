@@ -3,7 +3,7 @@ ghost use Rattle.std.specs.Io.KnownBytes.{Appends};
 ghost use Rattle.lfs_tool.specs.Known.{AppendsBeginning};
 ghost use Rattle.lfs_tool.specs.Ending.{own_line, shows_help, status_of};
 ghost use Rattle.lfs_tool.specs.Errors.{tool_line, tool_status};
-ghost use Rattle.lfs_tool.specs.Told.{HasShown};
+ghost use Rattle.lfs_tool.specs.Reported.{HasShown};
 
 use crate::output::write_bytes;
 use crate::{Fault, ToolError, Writer};

@@ -4,7 +4,7 @@ ghost use Rattle.std.specs.Prelude.{◌≡◌, ◌<◌, ◌≤◌, ◌^◌, List
 ghost use Rattle.lfs_tool.specs.Stated.{IsStatedIn};
 ghost use Rattle.lfs_tool.specs.Checked.{AreRefused, IsCheckedAs, IsGiven, IsJudged, IsReason};
 ghost use Rattle.lfs_tool.specs.Known.{FailsToRead};
-ghost use Rattle.lfs_tool.specs.Told.{IsReadToEnd};
+ghost use Rattle.lfs_tool.specs.Reported.{IsReadToEnd};
 
 use crate::checked::{Checked, Given, Reason};
 use crate::finding::Stated;

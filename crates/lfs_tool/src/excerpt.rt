@@ -2,7 +2,7 @@ ghost use Rattle.std.specs.Prelude.{◌≡◌, ◌≤◌, ◌<◌, ◌+◌, ◌%
 ghost use Rattle.lfs_model.specs.Blocks.{block_in};
 ghost use Rattle.lfs_model.specs.History.{event, AllUnprogrammed, IsNewest};
 ghost use Rattle.lfs_model.specs.History.Call.{Read, Program, Erase};
-ghost use Rattle.lfs_model.specs.Obeyed.{AreObeyed};
+ghost use Rattle.lfs_model.specs.Conformance.{AllConform};
 ghost use Rattle.lfs_tool.specs.ExcerptBlocks.{HasRead, HaveSize, blocks_shown};
 
 use crate::BlockExcerpt;
@@ -20,35 +20,35 @@ pub struct Excerpt {
     ghost sizes: { HaveSize geometry.block_size blocks.items },
     pub ghost has_read: { All HasRead trace.events },
     ghost newest: { IsNewest trace.events (blocks_shown blocks.items) },
-    ghost obeyed: { AreObeyed trace.events },
+    ghost conforms: { AllConform trace.events },
 }
 
 impl Excerpt {
-    ghost use Rattle.lfs_tool.specs.ExcerptSeen.{blocks_of, geometry_of, history_of};
+    ghost use Rattle.lfs_tool.specs.ExcerptView.{excerpt_blocks, geometry_of, history_of};
 
     /// The device of these blocks. There are as many as the geometry has, of its size.
     pub fn new(geometry: Geometry, blocks: Vec<BlockExcerpt>) -> Excerpt
         requires count { length blocks.items ≡ geometry.block_count }
         requires sizes { HaveSize geometry.block_size blocks.items }
         ensures geometry { geometry_of result ≡ geometry }
-        ensures blocks { blocks_of result ≡ blocks_shown blocks.items }
+        ensures blocks { excerpt_blocks result ≡ blocks_shown blocks.items }
         ensures no_call { history_of result ≡ [] }
     {
         Excerpt {
             geometry,
             blocks,
-            trace: Trace::told_by(&geometry, &()),
+            trace: Trace::from_proof(&geometry, &()),
         }
     }
 }
 
 impl BlockDevice for Excerpt {
-    ghost use Rattle.lfs_tool.specs.ExcerptSeen.{blocks_of, geometry_of, history_of};
+    ghost use Rattle.lfs_tool.specs.ExcerptView.{excerpt_blocks, geometry_of, history_of};
     ghost use Rattle.lfs_tool.specs.ExcerptShape.{bytes_shown, divided_shown};
 
     ghost geometry = { geometry_of };
 
-    ghost blocks = { blocks_of };
+    ghost blocks = { excerpt_blocks };
 
     ghost history = { history_of };
 
@@ -58,7 +58,7 @@ impl BlockDevice for Excerpt {
 
     ghost newest = { λ e. e.newest };
 
-    ghost obeyed = { λ e. e.obeyed };
+    ghost conforms = { λ e. e.conforms };
 
     fn geometry(&self) -> Geometry {
         self.geometry
@@ -68,13 +68,13 @@ impl BlockDevice for Excerpt {
         requires in_device { block < (geometry_of self.old).block_count }
         requires in_block { off + length buf.old ≤ (geometry_of self.old).block_size }
         ensures ok { IsOk result }
-        ensures bytes { buf.new ≡ slice_range (block_in (blocks_of self.old) block) off (off + length buf.old) }
-        ensures same { blocks_of self.new ≡ blocks_of self.old }
+        ensures bytes { buf.new ≡ slice_range (block_in (excerpt_blocks self.old) block) off (off + length buf.old) }
+        ensures same { excerpt_blocks self.new ≡ excerpt_blocks self.old }
         ensures geometry { geometry_of self.new ≡ geometry_of self.old }
-        ensures history { history_of self.new ≡ event (Read block off (length buf.old)) (blocks_of self.old) (blocks_of self.new) false ∷ history_of self.old }
+        ensures history { history_of self.new ≡ event (Read block off (length buf.old)) (excerpt_blocks self.old) (excerpt_blocks self.new) false ∷ history_of self.old }
     {
         self.blocks[block as usize].read(off as usize, buf);
-        self.trace = Trace::told_by(self, &(block, off, buf.len()));
+        self.trace = Trace::from_proof(self, &(block, off, buf.len()));
         Ok(())
     }
 
@@ -85,22 +85,22 @@ impl BlockDevice for Excerpt {
         requires ends { (off + length bytes.now) % (geometry_of self.old).page ≡ 0 }
         requires unprogrammed { AllUnprogrammed (history_of self.old) block off (off + length bytes.now) }
         ensures err { IsErrOf result Error.Io }
-        ensures same { blocks_of self.new ≡ blocks_of self.old }
+        ensures same { excerpt_blocks self.new ≡ excerpt_blocks self.old }
         ensures geometry { geometry_of self.new ≡ geometry_of self.old }
-        ensures history { history_of self.new ≡ event (Program block off bytes.now) (blocks_of self.old) (blocks_of self.new) true ∷ history_of self.old }
+        ensures history { history_of self.new ≡ event (Program block off bytes.now) (excerpt_blocks self.old) (excerpt_blocks self.new) true ∷ history_of self.old }
     {
-        self.trace = Trace::told_by(self, &(block, off, bytes));
+        self.trace = Trace::from_proof(self, &(block, off, bytes));
         Err(Error::Io)
     }
 
     fn erase(&mut self, block: u32) -> Result<(), Error>
         requires { block < (geometry_of self.old).block_count }
         ensures err { IsErrOf result Error.Io }
-        ensures same { blocks_of self.new ≡ blocks_of self.old }
+        ensures same { excerpt_blocks self.new ≡ excerpt_blocks self.old }
         ensures geometry { geometry_of self.new ≡ geometry_of self.old }
-        ensures history { history_of self.new ≡ event (Erase block) (blocks_of self.old) (blocks_of self.new) true ∷ history_of self.old }
+        ensures history { history_of self.new ≡ event (Erase block) (excerpt_blocks self.old) (excerpt_blocks self.new) true ∷ history_of self.old }
     {
-        self.trace = Trace::told_by(self, &block);
+        self.trace = Trace::from_proof(self, &block);
         Err(Error::Io)
     }
 }

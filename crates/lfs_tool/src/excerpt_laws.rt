@@ -6,7 +6,7 @@ ghost use Rattle.lfs_model.specs.History.{OnlyReads, faults};
 ghost use Rattle.lfs_model.specs.Listing.{IsListing};
 ghost use Rattle.lfs_model.specs.Thread.{Pair};
 ghost use Rattle.lfs_model.specs.View.{HasView, IsAccepted, View};
-ghost use Rattle.lfs_tool.specs.ExcerptSeen.{blocks_of, history_of};
+ghost use Rattle.lfs_tool.specs.ExcerptView.{excerpt_blocks, history_of};
 ghost use Rattle.lfs_tool.specs.Excerpt.{IsExcerpt};
 ghost use Rattle.lfs_tool.specs.declared.excerpt.Excerpt.{Excerpt};
 
@@ -20,5 +20,5 @@ pub fn excerpt_is_listed_alike()
 
 /// An excerpt that is only read meets no fault.
 pub fn excerpt_is_read_without_fault()
-    ensures { (old new : Excerpt) → OnlyReads (blocks_of old) (history_of old) (history_of new) → faults (history_of new) ≡ faults (history_of old) }
+    ensures { (old new : Excerpt) → OnlyReads (excerpt_blocks old) (history_of old) (history_of new) → faults (history_of new) ≡ faults (history_of old) }
 {}

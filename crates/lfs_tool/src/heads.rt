@@ -5,10 +5,10 @@ ghost use Rattle.lfs_model.specs.Disk.{Disk};
 ghost use Rattle.lfs_model.specs.EntryTypes.{SuperblockFields};
 ghost use Rattle.lfs_model.specs.Slots.{Inline, Struct as ModelStruct, address_of};
 ghost use Rattle.lfs_model.specs.Thread.{Pair, superblocks_before};
-ghost use Rattle.lfs_tag.specs.FieldsSeen.{superblock_seen};
+ghost use Rattle.lfs_tag.specs.FieldsView.{superblock_view};
 ghost use Rattle.lfs_tool.specs.Broken.{HasFields, IsBroken, IsChained, IsMisstated};
 ghost use Rattle.lfs_tool.specs.Device.{HasSizes};
-ghost use Rattle.lfs_tool.specs.HeldSeen.{held_seen, pair_seen, pairs_seen, struct_seen};
+ghost use Rattle.lfs_tool.specs.HeldView.{held_view, pair_view, pairs_view, struct_view};
 
 use crate::finding::{Finding, Stated};
 use crate::held::{HeldPair, HeldSlot, Struct};
@@ -19,8 +19,8 @@ use lfs_tag::{Superblock, superblock_of};
 
 // The fields of a superblock's struct.
 pub(crate) fn fields_of(structure: &Struct) -> Option<Superblock>
-    ensures some { IfSome result (λ fields. HasFields (struct_seen structure.now) (superblock_seen fields)) }
-    ensures none { result ≡ None → (fields : SuperblockFields) → ¬ HasFields (struct_seen structure.now) fields }
+    ensures some { IfSome result (λ fields. HasFields (struct_view structure.now) (superblock_view fields)) }
+    ensures none { result ≡ None → (fields : SuperblockFields) → ¬ HasFields (struct_view structure.now) fields }
 {
     match structure {
         Struct::Inline(bytes) => fields_in(bytes),
@@ -30,7 +30,7 @@ pub(crate) fn fields_of(structure: &Struct) -> Option<Superblock>
 }
 
 fn fields_in(bytes: &[u8]) -> Option<Superblock>
-    ensures some { IfSome result (λ fields. HasFields (Inline bytes.now) (superblock_seen fields)) }
+    ensures some { IfSome result (λ fields. HasFields (Inline bytes.now) (superblock_view fields)) }
     ensures none { result ≡ None → (fields : SuperblockFields) → ¬ HasFields (Inline bytes.now) fields }
 {
     match <&[u8; 24]>::try_from(bytes) {
@@ -41,14 +41,14 @@ fn fields_in(bytes: &[u8]) -> Option<Superblock>
 
 // What these fields say of an image that isn't so.
 pub(crate) fn misstated(geometry: &Geometry, fields: &Superblock) -> Option<Stated>
-    ensures { IfSome result (λ stated. (disk : Disk) → HasSizes disk geometry.now → IsMisstated disk (superblock_seen fields.now) stated) }
+    ensures { IfSome result (λ stated. (disk : Disk) → HasSizes disk geometry.now → IsMisstated disk (superblock_view fields.now) stated) }
 {
     unlike(geometry.block_size, geometry.block_count as usize, fields)
 }
 
 // What is wrong with the fields of the superblock in a pair of the chain.
 fn fields_fault(geometry: &Geometry, pair: [u32; 2], fields: &Superblock) -> Option<Finding>
-    ensures { IfSome result (λ f. (disk : Disk) (ps : List Pair) (s : ModelStruct) → HasSizes disk geometry.now → IsChained ps (address_of pair) s → HasFields s (superblock_seen fields.now) → IsBroken disk ps f) }
+    ensures { IfSome result (λ f. (disk : Disk) (ps : List Pair) (s : ModelStruct) → HasSizes disk geometry.now → IsChained ps (address_of pair) s → HasFields s (superblock_view fields.now) → IsBroken disk ps f) }
 {
     match misstated(geometry, fields) {
         Some(stated) => Some(Finding::OtherFields { pair, stated }),
@@ -58,7 +58,7 @@ fn fields_fault(geometry: &Geometry, pair: [u32; 2], fields: &Superblock) -> Opt
 
 // What is wrong with the superblock in a pair of the chain.
 fn superblock_fault(geometry: &Geometry, pair: [u32; 2], first: &HeldSlot) -> Option<Finding>
-    ensures { IfSome result (λ f. (disk : Disk) (ps : List Pair) → HasSizes disk geometry.now → IsChained ps (address_of pair) (held_seen first.now).struct → IsBroken disk ps f) }
+    ensures { IfSome result (λ f. (disk : Disk) (ps : List Pair) → HasSizes disk geometry.now → IsChained ps (address_of pair) (held_view first.now).struct → IsBroken disk ps f) }
 {
     match fields_of(&first.structure) {
         Some(fields) => fields_fault(geometry, pair, &fields),
@@ -68,7 +68,7 @@ fn superblock_fault(geometry: &Geometry, pair: [u32; 2], first: &HeldSlot) -> Op
 
 // What is wrong with the superblock in a pair of the chain, if it has one.
 fn pair_fault(geometry: &Geometry, pair: &HeldPair) -> Option<Finding>
-    ensures { IfSome result (λ f. (disk : Disk) (ps : List Pair) (index : ℕ) → HasSizes disk geometry.now → slice_get ps index ≡ Some (pair_seen pair.now) → index ≤ superblocks_before ps → IsBroken disk ps f) }
+    ensures { IfSome result (λ f. (disk : Disk) (ps : List Pair) (index : ℕ) → HasSizes disk geometry.now → slice_get ps index ≡ Some (pair_view pair.now) → index ≤ superblocks_before ps → IsBroken disk ps f) }
 {
     if pair.slots.is_empty() {
         None
@@ -81,8 +81,8 @@ fn pair_fault(geometry: &Geometry, pair: &HeldPair) -> Option<Finding>
 // directory.
 fn chain_fault(geometry: &Geometry, pairs: &[HeldPair], root: usize) -> Option<Finding>
     requires below { root < length pairs.now }
-    requires root { root ≡ superblocks_before (pairs_seen pairs.now) }
-    ensures { IfSome result (λ f. (disk : Disk) → HasSizes disk geometry.now → IsBroken disk (pairs_seen pairs.now) f) }
+    requires root { root ≡ superblocks_before (pairs_view pairs.now) }
+    ensures { IfSome result (λ f. (disk : Disk) → HasSizes disk geometry.now → IsBroken disk (pairs_view pairs.now) f) }
 {
     for index in 0..root + 1 {
         if let Some(finding) = pair_fault(geometry, &pairs[index]) {
@@ -96,8 +96,8 @@ fn chain_fault(geometry: &Geometry, pairs: &[HeldPair], root: usize) -> Option<F
 // directory (SPEC.md of littlefs, "0x0ff LFS_TYPE_SUPERBLOCK").
 pub(crate) fn head_fault(geometry: &Geometry, pairs: &[HeldPair], root: usize) -> Option<Finding>
     requires below { root < length pairs.now }
-    requires root { root ≡ superblocks_before (pairs_seen pairs.now) }
-    ensures { IfSome result (λ f. (disk : Disk) → HasSizes disk geometry.now → IsBroken disk (pairs_seen pairs.now) f) }
+    requires root { root ≡ superblocks_before (pairs_view pairs.now) }
+    ensures { IfSome result (λ f. (disk : Disk) → HasSizes disk geometry.now → IsBroken disk (pairs_view pairs.now) f) }
 {
     if !starts_with_superblock(&pairs[root].slots) {
         return Some(Finding::NoSuperblock);

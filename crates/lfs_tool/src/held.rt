@@ -34,6 +34,6 @@ pub(crate) struct HeldPair {
     pub at: [u32; 2],
     pub slots: Vec<HeldSlot>,
     pub tail: Option<Tail>,
-    // Its share of the global state.
-    pub share: MoveState,
+    // Its delta of the global state.
+    pub delta: MoveState,
 }

@@ -2,7 +2,7 @@
 
 ghost use Rattle.std.specs.Prelude.{◌≡◌, ◌+◌, ◌≤◌, IfErr, IfOk, IfSome, OnOk, length, suc, take};
 ghost use Rattle.lfs_tool.specs.Known.{FailsToRead};
-ghost use Rattle.lfs_tool.specs.Told.{IsReadToEnd};
+ghost use Rattle.lfs_tool.specs.Reported.{IsReadToEnd};
 
 use crate::{Reader, ToolError};
 use lfs_device::Error;

@@ -1,7 +1,7 @@
 // Whether an image is accepted, and with what, or why not.
 
 ghost use Rattle.std.specs.Prelude.{◌≡◌, ◌↔◌, IfErr, IfOk, IfSome, IsTrue, false};
-ghost use Rattle.lfs_device.specs.RamDevice.{blocks_of, geometry_of};
+ghost use Rattle.lfs_device.specs.RamDevice.{ram_blocks, geometry_of};
 ghost use Rattle.lfs_device.specs.Shown.{disk_of, ordered};
 ghost use Rattle.lfs_tool.specs.Found.{IsFound};
 ghost use Rattle.lfs_tool.specs.Summary.{HasOrders, IsAcceptedIn};
@@ -23,7 +23,7 @@ use std::alloc::Global;
 
 // Whether the image of a device is accepted with its names in that order.
 fn is_accepted_in(alloc: Global, device: RamDevice, order: NameOrder) -> Result<bool, Error>
-    ensures is { IfOk result (λ b. IsTrue b ↔ IsAcceptedIn order (disk_of (geometry_of device) (blocks_of device))) }
+    ensures is { IfOk result (λ b. IsTrue b ↔ IsAcceptedIn order (disk_of (geometry_of device) (ram_blocks device))) }
     ensures err { IfErr result (λ e. e ≡ Error.NoMemory) }
 {
     match mount(alloc, Ordered::new(device, order)) {
@@ -35,9 +35,9 @@ fn is_accepted_in(alloc: Global, device: RamDevice, order: NameOrder) -> Result<
 
 // In which orders of names the image of a device is accepted, of which `first` is one.
 fn orders_of(alloc: Global, device: RamDevice, first: NameOrder) -> Result<Orders, Error>
-    requires first { IsAcceptedIn first (disk_of (geometry_of device) (blocks_of device)) }
-    requires longer { first ≡ ShorterFirst → ¬ IsAcceptedIn LongerFirst (disk_of (geometry_of device) (blocks_of device)) }
-    ensures orders { IfOk result (HasOrders (disk_of (geometry_of device) (blocks_of device))) }
+    requires first { IsAcceptedIn first (disk_of (geometry_of device) (ram_blocks device)) }
+    requires longer { first ≡ ShorterFirst → ¬ IsAcceptedIn LongerFirst (disk_of (geometry_of device) (ram_blocks device)) }
+    ensures orders { IfOk result (HasOrders (disk_of (geometry_of device) (ram_blocks device))) }
     ensures err { IfErr result (λ e. e ≡ Error.NoMemory) }
 {
     match first {
@@ -54,7 +54,7 @@ fn orders_of(alloc: Global, device: RamDevice, first: NameOrder) -> Result<Order
 
 // A rule that the image of a device breaks.
 fn finding_on(alloc: Global, device: &mut RamDevice) -> Result<Option<Finding>, Error>
-    ensures found { IfOk result (λ found. IfSome found (IsFound (disk_of (geometry_of device.old) (blocks_of device.old)))) }
+    ensures found { IfOk result (λ found. IfSome found (IsFound (disk_of (geometry_of device.old) (ram_blocks device.old)))) }
     ensures err { IfErr result (λ e. e ≡ Error.NoMemory) }
 {
     match find(alloc, device) {
@@ -86,7 +86,7 @@ fn judge_mounted(alloc: Global, mut thread: Thread<Ordered<RamDevice>>) -> Resul
 ///
 /// `NoMemory` where memory isn't granted.
 pub fn judge(alloc: Global, device: RamDevice) -> Result<Verdict, Error>
-    ensures verdict { IfOk result (λ verdict. (order : NameOrder) → IsVerdict (ordered order (disk_of (geometry_of device) (blocks_of device))) verdict) }
+    ensures verdict { IfOk result (λ verdict. (order : NameOrder) → IsVerdict (ordered order (disk_of (geometry_of device) (ram_blocks device))) verdict) }
     ensures err { IfErr result (λ e. e ≡ Error.NoMemory) }
 {
     match mount_either(alloc, device) {

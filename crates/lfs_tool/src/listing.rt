@@ -1,14 +1,14 @@
 ghost use Rattle.std.specs.Prelude.{◌≡◌, ◌<◌, ◌^◌, List, ℕ, IfErr, IfOk, IfSome, IsErrOf, OnOk, length};
 ghost use Rattle.std.specs.Io.KnownBytes.{Appends};
 ghost use Rattle.lfs_tool.specs.ExcerptBlocks.{HaveSize};
-ghost use Rattle.lfs_tool.specs.ExcerptSeen.{blocks_of, geometry_of};
+ghost use Rattle.lfs_tool.specs.ExcerptView.{excerpt_blocks, geometry_of};
 ghost use Rattle.lfs_device.specs.Shown.{disk_of as shown, ordered};
 ghost use Rattle.lfs_model.specs.Disk.{IsImage};
 ghost use Rattle.lfs_model.specs.Geometry.{IsGeometry};
 ghost use Rattle.lfs_model.specs.declared.order.NameOrder.{NameOrder};
 ghost use Rattle.lfs_tool.specs.Blocks.{AreRead};
 ghost use Rattle.lfs_tool.specs.Known.{AppendsBeginning, FailsToList, IsListError};
-ghost use Rattle.lfs_tool.specs.Told.{IsReadToEnd, Tells, TellsWriter};
+ghost use Rattle.lfs_tool.specs.Reported.{IsReadToEnd, ReportsOnce, ReportsWriter};
 ghost use Rattle.lfs_tool.specs.Listed.{HasLines, IsNotMounted, Lists, Refuses};
 
 use crate::blocks::read_blocks;
@@ -22,8 +22,8 @@ use std::alloc::Global;
 
 // The lines of an excerpt.
 fn lines_on(alloc: Global, device: Excerpt) -> Result<Vec<u8>, Error>
-    ensures lines { IfOk result (λ text. (order : NameOrder) × HasLines (ordered order (shown (geometry_of device) (blocks_of device))) text.items) }
-    ensures err { IfErr result (IsNotMounted (shown (geometry_of device) (blocks_of device))) }
+    ensures lines { IfOk result (λ text. (order : NameOrder) × HasLines (ordered order (shown (geometry_of device) (excerpt_blocks device))) text.items) }
+    ensures err { IfErr result (IsNotMounted (shown (geometry_of device) (excerpt_blocks device))) }
 {
     let (_thread, items) = items_of_excerpt(alloc, device)?;
     let text = lines_of(alloc, &items)?;
@@ -112,13 +112,13 @@ pub fn list<R: Reader, W: Writer>(
         (text : _) × (Lists block_size page bytes text × Appends (W.contents out.old) (W.contents out.new) text))) }
 
     // The writer isn't touched, unless it fails: then a beginning of the lines may be written.
-    ensures writer { TellsWriter W.Writer out.old out.new result }
+    ensures writer { ReportsWriter W.Writer out.old out.new result }
     ensures beginning { IsErrOf result ToolError.Output → IfSome (R.remaining image.old) (λ bytes.
         (text : _) × (Lists block_size page bytes text × AppendsBeginning (W.contents out.old) (W.contents out.new) text)) }
 
     // When each other error comes.
     ensures refused { (e : _) → IsErrOf result (ToolError.Fs e) → IsListError e × IfSome (R.remaining image.old) (λ bytes. Refuses block_size page bytes e) }
-    ensures input { Tells ToolError.Input (R.faults image.old) (R.faults image.new) result }
+    ensures input { ReportsOnce ToolError.Input (R.faults image.old) (R.faults image.new) result }
     ensures read { ¬ IsErrOf result ToolError.Input → ¬ IsErrOf result (ToolError.Fs Error.NoMemory) → IsReadToEnd (R.remaining image.old) (R.remaining image.new) }
 {
     let text = read_lines(alloc, image, block_size, page)?;

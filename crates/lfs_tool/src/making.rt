@@ -1,10 +1,10 @@
 ghost use Rattle.std.specs.Prelude.{◌≡◌, ◌≢◌, IfErr, IfOk, IsErrOf, OnOk};
-ghost use Rattle.lfs_fs.specs.Held.{moment_of};
-ghost use Rattle.lfs_tool.specs.Told.{TellsWriter};
-ghost use Rattle.lfs_tool.specs.Made.{AreLeft, Begins, HasRefusal, IsBegun, IsCreated, IsRefused, TellsSource};
+ghost use Rattle.lfs_fs.specs.Held.{system_state_of};
+ghost use Rattle.lfs_tool.specs.Reported.{ReportsWriter};
+ghost use Rattle.lfs_tool.specs.Made.{AreLeft, Begins, HasRefusal, IsBeginningOfImage, IsCreated, IsRefused, ReportsSource};
 ghost use Rattle.lfs_tool_folders.specs.Entries.{AreAll};
 
-use crate::carrying::carry_over;
+use crate::source_entries::carry_over;
 use crate::{ToolError, Writer, write_bytes};
 use lfs_device::{Error, Geometry, RamDevice};
 use lfs_fs::{Session, format_ordered};
@@ -14,7 +14,7 @@ use std::alloc::Global;
 // All that the source has.
 fn read_source<S: Source>(alloc: Global, source: &mut S) -> Result<Vec<Entry>, ToolError>
     ensures entries { IfOk result (λ v. AreAll (S.shown source.old) v.items) }
-    ensures source { TellsSource (S.faults source.old) (S.faults source.new) (S.shown source.old) result }
+    ensures source { ReportsSource (S.faults source.old) (S.faults source.new) (S.shown source.old) result }
     ensures other { IfErr result (λ e. e ≢ ToolError.Input → e ≡ ToolError.Fs Error.NoMemory) }
 {
     match read_tree(alloc, source) {
@@ -26,7 +26,7 @@ fn read_source<S: Source>(alloc: Global, source: &mut S) -> Result<Vec<Entry>, T
 
 // A session over an empty image in memory.
 fn begin(alloc: Global, geometry: Geometry) -> Result<Session<RamDevice>, Error>
-    ensures begins { IfOk result (λ s. Begins geometry (moment_of s)) }
+    ensures begins { IfOk result (λ s. Begins geometry (system_state_of s)) }
     ensures err { IfErr result (λ e. e ≡ Error.NoMemory) }
 {
     let device = RamDevice::blank(alloc, geometry)?;
@@ -70,13 +70,13 @@ pub fn create<S: Source, W: Writer>(
     ensures ok { OnOk result (IsCreated geometry (S.shown source.old) (W.contents out.old) (W.contents out.new)) }
 
     // The writer isn't touched, unless it fails: then a beginning of the image may be written.
-    ensures writer { TellsWriter W.Writer out.old out.new result }
+    ensures writer { ReportsWriter W.Writer out.old out.new result }
     ensures beginning { IsErrOf result ToolError.Output
-        → IsBegun geometry (S.shown source.old) (W.contents out.old) (W.contents out.new) }
+        → IsBeginningOfImage geometry (S.shown source.old) (W.contents out.old) (W.contents out.new) }
 
     // When each other error comes.
     ensures refused { (e : _) → IsErrOf result (ToolError.Fs e) → e ≢ Error.NoMemory → HasRefusal geometry (S.shown source.old) e }
-    ensures source { TellsSource (S.faults source.old) (S.faults source.new) (S.shown source.old) result }
+    ensures source { ReportsSource (S.faults source.old) (S.faults source.new) (S.shown source.old) result }
 {
     let entries = read_source(alloc, source)?;
     match make(alloc, geometry, entries.as_slice()) {

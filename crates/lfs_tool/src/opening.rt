@@ -1,7 +1,7 @@
 // Images as devices.
 
 ghost use Rattle.std.specs.Prelude.{◌≡◌, ◌<◌, ◌/◌, ◌%◌, ◌^◌, [], List, IfErr, IfOk, OnOk, length};
-ghost use Rattle.lfs_device.specs.RamDevice.{blocks_of, geometry_of, history_of};
+ghost use Rattle.lfs_device.specs.RamDevice.{ram_blocks, geometry_of, history_of};
 ghost use Rattle.lfs_device.specs.Shown.{disk_of as shown, ordered};
 ghost use Rattle.lfs_model.specs.Disk.{IsImage, disk_of};
 ghost use Rattle.lfs_model.specs.Geometry.{IsGeometry};
@@ -9,13 +9,13 @@ ghost use Rattle.lfs_model.specs.Thread.{Pair};
 ghost use Rattle.lfs_model.specs.View.{IsAccepted};
 ghost use Rattle.lfs_model.specs.declared.order.NameOrder.{NameOrder};
 ghost use Rattle.lfs_tool.specs.ExcerptBlocks.{HaveSize};
-ghost use Rattle.lfs_tool.specs.ExcerptSeen as excerpt;
+ghost use Rattle.lfs_tool.specs.ExcerptView as excerpt;
 ghost use Rattle.lfs_mount.specs.Device.{IsMountError};
 ghost use Rattle.lfs_mount.specs.Either.{GivesDeviceBack};
 ghost use Rattle.lfs_thread.specs.Kept.{disk_on};
 ghost use Rattle.lfs_tool.specs.Blocks.{IsShownAs};
 ghost use Rattle.lfs_tool.specs.Listed.{HasItems, IsNotMounted};
-ghost use Rattle.lfs_lookup.specs.Walk.{founds_seen};
+ghost use Rattle.lfs_lookup.specs.Walk.{founds_view};
 
 use crate::{BlockExcerpt, Excerpt, excerpt_is_read_without_fault};
 use lfs_device::{BlockDevice, Error, Geometry, Ordered, RamDevice};
@@ -42,7 +42,7 @@ fn geometry_of(len: usize, block_size: u32, page: u32) -> Result<Geometry, Error
 pub(crate) fn device_of(image: Vec<u8>, block_size: u32, page: u32) -> Result<RamDevice, Error>
     requires { length image.items < 2 ^ 32 }
     ensures image { OnOk result (IsImage block_size page image.items) }
-    ensures disk { IfOk result (λ d. (order : NameOrder) → ordered order (shown (geometry_of d) (blocks_of d)) ≡ disk_of block_size page order image.items) }
+    ensures disk { IfOk result (λ d. (order : NameOrder) → ordered order (shown (geometry_of d) (ram_blocks d)) ≡ disk_of block_size page order image.items) }
     ensures no_call { IfOk result (λ d. history_of d ≡ []) }
     ensures err { IfErr result (λ e. (e ≡ Error.Invalid) × (¬ IsImage block_size page image.items)) }
 {
@@ -71,7 +71,7 @@ pub(crate) fn items_on<D: BlockDevice>(
     alloc: Global,
     device: D,
 ) -> Result<(Thread<Ordered<D>>, Vec<TreeItem>), (D, Error)>
-    ensures items { IfOk result (λ found. HasItems (disk_on D.BlockDevice device) found.0 (founds_seen found.1.items)) }
+    ensures items { IfOk result (λ found. HasItems (disk_on D.BlockDevice device) found.0 (founds_view found.1.items)) }
     ensures corrupt { IfErr result (λ e. e.1 ≡ Error.Corrupt → (order : NameOrder) (ps : List Pair) → ¬ IsAccepted (ordered order (disk_on D.BlockDevice device)) ps) }
     ensures errors { IfErr result (λ e. IsMountError e.1) }
     ensures back { IfErr result (λ e. GivesDeviceBack D.BlockDevice device e.0 e.1) }
@@ -88,8 +88,8 @@ pub(crate) fn items_of_excerpt(
     alloc: Global,
     device: Excerpt,
 ) -> Result<(Thread<Ordered<Excerpt>>, Vec<TreeItem>), Error>
-    ensures items { IfOk result (λ found. HasItems (shown (excerpt.geometry_of device) (excerpt.blocks_of device)) found.0 (founds_seen found.1.items)) }
-    ensures err { IfErr result (IsNotMounted (shown (excerpt.geometry_of device) (excerpt.blocks_of device))) }
+    ensures items { IfOk result (λ found. HasItems (shown (excerpt.geometry_of device) (excerpt.excerpt_blocks device)) found.0 (founds_view found.1.items)) }
+    ensures err { IfErr result (IsNotMounted (shown (excerpt.geometry_of device) (excerpt.excerpt_blocks device))) }
 {
     match items_on(alloc, device) {
         Ok(found) => Ok(found),
@@ -105,8 +105,8 @@ pub(crate) fn items_in_memory(
     alloc: Global,
     device: RamDevice,
 ) -> Result<(Thread<Ordered<RamDevice>>, Vec<TreeItem>), Error>
-    ensures items { IfOk result (λ found. HasItems (shown (geometry_of device) (blocks_of device)) found.0 (founds_seen found.1.items)) }
-    ensures err { IfErr result (IsNotMounted (shown (geometry_of device) (blocks_of device))) }
+    ensures items { IfOk result (λ found. HasItems (shown (geometry_of device) (ram_blocks device)) found.0 (founds_view found.1.items)) }
+    ensures err { IfErr result (IsNotMounted (shown (geometry_of device) (ram_blocks device))) }
 {
     match items_on(alloc, device) {
         Ok(found) => Ok(found),

@@ -7,7 +7,7 @@ ghost use Rattle.lfs_model.specs.Content.{RawContent, complete, holder, holder_a
 ghost use Rattle.lfs_model.specs.Disk.{Disk};
 ghost use Rattle.lfs_model.specs.LoggedContent.{HaveParts};
 ghost use Rattle.lfs_model.specs.Slots.{address_of};
-ghost use Rattle.lfs_tag.specs.ContentSeen.{content_seen, slot_seen};
+ghost use Rattle.lfs_tag.specs.ContentView.{content_view, slot_view};
 ghost use Rattle.lfs_tool.specs.Device.{Looks};
 ghost use Rattle.lfs_tool.specs.Found.{IsUnread};
 ghost use Rattle.lfs_tool.specs.Leading.{IsNamed};
@@ -54,8 +54,8 @@ fn lacking(
     slot: usize,
 ) -> Result<Finding, AllocError>
     requires below { slot < length slots.now }
-    requires incomplete { complete (slot_of_id (map slot_seen slots.now) slot) ≡ None }
-    ensures { IfOk result (λ f. (disk : Disk) (c : RawContent) → raw_at disk (address_of pair) ≡ Some c → c.slots ≡ map slot_seen slots.now
+    requires incomplete { complete (slot_of_id (map slot_view slots.now) slot) ≡ None }
+    ensures { IfOk result (λ f. (disk : Disk) (c : RawContent) → raw_at disk (address_of pair) ≡ Some c → c.slots ≡ map slot_view slots.now
         → IsNamed disk (address_of pair) → IsUnread disk f) }
 {
     match slots[slot].name {
@@ -69,8 +69,8 @@ fn lacking(
 
 // The pair at an address that has that content.
 fn hold_content(alloc: Global, at: [u32; 2], content: &Content<'_>) -> Result<Read, AllocError>
-    requires { HaveParts (content_seen content.now).slots }
-    ensures { IfOk result (λ read. (disk : Disk) → raw_at disk (address_of at) ≡ Some (content_seen content.now) → IsRead disk (address_of at) read) }
+    requires { HaveParts (content_view content.now).slots }
+    ensures { IfOk result (λ read. (disk : Disk) → raw_at disk (address_of at) ≡ Some (content_view content.now) → IsRead disk (address_of at) read) }
 {
     if let Some(slot) = first_incomplete(&content.slots) {
         let finding = lacking(alloc, at, &content.slots, slot)?;
@@ -81,7 +81,7 @@ fn hold_content(alloc: Global, at: [u32; 2], content: &Content<'_>) -> Result<Re
         at,
         slots,
         tail: content.tail,
-        share: content.move_state,
+        delta: content.move_state,
     }))
 }
 

@@ -3,14 +3,14 @@
 ghost use Rattle.std.specs.Prelude.{◌≡◌, ◌<◌, ◌+◌, ◌^◌, ◌&&◌, if◌then◌else◌, length, map};
 ghost use Rattle.lfs_model.specs.Slots.{is_superblock};
 ghost use Rattle.lfs_model.specs.Thread.{is_bare, is_hard, leads_on, starts_with_superblock, superblock_or, superblocks_before};
-ghost use Rattle.lfs_tool.specs.HeldSeen.{held_seen, pair_seen, pairs_seen};
+ghost use Rattle.lfs_tool.specs.HeldView.{held_view, pair_view, pairs_view};
 
 use crate::held::{HeldPair, HeldSlot, Kind};
 use lfs_tag::is_hard;
 
 // Whether a slot is a superblock's.
 pub(crate) fn is_superblock(slot: &HeldSlot) -> bool
-    ensures { result ≡ is_superblock (held_seen slot.now) }
+    ensures { result ≡ is_superblock (held_view slot.now) }
 {
     match slot.kind {
         Kind::Superblock => true,
@@ -21,7 +21,7 @@ pub(crate) fn is_superblock(slot: &HeldSlot) -> bool
 
 // Whether slot 0 is one.
 pub(crate) fn starts_with_superblock(slots: &[HeldSlot]) -> bool
-    ensures { result ≡ starts_with_superblock (map held_seen slots.now) }
+    ensures { result ≡ starts_with_superblock (map held_view slots.now) }
 {
     match slots {
         [] => false,
@@ -31,7 +31,7 @@ pub(crate) fn starts_with_superblock(slots: &[HeldSlot]) -> bool
 
 // Whether slot 0 is one, or there is no slot and that holds.
 fn superblock_or(slots: &[HeldSlot], later: bool) -> bool
-    ensures { result ≡ superblock_or (map held_seen slots.now) later }
+    ensures { result ≡ superblock_or (map held_view slots.now) later }
 {
     match slots {
         [] => later,
@@ -41,7 +41,7 @@ fn superblock_or(slots: &[HeldSlot], later: bool) -> bool
 
 // Whether there is no slot, or a superblock alone.
 fn is_bare(slots: &[HeldSlot]) -> bool
-    ensures { result ≡ is_bare (map held_seen slots.now) }
+    ensures { result ≡ is_bare (map held_view slots.now) }
 {
     match slots {
         [] => true,
@@ -52,7 +52,7 @@ fn is_bare(slots: &[HeldSlot]) -> bool
 
 // Whether the superblock's chain may go on behind the pair.
 fn leads_on(pair: &HeldPair) -> bool
-    ensures { result ≡ leads_on (pair_seen pair.now) }
+    ensures { result ≡ leads_on (pair_view pair.now) }
 {
     is_bare(&pair.slots) && is_hard(pair.tail)
 }
@@ -61,7 +61,7 @@ fn leads_on(pair: &HeldPair) -> bool
 // do. Whether these meet a superblock, is `meets`.
 fn with_pair(pair: &HeldPair, meets: bool, behind: usize) -> usize
     requires { behind < 2 ^ 63 }
-    ensures { result ≡ (if meets && leads_on (pair_seen pair.now) then 1 + behind else 0) }
+    ensures { result ≡ (if meets && leads_on (pair_view pair.now) then 1 + behind else 0) }
 {
     if meets && leads_on(pair) {
         1 + behind
@@ -72,7 +72,7 @@ fn with_pair(pair: &HeldPair, meets: bool, behind: usize) -> usize
 
 // Whether a pair and those behind it meet a superblock, where these alone do or don't.
 fn meets_with(pair: &HeldPair, meets: bool) -> bool
-    ensures { result ≡ superblock_or (pair_seen pair.now).content.slots (is_hard (pair_seen pair.now).content.tail && meets) }
+    ensures { result ≡ superblock_or (pair_view pair.now).content.slots (is_hard (pair_view pair.now).content.tail && meets) }
 {
     superblock_or(&pair.slots, is_hard(pair.tail) && meets)
 }
@@ -81,7 +81,7 @@ fn meets_with(pair: &HeldPair, meets: bool) -> bool
 // its last pair (SPEC.md of littlefs, "0x0ff LFS_TYPE_SUPERBLOCK").
 pub(crate) fn root_of(pairs: &[HeldPair]) -> usize
     requires { 0 < length pairs.now }
-    ensures count { result ≡ superblocks_before (pairs_seen pairs.now) }
+    ensures count { result ≡ superblocks_before (pairs_view pairs.now) }
     ensures below { result < length pairs.now }
 {
     let mut root = 0;

@@ -5,7 +5,7 @@ ghost use Rattle.lfs_tool_line.specs.Matches.{IsLineOf, is_checked, is_listed, r
 ghost use Rattle.lfs_tool.specs.Answered.{HasLine, IsAnswered, IsFaultIn, IsShown};
 ghost use Rattle.lfs_tool.specs.Placed.{By, ChecksAt, EndsWell, FailsAt, FailsToRead, ListsAt, MakesAt, RefusesAt, RefusesToMake, UnpacksAt};
 
-use crate::carrying_out::carry_out;
+use crate::modes::carry_out;
 use crate::{Fault, LineError, Places, ToolError, Writer, read_line, report};
 use lfs_device::Error;
 use std::alloc::Global;

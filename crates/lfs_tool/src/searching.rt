@@ -6,7 +6,7 @@ ghost use Rattle.lfs_model.specs.Disk.{Disk};
 ghost use Rattle.lfs_tool.specs.Broken.{IsBroken};
 ghost use Rattle.lfs_tool.specs.Device.{HasSizes, Looks};
 ghost use Rattle.lfs_tool.specs.Found.{IsFound};
-ghost use Rattle.lfs_tool.specs.HeldSeen.{pairs_seen};
+ghost use Rattle.lfs_tool.specs.HeldView.{pairs_view};
 ghost use Rattle.lfs_tool.specs.Reading.{IsFollowed};
 
 use crate::finding::Finding;
@@ -24,7 +24,7 @@ fn pairs_fault(
     geometry: &Geometry,
     pairs: &[HeldPair],
 ) -> Result<Option<Finding>, AllocError>
-    ensures { IfOk result (λ found. IfSome found (λ f. (disk : Disk) → HasSizes disk geometry.now → IsBroken disk (pairs_seen pairs.now) f)) }
+    ensures { IfOk result (λ found. IfSome found (λ f. (disk : Disk) → HasSizes disk geometry.now → IsBroken disk (pairs_view pairs.now) f)) }
 {
     if pairs.is_empty() {
         return Ok(None);

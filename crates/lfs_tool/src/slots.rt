@@ -7,7 +7,7 @@ ghost use Rattle.lfs_model.specs.Thread.{Pair, superblocks_before};
 ghost use Rattle.lfs_model.specs.View.{Suits};
 ghost use Rattle.lfs_tool.specs.Broken.{HasAt, IsBroken, IsEntrySlot};
 ghost use Rattle.lfs_tool.specs.Entries.{HasFault};
-ghost use Rattle.lfs_tool.specs.HeldSeen.{held_seen, pair_seen, pairs_seen};
+ghost use Rattle.lfs_tool.specs.HeldView.{held_view, pair_view, pairs_view};
 
 use crate::finding::{Finding, Place};
 use crate::held::{HeldPair, HeldSlot, Kind, Struct};
@@ -25,7 +25,7 @@ pub(crate) enum EntryFault {
 
 // Whether a slot's kind and its struct go together.
 fn suits(slot: &HeldSlot) -> bool
-    ensures { IsTrue result ↔ Suits (held_seen slot.now).kind (held_seen slot.now).struct }
+    ensures { IsTrue result ↔ Suits (held_view slot.now).kind (held_view slot.now).struct }
 {
     match (slot.kind, &slot.structure) {
         (Kind::File, Struct::Inline(_)) => true,
@@ -37,7 +37,7 @@ fn suits(slot: &HeldSlot) -> bool
 
 // What is wrong with a slot that has to be an entry.
 fn fault_of(slot: &HeldSlot) -> Option<EntryFault>
-    ensures { IfSome result (HasFault (held_seen slot.now)) }
+    ensures { IfSome result (HasFault (held_view slot.now)) }
 {
     if is_superblock(slot) {
         return Some(EntryFault::IsSuperblock);
@@ -58,7 +58,7 @@ fn place_of(
     slot: usize,
     held: &HeldSlot,
 ) -> Result<Place, AllocError>
-    ensures { IfOk result (λ place. (place.pair ≡ pair) × (place.slot ≡ slot) × (place.name.items ≡ (held_seen held.now).name)) }
+    ensures { IfOk result (λ place. (place.pair ≡ pair) × (place.slot ≡ slot) × (place.name.items ≡ (held_view held.now).name)) }
 {
     let name = Vec::from_slice(alloc, &held.name)?;
     Ok(Place { pair, slot, name })
@@ -82,7 +82,7 @@ fn slot_fault(
     id: usize,
     slot: &HeldSlot,
 ) -> Result<Option<Finding>, AllocError>
-    ensures { IfOk result (λ found. IfSome found (λ f. (disk : Disk) (ps : List Pair) → IsEntrySlot ps (address_of pair) id (held_seen slot.now) → IsBroken disk ps f)) }
+    ensures { IfOk result (λ found. IfSome found (λ f. (disk : Disk) (ps : List Pair) → IsEntrySlot ps (address_of pair) id (held_view slot.now) → IsBroken disk ps f)) }
 {
     let Some(fault) = fault_of(slot) else {
         return Ok(None);
@@ -93,7 +93,7 @@ fn slot_fault(
 
 // What is wrong with the slots of a pair from a number on, which have to be entries.
 fn pair_fault(alloc: Global, pair: &HeldPair, from: usize) -> Result<Option<Finding>, AllocError>
-    ensures { IfOk result (λ found. IfSome found (λ f. (disk : Disk) (ps : List Pair) (index : ℕ) → slice_get ps index ≡ Some (pair_seen pair.now) → (superblocks_before ps < index) ⊎ (0 < from) → IsBroken disk ps f)) }
+    ensures { IfOk result (λ found. IfSome found (λ f. (disk : Disk) (ps : List Pair) (index : ℕ) → slice_get ps index ≡ Some (pair_view pair.now) → (superblocks_before ps < index) ⊎ (0 < from) → IsBroken disk ps f)) }
 {
     for id in from..pair.slots.len() {
         if let Some(finding) = slot_fault(alloc, pair.at, id, &pair.slots[id])? {
@@ -118,8 +118,8 @@ pub(crate) fn slots_fault(
     pairs: &[HeldPair],
     root: usize,
 ) -> Result<Option<Finding>, AllocError>
-    requires { root ≡ superblocks_before (pairs_seen pairs.now) }
-    ensures { IfOk result (λ found. IfSome found (λ f. (disk : Disk) → IsBroken disk (pairs_seen pairs.now) f)) }
+    requires { root ≡ superblocks_before (pairs_view pairs.now) }
+    ensures { IfOk result (λ found. IfSome found (λ f. (disk : Disk) → IsBroken disk (pairs_view pairs.now) f)) }
 {
     for index in 0..pairs.len() {
         let from = first_entry(root, index);

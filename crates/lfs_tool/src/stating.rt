@@ -1,7 +1,7 @@
 // What a superblock says of an image, by its place in the bytes alone.
 
 ghost use Rattle.std.specs.Prelude.{◌≡◌, ◌⊎◌, ◌<◌, ◌/◌, ◌^◌, IfSome, length};
-ghost use Rattle.lfs_tag.specs.FieldsSeen.{superblock_seen};
+ghost use Rattle.lfs_tag.specs.FieldsView.{superblock_view};
 ghost use Rattle.lfs_tool.specs.Stated.{IsStatedIn, IsUnlike, StandsAt};
 
 use crate::finding::Stated;
@@ -9,7 +9,7 @@ use lfs_tag::{Superblock, superblock_of};
 
 // What these fields say that isn't so of blocks of that size, so many of them.
 pub(crate) fn unlike(block_size: u32, count: usize, fields: &Superblock) -> Option<Stated>
-    ensures { IfSome result (IsUnlike block_size count (superblock_seen fields.now)) }
+    ensures { IfSome result (IsUnlike block_size count (superblock_view fields.now)) }
 {
     if fields.block_size != block_size {
         return Some(Stated::BlockSize(fields.block_size));
@@ -26,7 +26,7 @@ pub(crate) fn unlike(block_size: u32, count: usize, fields: &Superblock) -> Opti
 // The fields of the superblock with which a block begins that begins there.
 fn fields_at(bytes: &[u8], from: usize) -> Option<Superblock>
     requires { from < 2 ^ 32 }
-    ensures { IfSome result (λ fields. StandsAt bytes.now from (superblock_seen fields)) }
+    ensures { IfSome result (λ fields. StandsAt bytes.now from (superblock_view fields)) }
 {
     if bytes.len() < from + 44 || &bytes[from + 8..from + 16] != Superblock::NAME {
         return None;

@@ -1,17 +1,17 @@
 // Images that are unpacked.
 
 ghost use Rattle.std.specs.Prelude.{◌≡◌, ◌≢◌, ◌⊎◌, ◌<◌, ◌^◌, IfErr, IfOk, IfSome, IsErrOf, OnErr, OnOk, false, length};
-ghost use Rattle.lfs_device.specs.RamDevice.{blocks_of, geometry_of};
+ghost use Rattle.lfs_device.specs.RamDevice.{ram_blocks, geometry_of};
 ghost use Rattle.lfs_device.specs.Shown.{disk_of as shown};
 ghost use Rattle.lfs_model.specs.View.{IsListIfCtz};
 ghost use Rattle.lfs_tool_folders.specs.Actions.{Adds};
 ghost use Rattle.lfs_tool.specs.Listed.{Refuses};
-ghost use Rattle.lfs_tool.specs.Unpacked.{AreLists, FailsToUnpack, FailsToUnpackImage, HasBegun, HasDone, IsBegunOfImage, IsDoneOf, IsDoneOfImage, TellsTarget, action_at, actions_at};
+ghost use Rattle.lfs_tool.specs.Unpacked.{AreLists, FailsToUnpack, FailsToUnpackImage, HasBegun, HasDone, IsBegunOfImage, IsDoneOf, IsDoneOfImage, ReportsTarget, action_at, actions_at};
 ghost use Rattle.lfs_thread.specs.Steps.{IsOnlyRead};
 ghost use Rattle.lfs_lookup.specs.FileBytes.{bytes_shown};
-ghost use Rattle.lfs_lookup.specs.Items.{structure_seen};
-ghost use Rattle.lfs_lookup.specs.Walk.{found_seen, founds_seen};
-ghost use Rattle.lfs_tool.specs.Told.{IsReadToEnd, Tells};
+ghost use Rattle.lfs_lookup.specs.Items.{structure_view};
+ghost use Rattle.lfs_lookup.specs.Walk.{found_view, founds_view};
+ghost use Rattle.lfs_tool.specs.Reported.{IsReadToEnd, ReportsOnce};
 
 use crate::input::read_image;
 use crate::opening::{device_of, items_in_memory};
@@ -29,8 +29,8 @@ fn file_bytes(
     structure: &Structure,
 ) -> Result<Vec<u8>, ToolError>
     requires works { thread.old.failed ≡ false }
-    requires list { IsListIfCtz thread.old.kept.disk (structure_seen structure.now) }
-    ensures bytes { IfOk result (λ bytes. bytes.items ≡ bytes_shown thread.old.kept.disk (structure_seen structure.now)) }
+    requires list { IsListIfCtz thread.old.kept.disk (structure_view structure.now) }
+    ensures bytes { IfOk result (λ bytes. bytes.items ≡ bytes_shown thread.old.kept.disk (structure_view structure.now)) }
     ensures only { IsOnlyRead thread.old.kept thread.new.kept }
     ensures works { thread.new.failed ≡ false }
     ensures err { IfErr result (λ e. e ≡ ToolError.Fs Error.NoMemory) }
@@ -63,11 +63,11 @@ fn put_item<T: Target>(
     target: &mut T,
 ) -> Result<(), ToolError>
     requires works { thread.old.failed ≡ false }
-    requires list { IsListIfCtz thread.old.kept.disk (structure_seen item.now.structure) }
-    ensures done { OnOk result (Adds (T.done target.old) (T.done target.new) (action_at thread.old.kept.disk (found_seen item.now))) }
+    requires list { IsListIfCtz thread.old.kept.disk (structure_view item.now.structure) }
+    ensures done { OnOk result (Adds (T.done target.old) (T.done target.new) (action_at thread.old.kept.disk (found_view item.now))) }
     ensures undone { OnErr result (T.done target.new ≡ T.done target.old) }
     ensures only { (IsOnlyRead thread.old.kept thread.new.kept) × (thread.new.failed ≡ false) }
-    ensures tells { TellsTarget (T.faults target.old) (T.faults target.new) result }
+    ensures reports { ReportsTarget (T.faults target.old) (T.faults target.new) result }
 {
     let result = match &item.structure {
         Structure::Branch(_) => target.make_folder(alloc, &item.path),
@@ -90,10 +90,10 @@ fn put_items<T: Target>(
     target: &mut T,
 ) -> Result<(), ToolError>
     requires works { thread.old.failed ≡ false }
-    requires lists { AreLists thread.old.kept.disk (founds_seen items.now) }
-    ensures done { OnOk result (HasDone (T.done target.old) (T.done target.new) (actions_at thread.old.kept.disk (founds_seen items.now))) }
-    ensures begun { OnErr result (HasBegun (T.done target.old) (T.done target.new) (actions_at thread.old.kept.disk (founds_seen items.now))) }
-    ensures tells { TellsTarget (T.faults target.old) (T.faults target.new) result }
+    requires lists { AreLists thread.old.kept.disk (founds_view items.now) }
+    ensures done { OnOk result (HasDone (T.done target.old) (T.done target.new) (actions_at thread.old.kept.disk (founds_view items.now))) }
+    ensures begun { OnErr result (HasBegun (T.done target.old) (T.done target.new) (actions_at thread.old.kept.disk (founds_view items.now))) }
+    ensures reports { ReportsTarget (T.faults target.old) (T.faults target.new) result }
 {
     for item in items {
         put_item(alloc, thread, item, target)?;
@@ -103,9 +103,9 @@ fn put_items<T: Target>(
 
 // Unpacks a device in memory.
 fn unpack_on<T: Target>(alloc: Global, device: RamDevice, target: &mut T) -> Result<(), ToolError>
-    ensures done { OnOk result (IsDoneOf (shown (geometry_of device) (blocks_of device)) (T.done target.old) (T.done target.new)) }
-    ensures failed { IfErr result (FailsToUnpack (shown (geometry_of device) (blocks_of device)) (T.done target.old) (T.done target.new)) }
-    ensures output { Tells ToolError.Output (T.faults target.old) (T.faults target.new) result }
+    ensures done { OnOk result (IsDoneOf (shown (geometry_of device) (ram_blocks device)) (T.done target.old) (T.done target.new)) }
+    ensures failed { IfErr result (FailsToUnpack (shown (geometry_of device) (ram_blocks device)) (T.done target.old) (T.done target.new)) }
+    ensures output { ReportsOnce ToolError.Output (T.faults target.old) (T.faults target.new) result }
 {
     match items_in_memory(alloc, device) {
         Ok((mut thread, items)) => put_items(alloc, &mut thread, &items, target),
@@ -124,7 +124,7 @@ fn unpack_image<T: Target>(
     requires { length image.items < 2 ^ 32 }
     ensures done { OnOk result (IsDoneOfImage block_size page image.items (T.done target.old) (T.done target.new)) }
     ensures failed { IfErr result (FailsToUnpackImage block_size page image.items (T.done target.old) (T.done target.new)) }
-    ensures output { Tells ToolError.Output (T.faults target.old) (T.faults target.new) result }
+    ensures output { ReportsOnce ToolError.Output (T.faults target.old) (T.faults target.new) result }
 {
     match device_of(image, block_size, page) {
         Ok(device) => unpack_on(alloc, device, target),
@@ -163,9 +163,9 @@ pub fn unpack<R: Reader, T: Target>(
 
     // When each error comes.
     ensures refused { (e : _) → IsErrOf result (ToolError.Fs e) → IfSome (R.remaining image.old) (λ bytes. Refuses block_size page bytes e) }
-    ensures input { Tells ToolError.Input (R.faults image.old) (R.faults image.new) result }
+    ensures input { ReportsOnce ToolError.Input (R.faults image.old) (R.faults image.new) result }
     ensures read { ¬ IsErrOf result ToolError.Input → ¬ IsErrOf result (ToolError.Fs Error.NoMemory) → IsReadToEnd (R.remaining image.old) (R.remaining image.new) }
-    ensures output { Tells ToolError.Output (T.faults target.old) (T.faults target.new) result }
+    ensures output { ReportsOnce ToolError.Output (T.faults target.old) (T.faults target.new) result }
 {
     let bytes = read_image(alloc, image)?;
     unpack_image(alloc, bytes, block_size, page, target)

@@ -10,7 +10,7 @@ use Rattle.lfs_model.specs.Source.{AreBad, Source, given_names, path_in}
 use Rattle.lfs_model.proofs.Counts.{Each, each_append, each_left, each_right}
 use Rattle.lfs_tool_folders.specs.Shown.{Rests, listed}
 use Rattle.lfs_tool_folders.specs.InMemory.{items_by}
-use Rattle.lfs_tool_folders.specs.Entries.{AreAll, AreInOrder, AreRead, AreWithin, HasBadNames, Holds, IsFolder, LeadsTo, Place, name_in, places_in}
+use Rattle.lfs_tool_folders.specs.Entries.{AreAll, AreInOrder, AreRead, AreWithin, HasBadNames, HoldsSource, IsFolder, LeadsTo, Place, name_in, places_in}
 use Rattle.lfs_tool_folders.specs.declared.source.Listed.{Listed}
 use Rattle.lfs_tool_folders.specs.declared.entries.Entry.{Entry}
 use Rattle.lfs_tool_folders.proofs.Order.{names_given}
@@ -31,8 +31,8 @@ along P (Some t) (Some u) x p = subst P x p
 pub within_along : (a b : Option Source) (folder : List ℕ) (within : List (Name × Bool)) → Rests a b → AreWithin b folder within → AreWithin a folder within
 within_along a b folder within x h = record { order = h.order; names = along (λ s. IsPermutation (s.names folder) within) a b x h.names }
 
-pub holds_along : (a b : Option Source) (path : List ℕ) (is_folder : Bool) (bytes : Option (List ℕ)) (within : List (Name × Bool)) → Rests a b → Holds b path is_folder bytes within
-    → Holds a path is_folder bytes within
+pub holds_along : (a b : Option Source) (path : List ℕ) (is_folder : Bool) (bytes : Option (List ℕ)) (within : List (Name × Bool)) → Rests a b → HoldsSource b path is_folder bytes within
+    → HoldsSource a path is_folder bytes within
 holds_along a b path false None within x h = absurd h
 holds_along a b path false (Some bytes) within x h = (along (λ s. bytes ≡ s.bytes path) a b x h.0, h.1)
 holds_along a b path true None within x h = within_along a b path within x h
@@ -70,7 +70,7 @@ pub begins : (known : Option Source) (top : List (Name × Bool)) (places : List 
 begins known top places w e = λ rest r. (top, (w, subst (λ ps. AreRead known ps rest) (ap reverse e ∙ reverse-reverse (places_in [] top)) r))
 
 pub goes_on : (known : Option Source) (front : List Place) (p : Place) (places : List Place) (es fs : List Entry) (e : Entry) (within : List (Name × Bool)) → Goes known (front ++ p ∷ []) es
-    → e.path.items ≡ p.0 → Holds known p.0 p.1 (items_by e.bytes) within → places ≡ front ++ reverse (places_in p.0 within) → fs ≡ es ++ e ∷ [] → Goes known places fs
+    → e.path.items ≡ p.0 → HoldsSource known p.0 p.1 (items_by e.bytes) within → places ≡ front ++ reverse (places_in p.0 within) → fs ≡ es ++ e ∷ [] → Goes known places fs
 goes_on known front p places es fs e within h path holds after more = λ rest r.
     let turned : reverse places ≡ places_in p.0 within ++ reverse front = ap reverse after ∙ reverse-append front (reverse (places_in p.0 within)) ∙ ap (λ ps. ps ++ reverse front) (reverse-reverse (places_in p.0 within)) in
     let here : AreRead known (p ∷ reverse front) (e ∷ rest) = (path, (within, (holds, subst (λ ps. AreRead known ps rest) turned r))) in
@@ -111,7 +111,7 @@ pub top_folders : (known : Option Source) (top : List (Name × Bool)) (places : 
 top_folders None top places w e = tt
 top_folders (Some s) top places w e = subst (Each (LeadsHere s)) (sym e) (inside s [] top ([], refl) w.names)
 
-within_folders : (s : Source) (p : Place) (is_folder : Bool) (bytes : Option (List ℕ)) (within : List (Name × Bool)) → p.1 ≡ is_folder → LeadsHere s p → Holds (Some s) p.0 is_folder bytes within
+within_folders : (s : Source) (p : Place) (is_folder : Bool) (bytes : Option (List ℕ)) (within : List (Name × Bool)) → p.1 ≡ is_folder → LeadsHere s p → HoldsSource (Some s) p.0 is_folder bytes within
     → Each (LeadsHere s) (reverse (places_in p.0 within))
 within_folders s p false None within is f h = absurd h
 within_folders s p false (Some bytes) within is f h = subst (λ gs. Each (LeadsHere s) (reverse (places_in p.0 gs))) (sym h.1) tt
@@ -119,7 +119,7 @@ within_folders s p true None within is f h = inside s p.0 within (f is) h.names
 within_folders s p true (Some bytes) within is f h = absurd h
 
 pub folders_on : (known : Option Source) (front : List Place) (p : Place) (places : List Place) (bytes : Option (List ℕ)) (within : List (Name × Bool)) → AreFolders known (front ++ p ∷ [])
-    → Holds known p.0 p.1 bytes within → places ≡ front ++ reverse (places_in p.0 within) → AreFolders known places
+    → HoldsSource known p.0 p.1 bytes within → places ≡ front ++ reverse (places_in p.0 within) → AreFolders known places
 folders_on None front p places bytes within h holds after = tt
 folders_on (Some s) front p places bytes within h holds after =
     let here = each_right (LeadsHere s) front (p ∷ []) h in

@@ -10,6 +10,6 @@ Adds None new a = Unit {0}
 Adds (Some done) None a = ⊥
 Adds (Some done) (Some now) a = now ≡ done ++ a ∷ []
 
-abbrev pub action_seen : Done → Action
-action_seen (variant.Folder path) = MakeDirectory path.items
-action_seen (variant.File path bytes) = PutFile path.items bytes.items
+abbrev pub action_view : Done → Action
+action_view (variant.Folder path) = MakeDirectory path.items
+action_view (variant.File path bytes) = PutFile path.items bytes.items

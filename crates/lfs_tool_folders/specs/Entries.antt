@@ -48,11 +48,11 @@ abbrev pub places_in : List ℕ → List (Name × Bool) → List Place
 places_in folder given = map (λ g. (path_in folder g.0, g.1)) given
 
 -- a file has its bytes, and nothing within; a folder has no bytes, and these names within
-abbrev pub Holds : Option Source → List ℕ → Bool → Option (List ℕ) → List (Name × Bool) → Type 0
-Holds known path false None within = ⊥
-Holds known path false (Some bytes) within = IfSome known (λ s. bytes ≡ s.bytes path) × (within ≡ [])
-Holds known path true None within = AreWithin known path within
-Holds known path true (Some bytes) within = ⊥
+abbrev pub HoldsSource : Option Source → List ℕ → Bool → Option (List ℕ) → List (Name × Bool) → Type 0
+HoldsSource known path false None within = ⊥
+HoldsSource known path false (Some bytes) within = IfSome known (λ s. bytes ≡ s.bytes path) × (within ≡ [])
+HoldsSource known path true None within = AreWithin known path within
+HoldsSource known path true (Some bytes) within = ⊥
 
 -- These entries are what stands at the places, in turn, and what stands beneath each: a folder comes before what
 -- stands beneath it, and that before the next place.
@@ -61,7 +61,7 @@ AreRead known [] [] = Unit {0}
 AreRead known [] (e ∷ es) = ⊥
 AreRead known (p ∷ ps) [] = ⊥
 AreRead known (p ∷ ps) (e ∷ es) =
-    (e.path.items ≡ p.0) × ((within : List (Name × Bool)) × (Holds known p.0 p.1 (items_by e.bytes) within × AreRead known (places_in p.0 within ++ ps) es))
+    (e.path.items ≡ p.0) × ((within : List (Name × Bool)) × (HoldsSource known p.0 p.1 (items_by e.bytes) within × AreRead known (places_in p.0 within ++ ps) es))
 
 -- all that the source has, depth first and in name order
 abbrev pub AreAll : Option Source → List Entry → Type 0

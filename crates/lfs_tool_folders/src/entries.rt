@@ -2,7 +2,7 @@ ghost use Rattle.std.specs.Prelude.{◌≡◌, ◌++◌, ◌∷◌, [], IfOk, If
 ghost use Rattle.lfs_model.specs.Source.{AreBad, given_names, path_in};
 ghost use Rattle.lfs_tool_folders.specs.Shown.{Rests, is_folder, listed};
 ghost use Rattle.lfs_tool_folders.specs.InMemory.{items_by};
-ghost use Rattle.lfs_tool_folders.specs.Entries.{AreAll, AreWithin, FailsOr, HasBadNames, Holds, place_of, places_in};
+ghost use Rattle.lfs_tool_folders.specs.Entries.{AreAll, AreWithin, FailsOr, HasBadNames, HoldsSource, place_of, places_in};
 
 use crate::names::{are_good, sort_names};
 use crate::{Kind, Listed, Source, SourceError};
@@ -109,7 +109,7 @@ fn read_one<S: Source>(
     one: &Waiting,
     waiting: &mut Vec<Waiting>,
 ) -> Result<Option<Vec<u8>>, SourceError>
-    ensures holds { IfOk result (λ bytes. (within : _) × (Holds (S.shown source.old) one.now.path.items (is_folder one.now.kind) (items_by bytes) within
+    ensures holds { IfOk result (λ bytes. (within : _) × (HoldsSource (S.shown source.old) one.now.path.items (is_folder one.now.kind) (items_by bytes) within
         × (map place_of waiting.new.items ≡ map place_of waiting.old.items ++ reverse (places_in one.now.path.items within)))) }
     ensures shown { Rests (S.shown source.old) (S.shown source.new) }
     ensures kept { OnOk result (S.faults source.new ≡ S.faults source.old) }

@@ -19,18 +19,18 @@ impl Tally {
     pub fn none() -> Tally
         ensures { result.count ≡ 0 }
     {
-        Tally::told_by(&(), &())
+        Tally::from_proof(&(), &())
     }
 
     /// One more is counted.
     pub fn one_more(&self) -> Tally
         ensures { result.count ≡ suc self.now.count }
     {
-        Tally::told_by(self, &())
+        Tally::from_proof(self, &())
     }
 
     // Any count, which the caller's proof picks from what is referred to.
-    fn told_by<S, T>(_before: &S, _counted: &T) -> Tally
+    fn from_proof<S, T>(_before: &S, _counted: &T) -> Tally
         ghost count: { ℕ }
         ensures { result.count ≡ count }
     {

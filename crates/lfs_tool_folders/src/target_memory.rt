@@ -1,5 +1,5 @@
 ghost use Rattle.std.specs.Prelude.{◌≡◌, IfOk, Some, map};
-ghost use Rattle.lfs_tool_folders.specs.Actions.{action_seen};
+ghost use Rattle.lfs_tool_folders.specs.Actions.{action_view};
 
 use crate::{Target, TargetError};
 use std::alloc::Global;
@@ -27,7 +27,7 @@ fn copied(alloc: Global, bytes: &[u8]) -> Result<Vec<u8>, TargetError>
 }
 
 impl Target for MemoryTarget {
-    ghost done = { λ t. Some (map action_seen t.done.items) };
+    ghost done = { λ t. Some (map action_view t.done.items) };
 
     ghost faults = { λ _. 0 };
 

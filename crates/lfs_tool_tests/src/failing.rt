@@ -110,7 +110,7 @@ fn read_badly(
 }
 
 #[test]
-fn failing_readers_are_told(rt: HostRuntime) -> Result<(), Fail> {
+fn failing_readers_are_reported(rt: HostRuntime) -> Result<(), Fail> {
     let block = shifting_block(rt.alloc())?;
     let image = image_of(rt.alloc(), block.as_slice(), &[])?;
     for (kind, is_failure) in KINDS {
@@ -120,9 +120,9 @@ fn failing_readers_are_told(rt: HostRuntime) -> Result<(), Fail> {
                 let told = read_badly(rt.alloc(), reader, is_unpacked, block_size)?;
                 let fails = is_failure && (1..=calls).contains(&fails_at);
                 let wanted = if fails { INPUT } else { text };
-                let is_told = told.as_slice() == wanted;
+                let is_reported = told.as_slice() == wanted;
                 assert!(rt;
-                    is_told,
+                    is_reported,
                     "{kind:?}, {is_unpacked}, {block_size}, {fails_at}"
                 );
             }
@@ -186,7 +186,7 @@ fn is_broken_off(text: &[u8], whole: &[u8], len: usize) -> bool {
 }
 
 #[test]
-fn failing_writers_are_told(rt: HostRuntime) -> Result<(), Fail> {
+fn failing_writers_are_reported(rt: HostRuntime) -> Result<(), Fail> {
     let block = shifting_block(rt.alloc())?;
     let image = image_of(rt.alloc(), block.as_slice(), &[])?;
     for (is_made, most, fails_at, taken) in WRITERS {
@@ -196,12 +196,12 @@ fn failing_writers_are_told(rt: HostRuntime) -> Result<(), Fail> {
         for (kind, is_failure) in KINDS {
             let writer = failing_at(rt.alloc(), &[], most, fails_at, kind);
             let text = write_badly(rt.alloc(), image.as_slice(), is_made, writer)?;
-            let is_told = if is_failure {
+            let is_reported = if is_failure {
                 is_broken_off(text.as_slice(), whole.as_slice(), taken)
             } else {
                 text.as_slice() == whole.as_slice()
             };
-            assert!(rt; is_told, "{kind:?}, {is_made}, {most}, {fails_at}");
+            assert!(rt; is_reported, "{kind:?}, {is_made}, {most}, {fails_at}");
         }
     }
     Ok(())

@@ -213,11 +213,11 @@ fn is_shown(
 #[test]
 fn faults_of_lines_are_shown(rt: HostRuntime) -> Result<(), Fail> {
     for (words, status, out, err) in REFUSED {
-        let is_told = match read_line(rt.alloc(), words) {
+        let is_reported = match read_line(rt.alloc(), words) {
             Ok(_) => false,
             Err(error) => is_shown(rt.alloc(), &Fault::Line(error), status, out, err)?,
         };
-        assert!(rt; is_told, "{words:?}");
+        assert!(rt; is_reported, "{words:?}");
     }
     Ok(())
 }
@@ -261,8 +261,8 @@ fn errors_are_shown(rt: HostRuntime) -> Result<(), Fail> {
     let not_utf8 = Fault::Line(LineError::NotUtf8);
     assert!(rt; is_shown(rt.alloc(), &not_utf8, 2, "", Some(NOT_UTF8))?);
     for (error, status, line) in ERRORS {
-        let is_told = is_shown(rt.alloc(), &Fault::Tool(error), status, "", Some(line))?;
-        assert!(rt; is_told, "{line}");
+        let is_reported = is_shown(rt.alloc(), &Fault::Tool(error), status, "", Some(line))?;
+        assert!(rt; is_reported, "{line}");
     }
     Ok(())
 }

@@ -13,14 +13,14 @@ use Rattle.lfs_model.specs.PowerLoss.{Survives}
 use Rattle.lfs_model.specs.Tree.{Tree}
 use Rattle.lfs_model.specs.Shown.{tree_in}
 use Rattle.lfs_thread.specs.Kept.{State}
-use Rattle.lfs_tree.specs.Carrying.{Carries, Spares}
-use Rattle.lfs_tree.specs.Held.{IsHeld, IsRooted, seen_kept, seen_thread}
+use Rattle.lfs_tree.specs.Carrying.{AppliesOn, Spares}
+use Rattle.lfs_tree.specs.Held.{IsHeld, IsRooted, tree_state_of, seen_thread}
 use Rattle.lfs_lookup.specs.Reading.{IsReading}
-use Rattle.lfs_tree.specs.Seen.{Seen, bare, IsAsked, IsAsking, IsBrokenAsking, IsCarried, IsError, tree_seen, LeavesRest}
+use Rattle.lfs_tree.specs.TreeState.{TreeState, bare, IsAsked, IsAsking, IsBrokenAsking, IsAppliedOn, IsError, tree_view, LeavesRest}
 use Rattle.lfs_tree.proofs.Mounting.{sound_read}
 use Rattle.lfs_lookup.proofs.Reading.{same_error}
 
-abbrev see : Disk → List Event → List Pair → BlockSets → Bool → Bool → CachedBlocks → Seen
+abbrev see : Disk → List Event → List Pair → BlockSets → Bool → Bool → CachedBlocks → TreeState
 see disk history pairs map writable failed cache = record { disk = disk; history = history; pairs = pairs; map = map; writable = writable; failed = failed; cache = cache }
 
 -- a thread that was read, as it is behind the answer
@@ -37,25 +37,25 @@ module _ {X : Type 0} (a b : State) (root : ℕ) (writable : Bool) (h : IsRooted
         ∙ ap (λ z. see a.kept.disk b.kept.history a.kept.pairs a.kept.map writable z b.cache) (k.works ∙ sym h.works);
     failed = λ e. absurd (let z = sym h.works ∙ e in cc);
     reads = k.only.reads;
-    no_fault = k.told.no_fault (λ e. absurd (cc));
+    no_fault = k.reported.no_fault (λ e. absurd (cc));
   }
 
   broken : (r : Result X Error) → IsReading a b r → OnErr r (IsBrokenAsking (seen_thread a writable) (seen_thread (behind b r) writable))
   broken (Ok x) k = tt
   broken (Err e) k = record { failed = refl; disk = k.only.disk; reads = k.only.reads }
 
-  told : (r : Result X Error) → IsReading a b r → IfErr r (IsError (seen_thread a writable) (seen_thread (behind b r) writable))
-  told (Ok x) k = tt
-  told (Err e) k = record {
-    errors = k.told.errors;
-    fault = λ io. k.told.fault (ap Err io);
-    no_fault = λ other. k.told.no_fault (λ z. other (same_error X e Io z));
+  reported : (r : Result X Error) → IsReading a b r → IfErr r (IsError (seen_thread a writable) (seen_thread (behind b r) writable))
+  reported (Ok x) k = tt
+  reported (Err e) k = record {
+    errors = k.reported.errors;
+    fault = λ io. k.reported.fault (ap Err io);
+    no_fault = λ other. k.reported.no_fault (λ z. other (same_error X e Io z));
   }
 
-  pub asking : (now : Seen) (r : Result X Error) (c : State) → seen_thread a writable ≡ now → c ≡ behind b r → IsReading a b r → IsAsking now r (seen_thread c writable)
+  pub asking : (now : TreeState) (r : Result X Error) (c : State) → seen_thread a writable ≡ now → c ≡ behind b r → IsReading a b r → IsAsking now r (seen_thread c writable)
   asking now r c view is k =
-      subst (λ (s : Seen). IsAsking s r (seen_thread c writable)) view
-      (subst (λ (t : State). IsAsking (seen_thread a writable) r (seen_thread t writable)) (sym is) (record { asked = asked r k; broken = broken r k; errors = told r k }))
+      subst (λ (s : TreeState). IsAsking s r (seen_thread c writable)) view
+      (subst (λ (t : State). IsAsking (seen_thread a writable) r (seen_thread t writable)) (sym is) (record { asked = asked r k; broken = broken r k; errors = reported r k }))
 
   -- it stays what it is
   pub rooted : (r : Result X Error) → IsReading a b r → IsRooted b root writable
@@ -71,28 +71,28 @@ module _ {X : Type 0} (a b : State) (root : ℕ) (writable : Bool) (h : IsRooted
 
 -- ---- what is seen of a thread
 
-module _ (thread : State) (root : ℕ) (writable : Bool) (now : Seen) (kept : IsHeld thread root writable) (view : seen_thread thread writable ≡ now) where
+module _ (thread : State) (root : ℕ) (writable : Bool) (now : TreeState) (kept : IsHeld thread root writable) (view : seen_thread thread writable ≡ now) where
   pub works_held : now.failed ≡ false → thread.failed ≡ false
-  works_held e = ap (λ (s : Seen). s.failed) view ∙ e
+  works_held e = ap (λ (s : TreeState). s.failed) view ∙ e
 
   pub rooted_held : now.failed ≡ false → IsRooted thread root writable
   rooted_held e = kept (works_held e)
 
   -- what works and may be written, is seen so
-  pub seen_working : now.failed ≡ false → now.writable ≡ true → bare now ≡ seen_kept thread.kept true false
-  seen_working e w = ap bare (sym view) ∙ ap₂ (λ a b. seen_kept thread.kept a b) (ap (λ (s : Seen). s.writable) view ∙ w) (works_held e)
+  pub seen_working : now.failed ≡ false → now.writable ≡ true → bare now ≡ tree_state_of thread.kept true false
+  seen_working e w = ap bare (sym view) ∙ ap₂ (λ a b. tree_state_of thread.kept a b) (ap (λ (s : TreeState). s.writable) view ∙ w) (works_held e)
 
   -- an operation of the thread is one of what is seen
-  pub carried_working : now.failed ≡ false → now.writable ≡ true → (new : State) (op : Operation) → new.failed ≡ false → Carries thread.kept op new.kept → IsCarried now op (seen_thread new writable)
+  pub carried_working : now.failed ≡ false → now.writable ≡ true → (new : State) (op : Operation) → new.failed ≡ false → AppliesOn thread.kept op new.kept → IsAppliedOn now op (seen_thread new writable)
   carried_working e w new op works c =
-      subst (λ a. IsCarried now op (seen_kept new.kept a new.failed)) (sym (ap (λ (s : Seen). s.writable) view ∙ w))
-      (subst (λ b. IsCarried now op (seen_kept new.kept true b)) (sym works)
-      (subst (λ s. IsCarried s op (seen_kept new.kept true false)) (sym (seen_working e w)) c))
+      subst (λ a. IsAppliedOn now op (tree_state_of new.kept a new.failed)) (sym (ap (λ (s : TreeState). s.writable) view ∙ w))
+      (subst (λ b. IsAppliedOn now op (tree_state_of new.kept true b)) (sym works)
+      (subst (λ s. IsAppliedOn s op (tree_state_of new.kept true false)) (sym (seen_working e w)) c))
 
   pub spares_working : now.failed ≡ false → now.writable ≡ true → (new : State) (op : Operation) → Spares thread.kept op new.kept → LeavesRest now op (seen_thread new writable)
   spares_working e w new op c = subst (λ s. LeavesRest s op (seen_thread new writable)) (sym (seen_working e w)) c
 
   -- and so is what a loss of power on its way leaves
   pub survives_working : now.failed ≡ false → now.writable ≡ true → (new : List Event) (f : Tree → Tree) → Survives thread.kept.disk thread.kept.history new (tree_in thread.kept.disk thread.kept.pairs) (f (tree_in thread.kept.disk thread.kept.pairs)) →
-      Survives now.disk now.history new (tree_seen now) (f (tree_seen now))
-  survives_working e w new f k = subst (λ s. Survives s.disk s.history new (tree_seen s) (f (tree_seen s))) (sym (seen_working e w)) k
+      Survives now.disk now.history new (tree_view now) (f (tree_view now))
+  survives_working e w new f k = subst (λ s. Survives s.disk s.history new (tree_view s) (f (tree_view s))) (sym (seen_working e w)) k

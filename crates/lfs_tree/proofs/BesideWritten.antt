@@ -17,16 +17,16 @@ use Rattle.lfs_model.specs.Profile.{IsWritable}
 use Rattle.lfs_model.specs.Shown.{tree_in, used_blocks}
 use Rattle.lfs_model.specs.Blocks.{Blocks}
 use Rattle.lfs_model.specs.Cache.{CachedBlocks}
-use Rattle.lfs_model.specs.PowerLoss.{IsLeft, Survives, with_blocks}
+use Rattle.lfs_model.specs.PowerLoss.{IsLeftByStop, Survives, with_blocks}
 use Rattle.lfs_model.proofs.Changes.{Follows}
 use Rattle.lfs_model.proofs.Histories.{LeavesOnly-weaker, LeavesOnly-worst}
 use Rattle.lfs_writer.specs.Hand.{SparesUsed}
 use Rattle.lfs_model.proofs.Files.{HasSameFile, file_blocks_same}
-use Rattle.lfs_writer.specs.Standing.{CanTruncate, CanWrite, Holds, LeavesPairsAndUsed, TellsWork, held_in}
+use Rattle.lfs_writer.specs.Standing.{CanTruncate, CanWrite, HoldsContents, LeavesPairsAndUsed, ReportsWork, held_in}
 use Rattle.lfs_thread.specs.Kept.{Kept, State}
-use Rattle.lfs_tree.specs.Held.{IsHeld, IsRooted, seen_kept, seen_thread}
+use Rattle.lfs_tree.specs.Held.{IsHeld, IsRooted, tree_state_of, seen_thread}
 use Rattle.lfs_tree.specs.OpenContents.{CanTruncateBeside, CanWriteBeside, IsOverFile, IsWriting, IsWrittenBeside, blocks_named, bytes_held, list_at}
-use Rattle.lfs_tree.specs.Seen.{IsBroken, IsError, IsSound, Seen}
+use Rattle.lfs_tree.specs.TreeState.{IsBroken, IsError, IsSound, TreeState}
 use Rattle.lfs_tree.proofs.BesideImage.{files_still, geometry_back, still_follows, used_still, writable_on}
 use Rattle.lfs_lookup.proofs.Reading.{same_error}
 use Rattle.lfs_tree.proofs.Asking.{behind}
@@ -39,7 +39,7 @@ use Rattle.lfs_writer.specs.declared.contents.Contents.{Contents}
 use Rattle.lfs_writer.proofs.Used.{used_back}
 
 -- the bytes and the form of contents that stand on a thread's device
-pub bytes_of_held : (t : Kept) (c : Contents) (bytes : List ℕ) (shape : Form) → Holds t c bytes shape → bytes_held t c ≡ bytes
+pub bytes_of_held : (t : Kept) (c : Contents) (bytes : List ℕ) (shape : Form) → HoldsContents t c bytes shape → bytes_held t c ≡ bytes
 bytes_of_held t c bytes shape h = ap (λ (n : ℕ). bytes_in t.disk.blocks n c) (sym h.divided.block_size) ∙ h.has.has
 
 pub geometry_beside : (a b : Kept) → LeavesPairsAndUsed a b → SameGeometry a.disk b.disk
@@ -74,7 +74,7 @@ module _ (a b : Kept) (leaves : LeavesPairsAndUsed a b) (accepted : IsAccepted a
           (slot_has (λ (x : Slot). HasSameFile a.disk b.disk x.struct) a.disk a.pairs accepted (files_still a.disk b.disk a.pairs accepted (geometry_beside a b leaves) used_same) tt path s e)
 
   -- what a call makes of contents is over the same file
-  pub over_beside : (path : Path) (contents c : Contents) (bytes : List ℕ) (shape : Form) → IsOverFile a path contents → Holds b c bytes shape → AreOwned b.map (held_in a contents) (held_in b c) → IsOverFile b path c
+  pub over_beside : (path : Path) (contents c : Contents) (bytes : List ℕ) (shape : Form) → IsOverFile a path contents → HoldsContents b c bytes shape → AreOwned b.map (held_in a contents) (held_in b c) → IsOverFile b path c
   over_beside path contents c bytes shape over holds owned = record {
     file = ap (λ (t : Tree). is_file (t path)) tree_beside ∙ over.file;
     stands = record { geometry = holds.geometry; divided = holds.divided; stands = holds.has.stands };
@@ -83,7 +83,7 @@ module _ (a b : Kept) (leaves : LeavesPairsAndUsed a b) (accepted : IsAccepted a
     };
   }
 
-sound_beside : (a b : Kept) (writable : Bool) → LeavesPairsAndUsed a b → IsSound (seen_kept a writable false) → IsSound (seen_kept b writable false)
+sound_beside : (a b : Kept) (writable : Bool) → LeavesPairsAndUsed a b → IsSound (tree_state_of a writable false) → IsSound (tree_state_of b writable false)
 sound_beside a b writable leaves s = record {
   accepted = accepted_beside a b leaves s.accepted s.used;
   fits = λ e. subst (IsWritable b.disk) (sym leaves.pairs) (writable_on a.disk b.disk a.pairs (geometry_beside a b leaves) (s.fits e));
@@ -99,7 +99,7 @@ around_is writable block_size page count block_size_now page_now count_now used 
 
 -- a disk of which no used block changed
 pub left_beside : (t : Kept) (blocks : Blocks) {after : Tree} → IsAccepted t.disk t.pairs → IsWritable t.disk t.pairs → AreUsed t.map (used_blocks t.disk t.pairs) → SparesUsed t.map t.disk.blocks blocks
-    → IsLeft (with_blocks blocks t.disk) (tree_in t.disk t.pairs) after
+    → IsLeftByStop (with_blocks blocks t.disk) (tree_in t.disk t.pairs) after
 left_beside t blocks accepted fits used spared =
     let same : SameGeometry t.disk (with_blocks blocks t.disk) = record { block_size = refl; page = refl; order = refl; count = spared.count } in
     let f = still_follows t.disk (with_blocks blocks t.disk) t.pairs accepted same (λ x has. spared.same x ((used x).1 has)) in
@@ -107,13 +107,13 @@ left_beside t blocks accepted fits used spared =
 
 -- the calls of a tree
 module _ (a b : State) (root : ℕ) (writable : Bool) (h : IsRooted a root writable) (still : b.failed ≡ false) (leaves : LeavesPairsAndUsed a.kept b.kept) where
-  abbrev sound : IsSound (seen_kept a.kept writable false)
+  abbrev sound : IsSound (tree_state_of a.kept writable false)
   sound = h.sound
 
   pub rooted_beside : IsRooted b root writable
   rooted_beside = record { works = still; sound = sound_beside a.kept b.kept writable leaves sound; root_is = h.root_is ∙ ap superblocks_before (sym leaves.pairs) }
 
-  written_beside : (r : Result Contents Error) → TellsWork a.kept b.kept r → OnOk r (IsWrittenBeside (seen_thread a writable) (seen_thread (behind b r) writable))
+  written_beside : (r : Result Contents Error) → ReportsWork a.kept b.kept r → OnOk r (IsWrittenBeside (seen_thread a writable) (seen_thread (behind b r) writable))
   written_beside (Err e) t = tt
   written_beside (Ok c) t =
       let s = sound_beside a.kept b.kept writable leaves sound in
@@ -135,9 +135,9 @@ module _ (a b : State) (root : ℕ) (writable : Bool) (h : IsRooted a root writa
   broken_beside (Ok c) = tt
   broken_beside (Err e) = record { failed = refl; geometry = geometry_beside a.kept b.kept leaves; calls = leaves.at_worst.events; called = leaves.at_worst.extends }
 
-  told_beside : (r : Result Contents Error) → TellsWork a.kept b.kept r → IfErr r (IsError (seen_thread a writable) (seen_thread (behind b r) writable))
-  told_beside (Ok c) t = tt
-  told_beside (Err e) t = record {
+  reported_beside : (r : Result Contents Error) → ReportsWork a.kept b.kept r → IfErr r (IsError (seen_thread a writable) (seen_thread (behind b r) writable))
+  reported_beside (Ok c) t = tt
+  reported_beside (Err e) t = record {
     errors = t.errors;
     fault = λ io. t.fault (ap Err io);
     no_fault = λ other. t.no_fault (λ z. other (same_error Contents e Io z));
@@ -147,11 +147,11 @@ module _ (a b : State) (root : ℕ) (writable : Bool) (h : IsRooted a root writa
   survives_beside : writable ≡ true → Survives a.kept.disk a.kept.history b.kept.history (tree_in a.kept.disk a.kept.pairs) (tree_in a.kept.disk a.kept.pairs)
   survives_beside may clean = LeavesOnly-weaker (λ blocks spared. left_beside a.kept blocks sound.accepted (sound.fits may) sound.used spared) (LeavesOnly-worst leaves.at_worst)
 
-  pub writing : (now : Seen) (r : Result Contents Error) (c : State) → seen_thread a writable ≡ now → c ≡ behind b r → TellsWork a.kept b.kept r → IsWriting now r (seen_thread c writable)
+  pub writing : (now : TreeState) (r : Result Contents Error) (c : State) → seen_thread a writable ≡ now → c ≡ behind b r → ReportsWork a.kept b.kept r → IsWriting now r (seen_thread c writable)
   writing now r c view is t =
-      subst (λ (s : Seen). IsWriting s r (seen_thread c writable)) view
+      subst (λ (s : TreeState). IsWriting s r (seen_thread c writable)) view
       (subst (λ (t : State). IsWriting (seen_thread a writable) r (seen_thread t writable)) (sym is)
-      (record { beside = written_beside r t; broken = broken_beside r; errors = told_beside r t; survives = survives_beside }))
+      (record { beside = written_beside r t; broken = broken_beside r; errors = reported_beside r t; survives = survives_beside }))
 
   -- and the thread is still that of the image
   pub held_beside : (r : Result Contents Error) (c : State) → c ≡ behind b r → IsHeld c root writable
@@ -161,16 +161,16 @@ module _ (a b : State) (root : ℕ) (writable : Bool) (h : IsRooted a root writa
       go (Err e) f = absurd (cc)
       go (Ok x) f = rooted_beside
 
-  pub all_over : (path : Path) (contents : Contents) (bytes : List ℕ) (shape : Form) (r : Result Contents Error) → IsOverFile a.kept path contents → IfOk r (λ c. Holds b.kept c bytes shape)
+  pub all_over : (path : Path) (contents : Contents) (bytes : List ℕ) (shape : Form) (r : Result Contents Error) → IsOverFile a.kept path contents → IfOk r (λ c. HoldsContents b.kept c bytes shape)
       → IfOk r (λ c. AreOwned b.kept.map (held_in a.kept contents) (held_in b.kept c)) → IfOk r (IsOverFile b.kept path)
   all_over path contents bytes shape (Err e) over holds owned = tt
   all_over path contents bytes shape (Ok c) over holds owned = over_beside a.kept b.kept leaves sound.accepted sound.used path contents c bytes shape over holds owned
 
-pub bytes_after : (t : Kept) (bytes : List ℕ) (shape : Form) (r : Result Contents Error) → IfOk r (λ c. Holds t c bytes shape) → IfOk r (λ c. bytes_held t c ≡ bytes)
+pub bytes_after : (t : Kept) (bytes : List ℕ) (shape : Form) (r : Result Contents Error) → IfOk r (λ c. HoldsContents t c bytes shape) → IfOk r (λ c. bytes_held t c ≡ bytes)
 bytes_after t bytes shape (Ok c) h = bytes_of_held t c bytes shape h
 bytes_after t bytes shape (Err e) h = tt
 
-pub form_after : (t : Kept) (bytes : List ℕ) (shape : Form) (r : Result Contents Error) → IfOk r (λ c. Holds t c bytes shape) → IfOk r (λ c. form_of c ≡ shape)
+pub form_after : (t : Kept) (bytes : List ℕ) (shape : Form) (r : Result Contents Error) → IfOk r (λ c. HoldsContents t c bytes shape) → IfOk r (λ c. form_of c ≡ shape)
 form_after t bytes shape (Ok c) h = h.has.form
 form_after t bytes shape (Err e) h = tt
 
@@ -179,11 +179,11 @@ form_after t bytes shape (Err e) h = tt
 limit_short : (block_size limit : ℕ) → 1024 ≤ block_size → limit ≡ inline_limit block_size → limit < block_size
 limit_short block_size limit large e = let m = min-le_right (block_size / 8) 1022 in omega arith
 
-module _ (t : Kept) (writable : Bool) (limit : ℕ) (sound : IsSound (seen_kept t writable false)) (large : 1024 ≤ t.disk.block_size) (is : limit ≡ inline_limit t.disk.block_size) where
+module _ (t : Kept) (writable : Bool) (limit : ℕ) (sound : IsSound (tree_state_of t writable false)) (large : 1024 ≤ t.disk.block_size) (is : limit ≡ inline_limit t.disk.block_size) where
   room_is : (need : ℕ) → length (used_blocks t.disk t.pairs) + need ≤ block_count t.disk → used_count t.map + need ≤ length t.map
-  room_is need room = let e = count_is (seen_kept t writable false) sound in let s = sound.size in omega arith
+  room_is need room = let e = count_is (tree_state_of t writable false) sound in let s = sound.size in omega arith
 
-  pub can_write : {cache : CachedBlocks} (failed : Bool) (contents : Contents) (place count : ℕ) → CanWriteBeside (record (seen_kept t writable failed) { cache = cache }) contents place count → CanWrite t contents limit place count
+  pub can_write : {cache : CachedBlocks} (failed : Bool) (contents : Contents) (place count : ℕ) → CanWriteBeside (record (tree_state_of t writable failed) { cache = cache }) contents place count → CanWrite t contents limit place count
   can_write failed contents place count can = record {
     stands = can.stands;
     fits = record {
@@ -195,7 +195,7 @@ module _ (t : Kept) (writable : Bool) (limit : ℕ) (sound : IsSound (seen_kept 
     };
   }
 
-  pub can_truncate : {cache : CachedBlocks} (failed : Bool) (contents : Contents) (size : ℕ) → CanTruncateBeside (record (seen_kept t writable failed) { cache = cache }) contents size → CanTruncate t contents limit size
+  pub can_truncate : {cache : CachedBlocks} (failed : Bool) (contents : Contents) (size : ℕ) → CanTruncateBeside (record (tree_state_of t writable failed) { cache = cache }) contents size → CanTruncate t contents limit size
   can_truncate failed contents size can = record {
     stands = can.stands;
     fits = record {

@@ -31,7 +31,7 @@ use Rattle.lfs_operations.specs.MovingSteps.{WritesAmong}
 use Rattle.lfs_operations.specs.Ready.{IsReady}
 use Rattle.lfs_thread.specs.Kept.{Kept}
 use Rattle.lfs_thread.specs.Steps.{IsOnlyRead, Writes, no_pair, pair_in}
-use Rattle.lfs_tree.specs.Carrying.{Carries}
+use Rattle.lfs_tree.specs.Carrying.{AppliesOn}
 use Rattle.lfs_tree.specs.KeepsFiles.{KeepsFile, ListsStay, list_at}
 use Rattle.lfs_tree.proofs.KeptFiles.{keeps_by, list_used, no_pairs}
 
@@ -165,7 +165,7 @@ pub record IsWorked (a : Kept) (h : List Event) (op : Operation) (c : Kept) : Ty
   pub writes : WritesAmong (with_history a h) c
   pub no_fault : faults c.history ≡ faults a.history
 
-pub carried : (a : Kept) (h : List Event) (op : Operation) (c : Kept) → IsWorked a h op c → renames_to_itself op ≡ false → is_recover op ≡ false → Carries a op c
+pub carried : (a : Kept) (h : List Event) (op : Operation) (c : Kept) → IsWorked a h op c → renames_to_itself op ≡ false → is_recover op ≡ false → AppliesOn a op c
 carried a h op c w other asks = record {
   works = refl;
   sound = record { accepted = w.ready.accepted; fits = λ e. w.ready.writable; is_kept = λ k. refl; used = w.ready.used; size = w.ready.size };

@@ -5,7 +5,7 @@ use Rattle.lfs_device.specs.declared.error.Error.{Error}
 use Rattle.std.proofs.lemmas.Bool.{ltb-false}
 use Rattle.std.proofs.lemmas.Option.{same_Some}
 use Rattle.lfs_device.specs.Bytes.{HasBytes}
-use Rattle.lfs_model.specs.Discipline.{LeavesAlone, paths_of}
+use Rattle.lfs_model.specs.Frame.{LeavesAlone, paths_of}
 use Rattle.lfs_model.specs.Session.{Files, Session}
 use Rattle.lfs_model.specs.Thread.{Pair}
 use Rattle.lfs_model.specs.TreeEdits.{added, last_name}
@@ -33,15 +33,15 @@ use Rattle.lfs_tree.proofs.LeftAlone.{IsConcernedOrFree, concerned_alone, concer
 use Rattle.lfs_tree.specs.Allowed.{CanAdd}
 use Rattle.lfs_tree.specs.Calls as call
 use Rattle.lfs_tree.specs.Calls.{left_by}
-use Rattle.lfs_tree.specs.Carrying.{Carries, HasDone, IsAtRest, IsOperationOn, IsPlaceFor, IsVacant, StandsAs, SurvivesTo}
-use Rattle.lfs_tree.specs.Held.{seen_kept}
+use Rattle.lfs_tree.specs.Carrying.{AppliesOn, HasDone, IsAtRest, IsOperationOn, IsPlaceFor, IsVacant, StandsAs, SurvivesTo}
+use Rattle.lfs_tree.specs.Held.{tree_state_of}
 use Rattle.lfs_lookup.specs.declared.search.Spot.{Spot}
 use Rattle.lfs_tree.proofs.Carried.{among_one, among_two, behind_below, carried, with_history}
 use Rattle.lfs_tree.proofs.CarryLogged.{logged_there}
 use Rattle.lfs_tree.proofs.CarrySurvives.{survives_behind}
 use Rattle.lfs_tree.proofs.CarryRooms.{last_is_name, room_for}
-use Rattle.lfs_tree.proofs.CarryTold.{IsTold}
-use Rattle.lfs_tree.proofs.Operated.{changed, create_stands, does_create, does_mkdir, mkdir_stands, quiet_told}
+use Rattle.lfs_tree.proofs.ReportedFaults.{ReportsFaultsSince}
+use Rattle.lfs_tree.proofs.Operated.{changed, create_stands, does_create, does_mkdir, mkdir_stands, quiet_reported}
 use Rattle.std.specs.Prelude.{Contains, OnOk}
 
 pub ready_to : (t : State) (root : ℕ) (h : List Event) → IsAtRest t root → 1024 ≤ t.kept.disk.block_size → IsReady (with_history t.kept h)
@@ -54,7 +54,7 @@ ready_to t root h rests large = record {
   large = large;
 }
 
-pub vacant_to : (t : Kept) (path : Path) (need : ℕ) → CanAdd (seen_kept t true false) path need → IsVacant (tree_in t.disk t.pairs) path
+pub vacant_to : (t : Kept) (path : Path) (need : ℕ) → CanAdd (tree_state_of t true false) path need → IsVacant (tree_in t.disk t.pairs) path
 vacant_to t path need can = record { parents = can.parents; nothing = can.nothing }
 
 pub stay_in_flight : (old new : BlockSets) → StayTaken old new → (b : ℕ) → IsInFlight old b → IsInFlight new b
@@ -64,7 +64,7 @@ any_flags : Flags
 any_flags = record { read = false; write = true; create = true; exclusive = false; truncate = false; append = false; unknown = false }
 
 module _ (t : State) (root : ℕ) (rests : IsAtRest t root) (path : Path) (components : list_all is_component path ≡ true) (large : 1024 ≤ t.kept.disk.block_size) (bytes : HasBytes t.kept.disk.blocks)
-    (need : ℕ) (can : CanAdd (seen_kept t.kept true false) path need) (name : Name) (spot : Spot) (place : IsPlaceFor t.kept.disk.order t.kept.pairs path name spot) (h : List Event) where
+    (need : ℕ) (can : CanAdd (tree_state_of t.kept true false) path need) (name : Name) (spot : Spot) (place : IsPlaceFor t.kept.disk.order t.kept.pairs path name spot) (h : List Event) where
   name_is : last_name path ≡ name
   name_is = ap last_name place.is ∙ last_is place.above name
 
@@ -110,7 +110,7 @@ module _ (t : State) (root : ℕ) (rests : IsAtRest t root) (path : Path) (compo
   }
 
   created_at : (c : Kept) (given : List ℕ) (flags : Flags) → faults c.history ≡ faults t.kept.history → OnlyReads t.kept.disk.blocks t.kept.history h → WritesIn (with_history t.kept h) spot.pair c
-      → ((can : CanCreate (with_history t.kept h) spot.pair spot.id name) → IsCreated (with_history t.kept h) c can.path name) → as_path given ≡ path → Carries t.kept (ops.Open given flags) c
+      → ((can : CanCreate (with_history t.kept h) spot.pair spot.id name) → IsCreated (with_history t.kept h) c can.path name) → as_path given ≡ path → AppliesOn t.kept (ops.Open given flags) c
   unfolding can_create
   created_at c given flags quiet reads writes gives e =
       let is : IsCreated (with_history t.kept h) c place.above name = gives can_create in
@@ -144,7 +144,7 @@ module _ (t : State) (root : ℕ) (rests : IsAtRest t root) (path : Path) (compo
       (λ has n. alters (subst (Contains c.pairs) (sym is) has))
 
   made_at : (c : Kept) (given : List ℕ) → faults c.history ≡ faults t.kept.history → OnlyReads t.kept.disk.blocks t.kept.history h → WritesUpTo (with_history t.kept h) spot.pair c
-      → ((can : CanMake (with_history t.kept h) spot.pair spot.id name) → IsMade (with_history t.kept h) c can.path name) → 4 ≤ need → as_path given ≡ path → Carries t.kept (ops.Mkdir given) c
+      → ((can : CanMake (with_history t.kept h) spot.pair spot.id name) → IsMade (with_history t.kept h) c can.path name) → 4 ≤ need → as_path given ≡ path → AppliesOn t.kept (ops.Mkdir given) c
   unfolding can_make
   made_at c given quiet reads writes gives enough e =
       let is : IsMade (with_history t.kept h) c place.above name = gives (can_make enough) in
@@ -195,34 +195,34 @@ module _ (t : State) (root : ℕ) (rests : IsAtRest t root) (path : Path) (compo
   -- ---- all that is said of it
 
   pub create_does : (new : State) (r : Result (Unit {0}) Error) (given : List ℕ) → as_path given ≡ path → faults h ≡ faults t.kept.history → OnlyReads t.kept.disk.blocks t.kept.history h → WritesIn (with_history t.kept h) spot.pair new.kept
-      → OnOk r ((can : CanCreate (with_history t.kept h) spot.pair spot.id name) → IsCreated (with_history t.kept h) new.kept can.path name) → OnOk r (Alters (with_history t.kept h) spot.pair new.kept) → IsTold h new.kept.history r → OnOk r (new.failed ≡ false)
+      → OnOk r ((can : CanCreate (with_history t.kept h) spot.pair spot.id name) → IsCreated (with_history t.kept h) new.kept can.path name) → OnOk r (Alters (with_history t.kept h) spot.pair new.kept) → ReportsFaultsSince h new.kept.history r → OnOk r (new.failed ≡ false)
       → ((can : CanCreate (with_history t.kept h) spot.pair spot.id name) → SurvivesTo (with_history t.kept h) new.kept (with_file (with_history t.kept h) can.path name)) → IsOperationOn t (call.Create path) r new
-  create_does new r given named quiet reads w gives alters told works survives =
-      changed t new (HasDone t.kept (call.Create path)) (left_by (call.Create path) before) h _ r quiet reads w.writes told works (go r gives alters (quiet_told t.kept new.kept h r quiet told)) (created_survives new.kept reads w survives)
+  create_does new r given named quiet reads w gives alters reported works survives =
+      changed t new (HasDone t.kept (call.Create path)) (left_by (call.Create path) before) h _ r quiet reads w.writes reported works (go r gives alters (quiet_reported t.kept new.kept h r quiet reported)) (created_survives new.kept reads w survives)
     where
       go : (r : Result (Unit {0}) Error) → OnOk r ((can : CanCreate (with_history t.kept h) spot.pair spot.id name) → IsCreated (with_history t.kept h) new.kept can.path name) → OnOk r (Alters (with_history t.kept h) spot.pair new.kept)
           → OnOk r (faults new.kept.history ≡ faults t.kept.history) → OnOk r (HasDone t.kept (call.Create path) new.kept × StandsAs t.kept (left_by (call.Create path) before) new.kept)
       go (Err e) gives alters same = tt
       go (Ok x) gives alters same = (
         record {
-          carries = does_create (λ op. Carries t.kept op new.kept) path (λ given flags e. created_at new.kept given flags same reads w gives e);
+          carries = does_create (λ op. AppliesOn t.kept op new.kept) path (λ given flags e. created_at new.kept given flags same reads w gives e);
           spares = λ op does none files. created_alone new.kept op files w alters;
         },
         create_stands t.kept new.kept path given any_flags can.nothing named (created_at new.kept given any_flags same reads w gives named) (gives can_create).now.root,
       )
 
   pub make_does : (new : State) (r : Result (Unit {0}) Error) (given : List ℕ) → as_path given ≡ path → 4 ≤ need → faults h ≡ faults t.kept.history → OnlyReads t.kept.disk.blocks t.kept.history h → WritesUpTo (with_history t.kept h) spot.pair new.kept
-      → OnOk r ((can : CanMake (with_history t.kept h) spot.pair spot.id name) → IsMade (with_history t.kept h) new.kept can.path name) → OnOk r (AltersUpTo (with_history t.kept h) spot.pair new.kept) → IsTold h new.kept.history r → OnOk r (new.failed ≡ false)
+      → OnOk r ((can : CanMake (with_history t.kept h) spot.pair spot.id name) → IsMade (with_history t.kept h) new.kept can.path name) → OnOk r (AltersUpTo (with_history t.kept h) spot.pair new.kept) → ReportsFaultsSince h new.kept.history r → OnOk r (new.failed ≡ false)
       → ((can : CanMake (with_history t.kept h) spot.pair spot.id name) → SurvivesTo (with_history t.kept h) new.kept (with_directory (with_history t.kept h) can.path name)) → IsOperationOn t (call.Mkdir path) r new
-  make_does new r given named enough quiet reads w gives alters told works survives =
-      changed t new (HasDone t.kept (call.Mkdir path)) (left_by (call.Mkdir path) before) h _ r quiet reads w.writes told works (go r gives alters (quiet_told t.kept new.kept h r quiet told)) (made_survives new.kept reads w survives enough)
+  make_does new r given named enough quiet reads w gives alters reported works survives =
+      changed t new (HasDone t.kept (call.Mkdir path)) (left_by (call.Mkdir path) before) h _ r quiet reads w.writes reported works (go r gives alters (quiet_reported t.kept new.kept h r quiet reported)) (made_survives new.kept reads w survives enough)
     where
       go : (r : Result (Unit {0}) Error) → OnOk r ((can : CanMake (with_history t.kept h) spot.pair spot.id name) → IsMade (with_history t.kept h) new.kept can.path name) → OnOk r (AltersUpTo (with_history t.kept h) spot.pair new.kept)
           → OnOk r (faults new.kept.history ≡ faults t.kept.history) → OnOk r (HasDone t.kept (call.Mkdir path) new.kept × StandsAs t.kept (left_by (call.Mkdir path) before) new.kept)
       go (Err e) gives alters same = tt
       go (Ok x) gives alters same = (
         record {
-          carries = does_mkdir (λ op. Carries t.kept op new.kept) path (λ given e. made_at new.kept given same reads w gives enough e);
+          carries = does_mkdir (λ op. AppliesOn t.kept op new.kept) path (λ given e. made_at new.kept given same reads w gives enough e);
           spares = λ op does none files. made_alone new.kept op files w alters;
         },
         mkdir_stands t.kept new.kept path given named (made_at new.kept given same reads w gives enough named) (gives (can_make enough)).now.root,

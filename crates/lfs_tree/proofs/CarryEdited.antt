@@ -8,7 +8,7 @@ use Rattle.std.proofs.lemmas.Bool.{ltb-false}
 use Rattle.std.proofs.lemmas.List.Elements.{recursion_from_All}
 use Rattle.lfs_device.specs.Bytes.{HasBytes}
 use Rattle.lfs_model.specs.BlockSets.{IsFree}
-use Rattle.lfs_model.specs.Discipline.{HoldsSlot, LeavesAlone, paths_of}
+use Rattle.lfs_model.specs.Frame.{HoldsSlot, LeavesAlone, paths_of}
 use Rattle.lfs_model.specs.Session.{Files}
 use Rattle.lfs_model.specs.TreeEdits.{attributes_of, last_name}
 use Rattle.lfs_model.specs.Content.{put_attribute, without_attribute}
@@ -37,9 +37,9 @@ use Rattle.lfs_tree.proofs.LeftAlone.{about_one, holds_slot, rest_left_alone}
 use Rattle.lfs_tree.specs.Allowed.{CanRemoveAttr, CanSetAttr}
 use Rattle.lfs_tree.specs.Calls as call
 use Rattle.lfs_tree.specs.Calls.{left_by}
-use Rattle.lfs_tree.specs.Carrying.{Carries, HasDone, IsAtRest, IsOperationOn, Spares, StandsAs, SurvivesTo}
+use Rattle.lfs_tree.specs.Carrying.{AppliesOn, HasDone, IsAtRest, IsOperationOn, Spares, StandsAs, SurvivesTo}
 use Rattle.lfs_tree.specs.CarryingSlots.{HasEntry, IsSlotFor, IsSlotIn, has_slot, with_attributes_changed}
-use Rattle.lfs_tree.specs.Held.{seen_kept}
+use Rattle.lfs_tree.specs.Held.{tree_state_of}
 use Rattle.lfs_lookup.specs.Paths.{LeadsTo, StandsOnPath}
 use Rattle.lfs_lookup.specs.declared.paths.Found.{Found}
 use Rattle.lfs_lookup.specs.declared.paths.Found.TheVariants as found
@@ -48,8 +48,8 @@ use Rattle.lfs_tree.proofs.Carried.{IsPairsOrFree, among_one, behind_below, carr
 use Rattle.lfs_tree.proofs.CarryCreated.{ready_to, stay_in_flight}
 use Rattle.lfs_tree.proofs.CarryLogged.{logged_there}
 use Rattle.lfs_tree.proofs.CarrySurvives.{survives_behind}
-use Rattle.lfs_tree.proofs.CarryTold.{IsTold}
-use Rattle.lfs_tree.proofs.Operated.{changed, clear_stands, does_clear, does_set, quiet_told, set_stands}
+use Rattle.lfs_tree.proofs.ReportedFaults.{ReportsFaultsSince}
+use Rattle.lfs_tree.proofs.Operated.{changed, clear_stands, does_clear, does_set, quiet_reported, set_stands}
 
 -- ---- what is found
 
@@ -76,10 +76,10 @@ slot_for t path (found.Nothing parent place) spot l h = absurd h
 slot_for t path (found.Directory parent slot first) spot l h = slot_is t.pairs path l.there.above l.there.name parent slot spot l.there.is l.there.there.0 h
 slot_for t path (found.File parent slot contents) spot l h = slot_is t.pairs path l.there.above l.there.name parent slot spot l.there.is l.there.there.0 h
 
-pub entry_to_set : (t : Kept) (path : Path) (kind : ℕ) (bytes : List ℕ) → CanSetAttr (seen_kept t true false) path kind bytes → HasEntry (tree_in t.disk t.pairs) path
+pub entry_to_set : (t : Kept) (path : Path) (kind : ℕ) (bytes : List ℕ) → CanSetAttr (tree_state_of t true false) path kind bytes → HasEntry (tree_in t.disk t.pairs) path
 entry_to_set t path kind bytes can = record { entry = can.entry; parents = can.parents; something = can.something }
 
-pub entry_to_clear : (t : Kept) (path : Path) (kind : ℕ) → CanRemoveAttr (seen_kept t true false) path kind → HasEntry (tree_in t.disk t.pairs) path
+pub entry_to_clear : (t : Kept) (path : Path) (kind : ℕ) → CanRemoveAttr (tree_state_of t true false) path kind → HasEntry (tree_in t.disk t.pairs) path
 entry_to_clear t path kind can = record { entry = can.entry; parents = can.parents; something = can.something }
 
 -- ---- what may be changed
@@ -132,7 +132,7 @@ module _ (t : State) (root : ℕ) (rests : IsAtRest t root) (path : Path) (large
       let fit = (each_right Fit stands.left (stands.slot ∷ stands.right) (subst (Each Fit) stands.held (recursion_from_All Fit pair.content.slots one))).0 in
       (fit.1 stands.entry).inline
 
-  pub can_set : (kind : ℕ) (given : List ℕ) → CanSetAttr (seen_kept t.kept true false) path kind given → CanSetAttribute (with_history t.kept h) spot.pair spot.id kind given
+  pub can_set : (kind : ℕ) (given : List ℕ) → CanSetAttr (tree_state_of t.kept true false) path kind given → CanSetAttribute (with_history t.kept h) spot.pair spot.id kind given
   unfolding can_edit
   can_set kind given can = record {
     can = can_edit;
@@ -148,7 +148,7 @@ module _ (t : State) (root : ℕ) (rests : IsAtRest t root) (path : Path) (large
   slot_below = behind_below t.kept.pairs slot.first spot.pair slot.stands.stands.pair slot.stands.stands.rest slot.stands.stands.place
 
   edited_at : (c : Kept) (f : Attributes → Attributes) (op : List ℕ → Operation) (given : List ℕ) (bs : List ℕ) → faults c.history ≡ faults t.kept.history → OnlyReads t.kept.disk.blocks t.kept.history h → Writes bs (with_history t.kept h) c → AllByRecursion (IsPairsOrFree t.kept) bs
-      → IsEdited (with_history t.kept h) c slot.above slot.name f op → as_path given ≡ path → renames_to_itself (op given) ≡ false → is_recover (op given) ≡ false → Carries t.kept (op given) c
+      → IsEdited (with_history t.kept h) c slot.above slot.name f op → as_path given ≡ path → renames_to_itself (op given) ≡ false → is_recover (op given) ≡ false → AppliesOn t.kept (op given) c
   edited_at c f op given bs quiet reads writes among is e other asks = carried t.kept h (op given) c
       (record {
         accepted = rests.held.sound.accepted;
@@ -164,16 +164,16 @@ module _ (t : State) (root : ℕ) (rests : IsAtRest t root) (path : Path) (large
         no_fault = quiet;
       }) other asks
 
-  set_at : (c : Kept) (kind : ℕ) (bytes_given given : List ℕ) (bs : List ℕ) → CanSetAttr (seen_kept t.kept true false) path kind bytes_given → faults c.history ≡ faults t.kept.history → OnlyReads t.kept.disk.blocks t.kept.history h → Writes bs (with_history t.kept h) c
+  set_at : (c : Kept) (kind : ℕ) (bytes_given given : List ℕ) (bs : List ℕ) → CanSetAttr (tree_state_of t.kept true false) path kind bytes_given → faults c.history ≡ faults t.kept.history → OnlyReads t.kept.disk.blocks t.kept.history h → Writes bs (with_history t.kept h) c
       → AllByRecursion (IsPairsOrFree t.kept) bs → ((set : CanSetAttribute (with_history t.kept h) spot.pair spot.id kind bytes_given) → HasSetAttribute (with_history t.kept h) c set.can.path set.can.name kind bytes_given)
-      → as_path given ≡ path → Carries t.kept (ops.SetAttr given kind bytes_given) c
+      → as_path given ≡ path → AppliesOn t.kept (ops.SetAttr given kind bytes_given) c
   unfolding can_set can_edit
   set_at c kind bytes_given given bs can quiet reads writes among gives e =
       let is : HasSetAttribute (with_history t.kept h) c slot.above slot.name kind bytes_given = gives (can_set kind bytes_given can) in
       edited_at c (put_attribute kind bytes_given) (λ z. ops.SetAttr z kind bytes_given) given bs quiet reads writes among is e refl refl
 
   cleared_at : (c : Kept) (kind : ℕ) (given : List ℕ) (bs : List ℕ) → faults c.history ≡ faults t.kept.history → OnlyReads t.kept.disk.blocks t.kept.history h → Writes bs (with_history t.kept h) c → AllByRecursion (IsPairsOrFree t.kept) bs
-      → ((can : CanEdit (with_history t.kept h) spot.pair spot.id) → HasRemovedAttribute (with_history t.kept h) c can.path can.name kind) → as_path given ≡ path → Carries t.kept (ops.RemoveAttr given kind) c
+      → ((can : CanEdit (with_history t.kept h) spot.pair spot.id) → HasRemovedAttribute (with_history t.kept h) c can.path can.name kind) → as_path given ≡ path → AppliesOn t.kept (ops.RemoveAttr given kind) c
   unfolding can_edit
   cleared_at c kind given bs quiet reads writes among gives e =
       let is : HasRemovedAttribute (with_history t.kept h) c slot.above slot.name kind = gives can_edit in
@@ -198,7 +198,7 @@ module _ (t : State) (root : ℕ) (rests : IsAtRest t root) (path : Path) (large
   edit_survives c f bs reads writes k =
       subst (λ p. SurvivesTo t.kept c (with_attributes_changed p f (tree_in t.kept.disk t.kept.pairs))) (sym slot.is) (survives_behind t root rests h c bs (with_attributes_at t.kept slot.above slot.name f) reads writes k)
 
-  set_survives : (c : Kept) (kind : ℕ) (bytes_given : List ℕ) (bs : List ℕ) → CanSetAttr (seen_kept t.kept true false) path kind bytes_given → OnlyReads t.kept.disk.blocks t.kept.history h → Writes bs (with_history t.kept h) c
+  set_survives : (c : Kept) (kind : ℕ) (bytes_given : List ℕ) (bs : List ℕ) → CanSetAttr (tree_state_of t.kept true false) path kind bytes_given → OnlyReads t.kept.disk.blocks t.kept.history h → Writes bs (with_history t.kept h) c
       → ((set : CanSetAttribute (with_history t.kept h) spot.pair spot.id kind bytes_given) → SurvivesTo (with_history t.kept h) c (with_attributes_at (with_history t.kept h) set.can.path set.can.name (put_attribute kind bytes_given)))
       → SurvivesTo t.kept c (with_attributes_changed path (put_attribute kind bytes_given) (tree_in t.kept.disk t.kept.pairs))
   unfolding can_set can_edit
@@ -212,22 +212,22 @@ module _ (t : State) (root : ℕ) (rests : IsAtRest t root) (path : Path) (large
 
   -- ---- all that is said of it
 
-  pub set_does : (new : State) (r : Result (Unit {0}) Error) (kind : ℕ) (value given : List ℕ) → as_path given ≡ path → CanSetAttr (seen_kept t.kept true false) path kind value → faults h ≡ faults t.kept.history → OnlyReads t.kept.disk.blocks t.kept.history h
+  pub set_does : (new : State) (r : Result (Unit {0}) Error) (kind : ℕ) (value given : List ℕ) → as_path given ≡ path → CanSetAttr (tree_state_of t.kept true false) path kind value → faults h ≡ faults t.kept.history → OnlyReads t.kept.disk.blocks t.kept.history h
       → WritesIn (with_history t.kept h) spot.pair new.kept → OnOk r ((set : CanSetAttribute (with_history t.kept h) spot.pair spot.id kind value) → HasSetAttribute (with_history t.kept h) new.kept set.can.path set.can.name kind value)
-      → IsTold h new.kept.history r → OnOk r (new.failed ≡ false)
+      → ReportsFaultsSince h new.kept.history r → OnOk r (new.failed ≡ false)
       → ((set : CanSetAttribute (with_history t.kept h) spot.pair spot.id kind value) → SurvivesTo (with_history t.kept h) new.kept (with_attributes_at (with_history t.kept h) set.can.path set.can.name (put_attribute kind value)))
       → IsOperationOn t (call.SetAttr path kind value) r new
-  set_does new r kind value given named can quiet reads w gives told works survives =
-      changed t new (HasDone t.kept (call.SetAttr path kind value)) (left_by (call.SetAttr path kind value) before) h _ r quiet reads w.writes told works (go r gives (quiet_told t.kept new.kept h r quiet told)) (set_survives new.kept kind value _ can reads w.writes survives)
+  set_does new r kind value given named can quiet reads w gives reported works survives =
+      changed t new (HasDone t.kept (call.SetAttr path kind value)) (left_by (call.SetAttr path kind value) before) h _ r quiet reads w.writes reported works (go r gives (quiet_reported t.kept new.kept h r quiet reported)) (set_survives new.kept kind value _ can reads w.writes survives)
     where
       go : (r : Result (Unit {0}) Error) → OnOk r ((set : CanSetAttribute (with_history t.kept h) spot.pair spot.id kind value) → HasSetAttribute (with_history t.kept h) new.kept set.can.path set.can.name kind value)
           → OnOk r (faults new.kept.history ≡ faults t.kept.history) → OnOk r (HasDone t.kept (call.SetAttr path kind value) new.kept × StandsAs t.kept (left_by (call.SetAttr path kind value) before) new.kept)
       go (Err e) gives same = tt
       go (Ok x) gives same =
-          let at : (given : List ℕ) → as_path given ≡ path → Carries t.kept (ops.SetAttr given kind value) new.kept
+          let at : (given : List ℕ) → as_path given ≡ path → AppliesOn t.kept (ops.SetAttr given kind value) new.kept
           = λ given e. set_at new.kept kind value given _ can same reads w.writes (among_one t.kept spot.pair w.fresh slot_below w.free) gives e in (
             record {
-              carries = does_set (λ op. Carries t.kept op new.kept) path kind value at;
+              carries = does_set (λ op. AppliesOn t.kept op new.kept) path kind value at;
               spares = does_set (λ op. Spares t.kept op new.kept) path kind value (λ given e none files. edited_alone new.kept (ops.SetAttr given kind value) files given w.fresh refl e w.free w.writes);
             },
             set_stands t.kept new.kept path kind value given named (at given named) (gives (can_set kind value can)).now.root,
@@ -235,20 +235,20 @@ module _ (t : State) (root : ℕ) (rests : IsAtRest t root) (path : Path) (large
 
   pub clear_does : (new : State) (r : Result (Unit {0}) Error) (kind : ℕ) (given : List ℕ) → as_path given ≡ path → faults h ≡ faults t.kept.history → OnlyReads t.kept.disk.blocks t.kept.history h
       → Writes (two_of (pair_in t.kept spot.pair).at) (with_history t.kept h) new.kept → OnOk r ((can : CanEdit (with_history t.kept h) spot.pair spot.id) → HasRemovedAttribute (with_history t.kept h) new.kept can.path can.name kind)
-      → IsTold h new.kept.history r → OnOk r (new.failed ≡ false)
+      → ReportsFaultsSince h new.kept.history r → OnOk r (new.failed ≡ false)
       → ((can : CanEdit (with_history t.kept h) spot.pair spot.id) → SurvivesTo (with_history t.kept h) new.kept (with_attributes_at (with_history t.kept h) can.path can.name (without_attribute kind)))
       → IsOperationOn t (call.RemoveAttr path kind) r new
-  clear_does new r kind given named quiet reads w gives told works survives =
-      changed t new (HasDone t.kept (call.RemoveAttr path kind)) (left_by (call.RemoveAttr path kind) before) h _ r quiet reads w told works (go r gives (quiet_told t.kept new.kept h r quiet told)) (cleared_survives new.kept kind _ reads w survives)
+  clear_does new r kind given named quiet reads w gives reported works survives =
+      changed t new (HasDone t.kept (call.RemoveAttr path kind)) (left_by (call.RemoveAttr path kind) before) h _ r quiet reads w reported works (go r gives (quiet_reported t.kept new.kept h r quiet reported)) (cleared_survives new.kept kind _ reads w survives)
     where
       go : (r : Result (Unit {0}) Error) → OnOk r ((can : CanEdit (with_history t.kept h) spot.pair spot.id) → HasRemovedAttribute (with_history t.kept h) new.kept can.path can.name kind)
           → OnOk r (faults new.kept.history ≡ faults t.kept.history) → OnOk r (HasDone t.kept (call.RemoveAttr path kind) new.kept × StandsAs t.kept (left_by (call.RemoveAttr path kind) before) new.kept)
       go (Err e) gives same = tt
       go (Ok x) gives same =
-          let at : (given : List ℕ) → as_path given ≡ path → Carries t.kept (ops.RemoveAttr given kind) new.kept
+          let at : (given : List ℕ) → as_path given ≡ path → AppliesOn t.kept (ops.RemoveAttr given kind) new.kept
           = λ given e. cleared_at new.kept kind given _ same reads w (among_one t.kept spot.pair [] slot_below tt) gives e in (
             record {
-              carries = does_clear (λ op. Carries t.kept op new.kept) path kind at;
+              carries = does_clear (λ op. AppliesOn t.kept op new.kept) path kind at;
               spares = does_clear (λ op. Spares t.kept op new.kept) path kind (λ given e none files. edited_alone new.kept (ops.RemoveAttr given kind) files given [] refl e tt w);
             },
             clear_stands t.kept new.kept path kind given named (at given named) (gives can_edit).now.root,

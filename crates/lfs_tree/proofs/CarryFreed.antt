@@ -35,7 +35,7 @@ use Rattle.lfs_lookup.specs.declared.entry.Contents.TheVariants as shown
 use Rattle.lfs_tree.proofs.Carried.{behind_below, pair_blocks}
 use Rattle.lfs_tree.proofs.KeptFiles.{among_files}
 use Rattle.lfs_writer.specs.Based.{IsBase}
-use Rattle.lfs_writer.specs.Settled.{IsSettled}
+use Rattle.lfs_writer.specs.Settled.{IsMapSettled}
 
 -- ---- the blocks of a slot's file
 
@@ -183,7 +183,7 @@ module _ (t : Kept) (contents : Contents) (can : CanFree t contents) where
 
   module _ (history : List Event) (map : BlockSets) (settled : IsSettledIn t (list_shown contents) no_list (with_map t history map))
       (law : (sets later : BlockSets) (owned used before now gone come : List ℕ) → AreUsed sets owned → ((b : ℕ) → count b owned ≤ 1) → ((b : ℕ) → count b owned + count b come ≡ count b used + count b gone)
-      → ((b : ℕ) → count b now + count b gone ≡ count b come + count b before) → ((b : ℕ) → Contains now b → Contains used b) → IsSettled sets later before now → AreUsed later used) where
+      → ((b : ℕ) → count b now + count b gone ≡ count b come + count b before) → ((b : ℕ) → Contains now b → Contains used b) → IsMapSettled sets later before now → AreUsed later used) where
     used_now : AreUsed map (used_blocks t.disk t.pairs)
     used_now = law t.map map can.ready.used.owned (used_blocks t.disk t.pairs) (blocks_in_list t (list_shown contents)) (blocks_in_list t no_list) can.gone []
         can.ready.used.are (λ b. let e = can.ready.used.same b in let o = can.once b in omega arith) can.ready.used.same
@@ -218,7 +218,7 @@ module _ (t : Kept) (contents : Contents) (can : CanFree t contents) where
 
   module _ (new : Kept) (only : IsReadBesideMap t new) (settled : IsSettledIn t (list_shown contents) no_list new)
       (law : (sets later : BlockSets) (owned used before now gone come : List ℕ) → AreUsed sets owned → ((b : ℕ) → count b owned ≤ 1) → ((b : ℕ) → count b owned + count b come ≡ count b used + count b gone)
-      → ((b : ℕ) → count b now + count b gone ≡ count b come + count b before) → ((b : ℕ) → Contains now b → Contains used b) → IsSettled sets later before now → AreUsed later used) where
+      → ((b : ℕ) → count b now + count b gone ≡ count b come + count b before) → ((b : ℕ) → Contains now b → Contains used b) → IsMapSettled sets later before now → AreUsed later used) where
     pub freed_ready : IsReady new
     freed_ready = subst IsReady (sym (beside_is t new only)) (ready_here new.history new.map settled law)
 

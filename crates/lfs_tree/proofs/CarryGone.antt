@@ -9,7 +9,7 @@ use Rattle.lfs_device.specs.Bytes.{HasBytes}
 use Rattle.lfs_device.specs.declared.error.Error.{Error}
 use Rattle.lfs_device.specs.declared.error.Error.TheVariants.{Io, NoMemory}
 use Rattle.lfs_writer.specs.Settling.{IsReadBesideMap}
-use Rattle.lfs_writer.specs.Standing.{TellsWork}
+use Rattle.lfs_writer.specs.Standing.{ReportsWork}
 use Rattle.lfs_model.proofs.Orders.{length_in_order}
 use Rattle.lfs_model.specs.declared.order.NameOrder.TheVariants.{ShorterFirst}
 use Rattle.lfs_model.specs.TreeEdits.{names_of, removed}
@@ -25,8 +25,8 @@ use Rattle.lfs_model.proofs.BlockSets.{Contains-count, count-Contains}
 use Rattle.lfs_model.proofs.Committed.{IsCompleted, no_move_from}
 use Rattle.lfs_operations.specs.Dropping.{SameInFlight}
 use Rattle.lfs_operations.specs.Ready.{IsReady, IsReadyBut}
-use Rattle.lfs_operations.specs.Removing.{IsRemoved, TellsOfCalls, written_at}
-use Rattle.lfs_operations.specs.Unlinking.{CanRemoveDirectory, IsDirectoryRemoved, TellsOfSteps}
+use Rattle.lfs_operations.specs.Removing.{IsRemoved, ReportsOfCalls, written_at}
+use Rattle.lfs_operations.specs.Unlinking.{CanRemoveDirectory, IsDirectoryRemoved, ReportsOfSteps}
 use Rattle.lfs_thread.specs.Device.{four_of}
 use Rattle.lfs_thread.specs.Kept.{Kept, State}
 use Rattle.lfs_thread.specs.Steps.{Writes, pair_in}
@@ -34,11 +34,11 @@ use Rattle.lfs_operations.specs.MovingSteps.{WritesAmong}
 use Rattle.lfs_tree.specs.Allowed.{CanRemove}
 use Rattle.lfs_tree.specs.Calls as call
 use Rattle.lfs_tree.specs.Calls.{left_by}
-use Rattle.lfs_tree.specs.Carrying.{Carries, HasDone, IsAtRest, IsOperationOn, Spares, StandsAs, SurvivesTo}
+use Rattle.lfs_tree.specs.Carrying.{AppliesOn, HasDone, IsAtRest, IsOperationOn, Spares, StandsAs, SurvivesTo}
 use Rattle.lfs_tree.specs.CarryingSlots.{HasEntry, IsSlotFor, has_slot}
 use Rattle.lfs_lookup.specs.Entry.{ShowsContents}
 use Rattle.lfs_tree.specs.Going.{CanGo, HasGone, HasSpared, IsEntryOn}
-use Rattle.lfs_tree.specs.Held.{seen_kept}
+use Rattle.lfs_tree.specs.Held.{tree_state_of}
 use Rattle.lfs_lookup.specs.Paths.{LeadsTo, StandsOnPath}
 use Rattle.lfs_lookup.specs.declared.entry.Contents.{Contents}
 use Rattle.lfs_lookup.specs.declared.entry.Contents.TheVariants as contents
@@ -50,8 +50,8 @@ use Rattle.lfs_tree.proofs.Carried.{among_one, behind_below, carried, with_histo
 use Rattle.lfs_tree.proofs.CarryEdited.{can_edit, slot_found}
 use Rattle.lfs_tree.proofs.CarryFreed.{shape_geometry, written_pairs}
 use Rattle.lfs_tree.proofs.CarrySurvives.{survives_behind, survives_left}
-use Rattle.lfs_tree.proofs.CarryTold.{IsTold}
-use Rattle.lfs_tree.proofs.Operated.{changed, does_remove, quiet_told, remove_stands}
+use Rattle.lfs_tree.proofs.ReportedFaults.{ReportsFaultsSince}
+use Rattle.lfs_tree.proofs.Operated.{changed, does_remove, quiet_reported, remove_stands}
 use Rattle.lfs_lookup.proofs.Directories.{within}
 use Rattle.lfs_tree.proofs.EmptyDirectories.{at_there, bare_there}
 
@@ -68,7 +68,7 @@ entry_on t path f v l = go f l (slot_found t path f v l)
     go (found.Directory parent slot first) l e = record { ends = l.there; has = e }
     go (found.File parent slot contents) l e = record { ends = l.there; has = e }
 
-pub entry_to_remove : (t : Kept) (path : Path) → CanRemove (seen_kept t true false) path → HasEntry (tree_in t.disk t.pairs) path
+pub entry_to_remove : (t : Kept) (path : Path) → CanRemove (tree_state_of t true false) path → HasEntry (tree_in t.disk t.pairs) path
 entry_to_remove t path can = record { entry = can.entry; parents = can.parents; something = can.something }
 
 file_branch : (c : Contents) (s : Struct) → ShowsContents c s → branch_of s ≡ None
@@ -95,7 +95,7 @@ none_entered t path bare at leads =
     empty [] l = refl
     empty (x ∷ xs) l = absurd (omega arith)
 
-module _ (t : State) (root : ℕ) (rests : IsAtRest t root) (path : Path) (large : 1024 ≤ t.kept.disk.block_size) (bytes : HasBytes t.kept.disk.blocks) (can : CanRemove (seen_kept t.kept true false) path) (h : List Event) where
+module _ (t : State) (root : ℕ) (rests : IsAtRest t root) (path : Path) (large : 1024 ≤ t.kept.disk.block_size) (bytes : HasBytes t.kept.disk.blocks) (can : CanRemove (tree_state_of t.kept true false) path) (h : List Event) where
   no_entries : (at : ℕ × ℕ) → Leads t.kept.pairs path at → entries_in t.kept.pairs at ≡ []
   no_entries at leads = none_entered t.kept path can.empty at leads
 
@@ -183,7 +183,7 @@ directory_writes old new pair id first gone take w = record {
 }
 
 module _ (t : State) (root : ℕ) (rests : IsAtRest t root) (path : Path) (h : List Event) (c : Kept) (reads : OnlyReads t.kept.disk.blocks t.kept.history h) (w : WritesAmong (with_history t.kept h) c) where
-  removed_at : (given : List ℕ) → HasGone (with_history t.kept h) path c → faults c.history ≡ faults t.kept.history → as_path given ≡ path → Carries t.kept (ops.Remove given) c
+  removed_at : (given : List ℕ) → HasGone (with_history t.kept h) path c → faults c.history ≡ faults t.kept.history → as_path given ≡ path → AppliesOn t.kept (ops.Remove given) c
   removed_at given g quiet e = carried t.kept h (ops.Remove given) c
       (record {
         accepted = rests.held.sound.accepted;
@@ -205,18 +205,18 @@ same_err : {X : Type 0} (a b : Error) (r : Result X Error) → r ≡ Err a → r
 same_err a b r h k = cc
 
 -- an error of one call that is passed on
-pub steps_from : {X Y : Type 0} (old new : State) (e : Error) (result : Result X Error) (given : Result Y Error) → result ≡ Err e → given ≡ Err e → TellsOfCalls old new result → TellsOfSteps old new given
+pub steps_from : {X Y : Type 0} (old new : State) (e : Error) (result : Result X Error) (given : Result Y Error) → result ≡ Err e → given ≡ Err e → ReportsOfCalls old new result → ReportsOfSteps old new given
 steps_from {X} {Y} old new e result given is same t = record {
   failed = t.failed ∙ ap is_err is ∙ sym (ap is_err same);
-  errors = subst (λ (r : Result Y Error). IfErr r (λ x. (x ≡ Io) ⊎ (x ≡ NoMemory))) (sym same) (subst (λ (r : Result X Error). IfErr r (λ x. (x ≡ Io) ⊎ (x ≡ NoMemory))) is t.told.errors);
-  fault = λ io. t.told.fault (is ∙ ap Err (same_err e Io given same io));
-  no_fault = λ other. t.told.no_fault (λ io. other (same ∙ ap Err (same_err e Io result is io)));
+  errors = subst (λ (r : Result Y Error). IfErr r (λ x. (x ≡ Io) ⊎ (x ≡ NoMemory))) (sym same) (subst (λ (r : Result X Error). IfErr r (λ x. (x ≡ Io) ⊎ (x ≡ NoMemory))) is t.reported.errors);
+  fault = λ io. t.reported.fault (is ∙ ap Err (same_err e Io given same io));
+  no_fault = λ other. t.reported.no_fault (λ io. other (same ∙ ap Err (same_err e Io result is io)));
 }
 
 -- a call that answered, and another
-pub steps_both : {X Y : Type 0} (old mid new : State) (x : X) (result : Result X Error) (given : Result Y Error) → result ≡ Ok x → TellsOfCalls old mid result → new.failed ≡ is_err given → TellsWork mid.kept new.kept given → TellsOfSteps old new given
+pub steps_both : {X Y : Type 0} (old mid new : State) (x : X) (result : Result X Error) (given : Result Y Error) → result ≡ Ok x → ReportsOfCalls old mid result → new.failed ≡ is_err given → ReportsWork mid.kept new.kept given → ReportsOfSteps old new given
 steps_both old mid new x result given is t failed w =
-    let same = t.told.no_fault (λ io. let z = sym is ∙ io in absurd (cc)) in
+    let same = t.reported.no_fault (λ io. let z = sym is ∙ io in absurd (cc)) in
     record {
       failed = failed;
       errors = w.errors;
@@ -224,8 +224,8 @@ steps_both old mid new x result given is t failed w =
       no_fault = λ other. w.no_fault other ∙ same;
     }
 
-told_of_steps : {X : Type 0} (old new : State) (result : Result X Error) → TellsOfSteps old new result → IsTold old.kept.history new.kept.history result
-told_of_steps old new result t = record { errors = t.errors; fault = t.fault; no_fault = t.no_fault }
+reported_of_steps : {X : Type 0} (old new : State) (result : Result X Error) → ReportsOfSteps old new result → ReportsFaultsSince old.kept.history new.kept.history result
+reported_of_steps old new result t = record { errors = t.errors; fault = t.fault; no_fault = t.no_fault }
 
 -- ---- a loss of power on the way
 
@@ -247,9 +247,9 @@ module _ (t : State) (root : ℕ) (rests : IsAtRest t root) (path : Path) (h : L
   before = tree_in t.kept.disk t.kept.pairs
 
   pub remove_does : (r : Result (Unit {0}) Error) (given : List ℕ) → as_path given ≡ path → faults h ≡ faults t.kept.history → OnOk r (HasGone (with_history t.kept h) path new.kept) → OnOk r (HasSpared (with_history t.kept h) path new.kept)
-      → IsTold h new.kept.history r → OnOk r (new.failed ≡ false) → SurvivesTo (with_history t.kept h) new.kept (removed path before) → IsOperationOn t (call.Remove path) r new
-  remove_does r given named quiet gone spared told works survives =
-      changed t new (HasDone t.kept (call.Remove path)) (left_by (call.Remove path) before) h w.blocks r quiet reads w.writes told works (go r gone spared (quiet_told t.kept new.kept h r quiet told))
+      → ReportsFaultsSince h new.kept.history r → OnOk r (new.failed ≡ false) → SurvivesTo (with_history t.kept h) new.kept (removed path before) → IsOperationOn t (call.Remove path) r new
+  remove_does r given named quiet gone spared reported works survives =
+      changed t new (HasDone t.kept (call.Remove path)) (left_by (call.Remove path) before) h w.blocks r quiet reads w.writes reported works (go r gone spared (quiet_reported t.kept new.kept h r quiet reported))
       (survives_behind t root rests h new.kept w.blocks (removed path before) reads w.writes survives)
     where
       go : (r : Result (Unit {0}) Error) → OnOk r (HasGone (with_history t.kept h) path new.kept) → OnOk r (HasSpared (with_history t.kept h) path new.kept) → OnOk r (faults new.kept.history ≡ faults t.kept.history)
@@ -257,7 +257,7 @@ module _ (t : State) (root : ℕ) (rests : IsAtRest t root) (path : Path) (h : L
       go (Err e) gone spared same = tt
       go (Ok x) gone spared same = (
         record {
-          carries = does_remove (λ op. Carries t.kept op new.kept) path (λ given e. removed_at t root rests path h new.kept reads w given gone same e);
+          carries = does_remove (λ op. AppliesOn t.kept op new.kept) path (λ given e. removed_at t root rests path h new.kept reads w given gone same e);
           spares = does_remove (λ op. Spares t.kept op new.kept) path (λ given e none files. spared (record { tree = tree_in t.kept.disk t.kept.pairs; files = files }) given e);
         },
         remove_stands t.kept new.kept path given named (removed_at t root rests path h new.kept reads w given gone same named) gone.root,

@@ -17,12 +17,12 @@ use Rattle.lfs_operations.specs.Changing.{AreTwoFree, HasTwoFree}
 use Rattle.lfs_operations.specs.Making.{HasRoomFor}
 use Rattle.lfs_thread.specs.Kept.{Kept}
 use Rattle.lfs_tree.specs.Allowed.{HasRoom}
-use Rattle.lfs_tree.specs.Held.{seen_kept}
-use Rattle.lfs_tree.specs.Seen.{IsSound}
+use Rattle.lfs_tree.specs.Held.{tree_state_of}
+use Rattle.lfs_tree.specs.TreeState.{IsSound}
 
 -- ---- room
 
-pub room_for : (t : Kept) (need : ℕ) → IsSound (seen_kept t true false) → HasRoom (seen_kept t true false) need → HasRoomFor need t.map
+pub room_for : (t : Kept) (need : ℕ) → IsSound (tree_state_of t true false) → HasRoom (tree_state_of t true false) need → HasRoomFor need t.map
 room_for t need sound room =
     let e = used_count-AreUsed t.map _ sound.accepted.owned_once sound.used in
     let l = sound.size in

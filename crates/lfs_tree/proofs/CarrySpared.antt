@@ -2,7 +2,7 @@
 use Rattle.std.proofs.Common.{ℕ, ◌≡◌, ◌∙◌, ◌-◌, ◌<◌, ◌++◌, Bool, cond, true, false, List, [], ◌∷◌, length, inl, inr, refl, sym, subst, arith}
 use Rattle.std.specs.Prelude.{Any, Contains}
 use Rattle.lfs_writer.specs.Settling.{IsReadBesideMap}
-use Rattle.lfs_model.specs.Discipline.{HoldsSlot}
+use Rattle.lfs_model.specs.Frame.{HoldsSlot}
 use Rattle.lfs_model.specs.Operations as ops
 use Rattle.lfs_model.specs.Refusals.{as_path}
 use Rattle.lfs_model.specs.Thread.{Pair}

@@ -4,7 +4,7 @@ use Rattle.std.specs.Prelude.{is_none, is_some}
 use Rattle.lfs_model.specs.TreeEdits.{added}
 use Rattle.lfs_model.specs.Disk.{Disk, SameGeometry}
 use Rattle.lfs_model.specs.History.{Event, EachSince, OnlyReads}
-use Rattle.lfs_model.specs.PowerLoss.{IsLeft, Survives, with_blocks}
+use Rattle.lfs_model.specs.PowerLoss.{IsLeftByStop, Survives, with_blocks}
 use Rattle.lfs_model.specs.Tree.{FileNode, Node, Path, Tree}
 use Rattle.lfs_model.specs.View.{IsAccepted}
 use Rattle.lfs_model.specs.Profile.{IsWritable}
@@ -30,7 +30,7 @@ pub survives_left : {P : Event → Type 0} (t c : Kept) (h : List Event) (after 
     → tree_in c.disk c.pairs ≡ after → OnlyReads c.disk.blocks c.history h → SurvivesTo t c after → Survives t.disk t.history h (tree_in t.disk t.pairs) after
 survives_left t c h after geometry since accepted fits shows reads k =
     survives_then t.disk t.history c.history h (tree_in t.disk t.pairs) after since reads k
-    (λ clean. LeavesOnly-reads Stops-read reads (subst (λ disk. IsLeft disk (tree_in t.disk t.pairs) after) (sym (same_disk t.disk c.disk geometry))
+    (λ clean. LeavesOnly-reads Stops-read reads (subst (λ disk. IsLeftByStop disk (tree_in t.disk t.pairs) after) (sym (same_disk t.disk c.disk geometry))
     (record { pairs = c.pairs; accepted = accepted; writable = fits; tree = inr shows })))
   where
     same_disk : (disk new : Disk) → SameGeometry disk new → with_blocks new.blocks disk ≡ new

@@ -33,7 +33,7 @@ use Rattle.lfs_tree.proofs.OpenedFiles.{marked_there, no_flight}
 use Rattle.lfs_tree.proofs.SlotsHave.{slot_has}
 use Rattle.lfs_writer.specs.Based.{IsBase}
 use Rattle.lfs_writer.specs.Contents.{form_of}
-use Rattle.lfs_writer.specs.Hand.{IsStored as IsStoredList}
+use Rattle.lfs_writer.specs.Hand.{IsListStored as IsStoredList}
 use Rattle.lfs_writer.specs.declared.contents.Contents.{Contents}
 use Rattle.lfs_writer.specs.declared.contents.Contents.TheVariants.{InMemory, Finished, InHand}
 use Rattle.lfs_writer.specs.declared.stored.Stored.{Stored}

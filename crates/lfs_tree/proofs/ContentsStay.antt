@@ -15,7 +15,7 @@ use Rattle.lfs_ctz.specs.declared.rest.Rest.{Rest}
 use Rattle.lfs_ctz.specs.declared.rest.Rest.TheVariants.{Closed, Shared, Handed, Held}
 use Rattle.lfs_writer.specs.Apart.{IsApart}
 use Rattle.lfs_writer.specs.Based.{IsBase, list_blocks}
-use Rattle.lfs_writer.specs.Hand.{IsHand, IsStored, hand_bytes, stored_bytes}
+use Rattle.lfs_writer.specs.Hand.{IsHand, IsListStored, hand_bytes, stored_bytes}
 use Rattle.lfs_writer.specs.declared.stored.Stored.{Stored}
 
 -- what holds of each member
@@ -75,7 +75,7 @@ module _ (map later : BlockSets) (d e : Blocks) (block_size : ℕ) (s : Stored) 
   pub bytes_stay : stored_bytes e block_size s ≡ stored_bytes d block_size s
   bytes_stay = bytes_same d e block_size s.head s.size each_same
 
-  pub stored_stays : IsStored map d block_size s → IsStored later e block_size s
+  pub stored_stays : IsListStored map d block_size s → IsListStored later e block_size s
   stored_stays is = record {
     base = base_stays is.base;
     count = stay.size ∙ is.count ∙ sym stay.count;

@@ -30,9 +30,9 @@ use Rattle.lfs_model.proofs.Fresh.{accepted, shows, writable}
 use Rattle.lfs_model.proofs.BlockSets.{Contains-cons, Contains-head, Contains-tail}
 use Rattle.lfs_pair.specs.Commit.{IsAddressOn}
 use Rattle.lfs_pair.specs.Fresh as pair
-use Rattle.lfs_pair.specs.Writing.{Holds}
+use Rattle.lfs_pair.specs.Writing.{HoldsLogContent}
 use Rattle.lfs_thread.specs.Device.{two_of}
-use Rattle.lfs_thread.specs.Kept.{AllUsed, Header, Kept, WasKept, pair_on, pairs_on, seen, seen_on}
+use Rattle.lfs_thread.specs.Kept.{AllUsed, Header, Kept, WasKept, pair_on, pairs_on, kept_view, kept_view_on}
 use Rattle.lfs_thread.specs.Steps.{Writes}
 use Rattle.lfs_tree.specs.Formatting.{IsEmptyMap, IsEmptyRoot, IsEmptyThread, IsFormatted, ShowsEmptyRoot, put_superblock, superblock_alone}
 
@@ -146,7 +146,7 @@ module _ (disk : Disk) (before history : List Event) (h : Header) (g : IsGeometr
       content = ap (option_and_then completed) is.holds.content ∙ ap completed new_is ∙ completes disk;
       first = begins;
     };
-    first = subst (λ c. Holds 1 c (block_at disk 0)) new_is is.fresh.anew;
+    first = subst (λ c. HoldsLogContent 1 c (block_at disk 0)) new_is is.fresh.anew;
     second = is.fresh.cleared;
   }
 
@@ -196,7 +196,7 @@ pub empty_kept : (disk : Disk) (history : List Event) (hs : List Header) (sets :
 empty_kept disk history hs sets n count thread map =
     subst (λ z. WasKept disk history z sets) (sym thread.only) (kept disk history thread.first sets thread.root (subst (λ k. IsEmptyMap k sets) (sym count) map))
 
-pub empty_formatted : (disk : Disk) (history : List Event) (hs : List Header) (sets : BlockSets) (n : ℕ) → block_count disk ≡ n → IsEmptyThread disk history hs → IsEmptyMap n sets → IsFormatted (seen disk history hs sets)
+pub empty_formatted : (disk : Disk) (history : List Event) (hs : List Header) (sets : BlockSets) (n : ℕ) → block_count disk ≡ n → IsEmptyThread disk history hs → IsEmptyMap n sets → IsFormatted (kept_view disk history hs sets)
 empty_formatted disk history hs sets n count thread map = record {
   fresh = thread.root.fresh;
   first = thread.root.first;
@@ -215,7 +215,7 @@ shows_empty t h = record {
 }
 
 -- what was written of the device, in the words of the thread
-pub wrote : {D : Type 0} (g : Ghosts D) {old new : D} (hs : List Header) (sets : BlockSets) (bs : List ℕ) → ChangesOnly g bs old new → Writes bs (seen_on g old [] []) (seen_on g new hs sets)
+pub wrote : {D : Type 0} (g : Ghosts D) {old new : D} (hs : List Header) (sets : BlockSets) (bs : List ℕ) → ChangesOnly g bs old new → Writes bs (kept_view_on g old [] []) (kept_view_on g new hs sets)
 wrote g hs sets bs w = record {
   others = w.others;
   elsewhere = w.elsewhere;

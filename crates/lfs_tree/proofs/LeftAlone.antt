@@ -7,7 +7,7 @@ use Rattle.std.proofs.lemmas.Option.{same_Some}
 use Rattle.lfs_model.proofs.BlockSets.{Contains-count}
 use Rattle.lfs_model.proofs.Splices.{files_of}
 use Rattle.lfs_model.specs.BlockSets.{AreUsed, IsFree}
-use Rattle.lfs_model.specs.Discipline.{HoldsSlot, IsNamed, LeavesAlone, paths_of, pairs_at, run_of}
+use Rattle.lfs_model.specs.Frame.{HoldsSlot, IsNamed, LeavesAlone, paths_of, pairs_at, run_of}
 use Rattle.lfs_model.specs.Disk.{Disk, block_at}
 use Rattle.lfs_model.specs.InDirectory.{BeginsAt, IsBehind, IsJoined, Stands}
 use Rattle.lfs_model.specs.Names.{Name, same_name}

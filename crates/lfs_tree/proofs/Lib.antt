@@ -9,7 +9,7 @@ pub mod Carried
 pub mod CarryPlaces
 pub mod CarryRooms
 pub mod CarryLogged
-pub mod CarryTold
+pub mod ReportedFaults
 pub mod CarryCreated
 pub mod CreateExamples
 pub mod CarryEdited

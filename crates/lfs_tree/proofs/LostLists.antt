@@ -35,7 +35,7 @@ use Rattle.lfs_tree.specs.Going.{no_list}
 use Rattle.lfs_tree.specs.LostLists.{CanFreeLists, blocks_in_lists, list_named, list_typed, lists_named, lists_typed}
 use Rattle.lfs_tree.proofs.CarryFreed.{beside_is, not_both, not_free, with_map}
 use Rattle.lfs_writer.specs.Based.{IsBase}
-use Rattle.lfs_writer.specs.Settled.{IsSettled}
+use Rattle.lfs_writer.specs.Settled.{IsMapSettled}
 use Rattle.lfs_writer.specs.declared.stored.Stored.{Stored}
 
 -- ---- which lists
@@ -158,7 +158,7 @@ all_freed t lists none can = go (subst (CanFreeLists t) none can)
 
 abbrev pub IsExact : Type 0
 IsExact = (sets later : BlockSets) (owned used before now gone come : List ℕ) → AreUsed sets owned → ((b : ℕ) → count b owned ≤ 1) → ((b : ℕ) → count b owned + count b come ≡ count b used + count b gone)
-    → ((b : ℕ) → count b now + count b gone ≡ count b come + count b before) → ((b : ℕ) → Contains now b → Contains used b) → IsSettled sets later before now → AreUsed later used
+    → ((b : ℕ) → count b now + count b gone ≡ count b come + count b before) → ((b : ℕ) → Contains now b → Contains used b) → IsMapSettled sets later before now → AreUsed later used
 
 module _ (t : Kept) (list : Stored) (rest : List Stored) (can : CanFreeLists t (list ∷ rest)) where
   both : (b : ℕ) → count b (blocks_in_lists t (list ∷ rest)) ≡ count b (blocks_in_list t list) + count b (blocks_in_lists t rest)

@@ -22,13 +22,13 @@ use Rattle.lfs_thread.specs.Device.{GivesBack}
 use Rattle.lfs_thread.specs.Kept.{Kept, State, disk_on}
 use Rattle.lfs_thread.specs.Steps.{IsOnlyRead}
 use Rattle.lfs_tree.specs.Formatting.{IsFormatted, ShowsEmptyRoot}
-use Rattle.lfs_tree.specs.Held.{IsRooted, seen_kept, seen_thread}
+use Rattle.lfs_tree.specs.Held.{IsRooted, tree_state_of, seen_thread}
 use Rattle.lfs_lookup.specs.Reading.{IsReading}
-use Rattle.lfs_tree.specs.Seen.{IsMountedTree, IsSound}
+use Rattle.lfs_tree.specs.TreeState.{IsMountedTree, IsSound}
 use Rattle.lfs_lookup.proofs.Reading.{HasRead, same_error}
 
 -- what is sound stays so where it was only read
-pub sound_read : (a b : Kept) (writable failed now : Bool) → IsOnlyRead a b → IsSound (seen_kept a writable failed) → IsSound (seen_kept b writable now)
+pub sound_read : (a b : Kept) (writable failed now : Bool) → IsOnlyRead a b → IsSound (tree_state_of a writable failed) → IsSound (tree_state_of b writable now)
 sound_read a b writable failed now r s = record {
   accepted = subst (λ (d : Disk). IsAccepted d b.pairs) (sym r.disk) (subst (λ (ps : List Pair). IsAccepted a.disk ps) (sym r.pairs) s.accepted);
   fits = λ e. subst (λ (d : Disk). IsWritable d b.pairs) (sym r.disk) (subst (λ (ps : List Pair). IsWritable a.disk ps) (sym r.pairs) (s.fits e));
@@ -44,7 +44,7 @@ none_twice = tt
 
 module _ (disk : Disk) (history : List Event) (a b : State) (root : ℕ) (writable : Bool) (m : IsMounted disk history a) (r : HasRead a b)
     (is : root ≡ superblocks_before a.kept.pairs) (fits : IsTrue writable ↔ IsWritable a.kept.disk a.kept.pairs) where
-  sound_now : IsSound (seen_kept b.kept writable false)
+  sound_now : IsSound (tree_state_of b.kept writable false)
   sound_now = sound_read a.kept b.kept writable false false r.only (record {
     accepted = subst (λ (d : Disk). IsAccepted d a.kept.pairs) (sym m.disk_is) m.accepted;
     fits = λ e. fits.0 e;
@@ -73,8 +73,8 @@ pub read_back : {D X : Type 0} (g : Ghosts D) (old back : D) (a b : State) (r : 
 read_back {X = X} g old back a b r e m is read same later = record {
   disk = same ∙ read.only.disk ∙ m.disk_is;
   reads = subst (λ (h : List Event). OnlyReads (g.blocks old) (g.history old) h) (sym later) (OnlyReads-trans m.reads read.only.reads (ap (λ (d : Disk). d.blocks) m.disk_is));
-  fault = λ io. (let k = read.told.fault (is ∙ ap Err io) in let n = m.no_fault in let l = ap faults later in omega (arith, k, n, l));
-  no_fault = λ other. ap faults later ∙ read.told.no_fault (λ z. other (same_error X e Io (sym is ∙ z))) ∙ m.no_fault;
+  fault = λ io. (let k = read.reported.fault (is ∙ ap Err io) in let n = m.no_fault in let l = ap faults later in omega (arith, k, n, l));
+  no_fault = λ other. ap faults later ∙ read.reported.no_fault (λ z. other (same_error X e Io (sym is ∙ z))) ∙ m.no_fault;
 }
 
 -- the same of a device whose names are in an order that was found
@@ -84,13 +84,13 @@ pub given_back_either : {D X : Type 0} (g : Ghosts D) (old back : D) (order : Na
 given_back_either {X = X} g old back order a b r e m is read same later = record {
   disk = λ other. ap (ordered other) (same ∙ read.only.disk ∙ m.disk_is);
   reads = subst (λ (h : List Event). OnlyReads (g.blocks old) (g.history old) h) (sym later) (OnlyReads-trans m.reads read.only.reads (ap (λ (d : Disk). d.blocks) m.disk_is));
-  fault = λ io. (let k = read.told.fault (is ∙ ap Err io) in let n = m.no_fault in let l = ap faults later in omega (arith, k, n, l));
-  no_fault = λ other. ap faults later ∙ read.told.no_fault (λ z. other (same_error X e Io (sym is ∙ z))) ∙ m.no_fault;
+  fault = λ io. (let k = read.reported.fault (is ∙ ap Err io) in let n = m.no_fault in let l = ap faults later in omega (arith, k, n, l));
+  no_fault = λ other. ap faults later ∙ read.reported.no_fault (λ z. other (same_error X e Io (sym is ∙ z))) ∙ m.no_fault;
 }
 
 -- a fresh image as a tree
 module _ (t : State) (works : t.failed ≡ false) (f : IsFormatted t.kept) (s : ShowsEmptyRoot t.kept) where
-  pub fresh_sound : IsSound (seen_kept t.kept true false)
+  pub fresh_sound : IsSound (tree_state_of t.kept true false)
   fresh_sound = record {
     accepted = s.accepted;
     fits = λ e. s.writable;

@@ -41,7 +41,7 @@ use Rattle.lfs_tree.proofs.SlotsHave.{slot_has}
 use Rattle.lfs_writer.specs.Contents.{HasContents, IsIdle, form_of}
 use Rattle.lfs_writer.specs.Form as form
 use Rattle.lfs_writer.specs.Form.{Form}
-use Rattle.lfs_writer.specs.Hand.{IsStored}
+use Rattle.lfs_writer.specs.Hand.{IsListStored}
 use Rattle.lfs_writer.specs.declared.contents.Contents.{Contents}
 use Rattle.lfs_writer.specs.declared.contents.Contents.TheVariants.{InMemory, Finished, InHand}
 use Rattle.lfs_writer.specs.declared.stored.Stored.{Stored}
@@ -90,7 +90,7 @@ opened_list t geometry head size slot held divided can =
     let is : held.struct ≡ Ctz head size = can.file.shows in
     let list : IsList t.disk.blocks t.disk.block_size head size = subst (IsListIfCtz t.disk) is can.file.list in
     let s : Stored = record { head = head; size = size; in_flight = false } in
-    let stands : IsStored t.map t.disk.blocks t.disk.block_size (record { head = head; size = size; in_flight = false }) = record {
+    let stands : IsListStored t.map t.disk.blocks t.disk.block_size (record { head = head; size = size; in_flight = false }) = record {
       base = inr list;
       count = can.idle.count;
       marked = subst (λ (z : Struct). All (λ b. ¬ (IsFree t.map b)) (file_blocks t.disk z)) is can.marked;
@@ -101,7 +101,7 @@ opened_list t geometry head size slot held divided can =
         geometry = geometry;
         divided = divided;
         has = record {
-          stands = subst (λ (n : ℕ). IsStored t.map t.disk.blocks n (record { head = head; size = size; in_flight = false })) (sym divided.block_size) stands;
+          stands = subst (λ (n : ℕ). IsListStored t.map t.disk.blocks n (record { head = head; size = size; in_flight = false })) (sym divided.block_size) stands;
           has = ap (λ (n : ℕ). bytes_of t.disk.blocks n head size) divided.block_size ∙ sym (ap (bytes_shown t.disk) is);
           form = refl;
         };

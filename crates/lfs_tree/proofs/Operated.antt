@@ -18,15 +18,15 @@ use Rattle.lfs_thread.specs.Kept.{Kept, State}
 use Rattle.lfs_thread.specs.Steps.{Writes}
 use Rattle.lfs_tree.specs.Calls as call
 use Rattle.lfs_tree.specs.Calls.{Does, left_by}
-use Rattle.lfs_tree.specs.Carrying.{Carries, HasCalled, IsAtRest, IsChange, StandsAs, SurvivesTo, TellsError}
+use Rattle.lfs_tree.specs.Carrying.{AppliesOn, HasCalled, IsAtRest, IsChange, StandsAs, SurvivesTo, ReportsError}
 use Rattle.lfs_tree.specs.CarryingSlots.{with_attributes_changed}
-use Rattle.lfs_tree.specs.Held.{seen_kept}
-use Rattle.lfs_tree.specs.Seen.{around_of}
+use Rattle.lfs_tree.specs.Held.{tree_state_of}
+use Rattle.lfs_tree.specs.TreeState.{around_of}
 use Rattle.lfs_lookup.specs.Reading.{IsReading}
 use Rattle.lfs_lookup.proofs.Reading.{same_error}
 use Rattle.lfs_tree.proofs.Carried.{with_history}
 use Rattle.lfs_tree.proofs.CarrySurvives.{created_shows, survives_reading}
-use Rattle.lfs_tree.proofs.CarryTold.{IsTold, called_by_reading, called_by_writing, tells_error}
+use Rattle.lfs_tree.proofs.ReportedFaults.{ReportsFaultsSince, called_by_reading, called_by_writing, reports_error}
 
 -- ---- the operations that a call does
 
@@ -73,54 +73,54 @@ plain_clear path kind = does_clear IsPlain path kind (λ given e. (refl, refl))
 -- ---- what one of them leaves
 
 module _ (a c : Kept) where
-  stands : (tree : Tree) (op : Operation) → Carries a op c → KeepsRoot a c → tree_in c.disk c.pairs ≡ tree → StandsAs a tree c
+  stands : (tree : Tree) (op : Operation) → AppliesOn a op c → KeepsRoot a c → tree_in c.disk c.pairs ≡ tree → StandsAs a tree c
   stands tree op k root shows = record { sound = k.sound; fits = k.fits; root = root; shows = shows; no_fault = k.no_fault }
 
-  pub mkdir_stands : (path : Path) (given : List ℕ) → as_path given ≡ path → Carries a (ops.Mkdir given) c → KeepsRoot a c → StandsAs a (left_by (call.Mkdir path) (tree_in a.disk a.pairs)) c
-  mkdir_stands path given e k root = stands _ (ops.Mkdir given) k root (k.shows (around_of (seen_kept a true false)) [] ∙ ap (λ p. added p (DirectoryNode [] []) (tree_in a.disk a.pairs)) e)
+  pub mkdir_stands : (path : Path) (given : List ℕ) → as_path given ≡ path → AppliesOn a (ops.Mkdir given) c → KeepsRoot a c → StandsAs a (left_by (call.Mkdir path) (tree_in a.disk a.pairs)) c
+  mkdir_stands path given e k root = stands _ (ops.Mkdir given) k root (k.shows (around_of (tree_state_of a true false)) [] ∙ ap (λ p. added p (DirectoryNode [] []) (tree_in a.disk a.pairs)) e)
 
-  pub create_stands : (path : Path) (given : List ℕ) (flags : Flags) → is_some (tree_in a.disk a.pairs path) ≡ false → as_path given ≡ path → Carries a (ops.Open given flags) c → KeepsRoot a c → StandsAs a (left_by (call.Create path) (tree_in a.disk a.pairs)) c
-  create_stands path given flags nothing e k root = stands _ (ops.Open given flags) k root (k.shows (around_of (seen_kept a true false)) [] ∙ created_shows (tree_in a.disk a.pairs) path (as_path given) e nothing)
+  pub create_stands : (path : Path) (given : List ℕ) (flags : Flags) → is_some (tree_in a.disk a.pairs path) ≡ false → as_path given ≡ path → AppliesOn a (ops.Open given flags) c → KeepsRoot a c → StandsAs a (left_by (call.Create path) (tree_in a.disk a.pairs)) c
+  create_stands path given flags nothing e k root = stands _ (ops.Open given flags) k root (k.shows (around_of (tree_state_of a true false)) [] ∙ created_shows (tree_in a.disk a.pairs) path (as_path given) e nothing)
 
-  pub remove_stands : (path : Path) (given : List ℕ) → as_path given ≡ path → Carries a (ops.Remove given) c → KeepsRoot a c → StandsAs a (left_by (call.Remove path) (tree_in a.disk a.pairs)) c
-  remove_stands path given e k root = stands _ (ops.Remove given) k root (k.shows (around_of (seen_kept a true false)) [] ∙ ap (λ p. removed p (tree_in a.disk a.pairs)) e)
+  pub remove_stands : (path : Path) (given : List ℕ) → as_path given ≡ path → AppliesOn a (ops.Remove given) c → KeepsRoot a c → StandsAs a (left_by (call.Remove path) (tree_in a.disk a.pairs)) c
+  remove_stands path given e k root = stands _ (ops.Remove given) k root (k.shows (around_of (tree_state_of a true false)) [] ∙ ap (λ p. removed p (tree_in a.disk a.pairs)) e)
 
-  pub rename_stands : (from to : Path) (given to_given : List ℕ) → as_path given ≡ from → as_path to_given ≡ to → Carries a (ops.Rename given to_given) c → KeepsRoot a c → StandsAs a (left_by (call.Rename from to) (tree_in a.disk a.pairs)) c
-  rename_stands from to given to_given e f k root = stands _ (ops.Rename given to_given) k root (k.shows (around_of (seen_kept a true false)) [] ∙ ap₂ (λ p q. renamed p q (tree_in a.disk a.pairs)) e f)
+  pub rename_stands : (from to : Path) (given to_given : List ℕ) → as_path given ≡ from → as_path to_given ≡ to → AppliesOn a (ops.Rename given to_given) c → KeepsRoot a c → StandsAs a (left_by (call.Rename from to) (tree_in a.disk a.pairs)) c
+  rename_stands from to given to_given e f k root = stands _ (ops.Rename given to_given) k root (k.shows (around_of (tree_state_of a true false)) [] ∙ ap₂ (λ p q. renamed p q (tree_in a.disk a.pairs)) e f)
 
-  pub set_stands : (path : Path) (kind : ℕ) (bytes given : List ℕ) → as_path given ≡ path → Carries a (ops.SetAttr given kind bytes) c → KeepsRoot a c → StandsAs a (left_by (call.SetAttr path kind bytes) (tree_in a.disk a.pairs)) c
-  set_stands path kind bytes given e k root = stands _ (ops.SetAttr given kind bytes) k root (k.shows (around_of (seen_kept a true false)) [] ∙ ap (λ p. with_attributes_changed p (put_attribute kind bytes) (tree_in a.disk a.pairs)) e)
+  pub set_stands : (path : Path) (kind : ℕ) (bytes given : List ℕ) → as_path given ≡ path → AppliesOn a (ops.SetAttr given kind bytes) c → KeepsRoot a c → StandsAs a (left_by (call.SetAttr path kind bytes) (tree_in a.disk a.pairs)) c
+  set_stands path kind bytes given e k root = stands _ (ops.SetAttr given kind bytes) k root (k.shows (around_of (tree_state_of a true false)) [] ∙ ap (λ p. with_attributes_changed p (put_attribute kind bytes) (tree_in a.disk a.pairs)) e)
 
-  pub clear_stands : (path : Path) (kind : ℕ) (given : List ℕ) → as_path given ≡ path → Carries a (ops.RemoveAttr given kind) c → KeepsRoot a c → StandsAs a (left_by (call.RemoveAttr path kind) (tree_in a.disk a.pairs)) c
-  clear_stands path kind given e k root = stands _ (ops.RemoveAttr given kind) k root (k.shows (around_of (seen_kept a true false)) [] ∙ ap (λ p. with_attributes_changed p (without_attribute kind) (tree_in a.disk a.pairs)) e)
+  pub clear_stands : (path : Path) (kind : ℕ) (given : List ℕ) → as_path given ≡ path → AppliesOn a (ops.RemoveAttr given kind) c → KeepsRoot a c → StandsAs a (left_by (call.RemoveAttr path kind) (tree_in a.disk a.pairs)) c
+  clear_stands path kind given e k root = stands _ (ops.RemoveAttr given kind) k root (k.shows (around_of (tree_state_of a true false)) [] ∙ ap (λ p. with_attributes_changed p (without_attribute kind) (tree_in a.disk a.pairs)) e)
 
 -- ---- what the steps told
 
-pub works_told : {X : Type 0} (new : State) (r : Result X Error) → new.failed ≡ is_err r → OnOk r (new.failed ≡ false)
-works_told new (Ok x) e = e
-works_told new (Err e) f = tt
+pub works_reported : {X : Type 0} (new : State) (r : Result X Error) → new.failed ≡ is_err r → OnOk r (new.failed ≡ false)
+works_reported new (Ok x) e = e
+works_reported new (Err e) f = tt
 
 pub works_put : {X : Type 0} (new : State) (r : Result X Error) → new.failed ≡ has_failed r → OnOk r (new.failed ≡ false)
 works_put new (Ok x) e = e
 works_put new (Err e) f = tt
 
-pub quiet_told : {X : Type 0} (a c : Kept) (h : List Event) (r : Result X Error) → faults h ≡ faults a.history → IsTold h c.history r → OnOk r (faults c.history ≡ faults a.history)
-quiet_told a c h (Ok x) same t = t.no_fault (λ io. absurd (cc)) ∙ same
-quiet_told a c h (Err e) same t = tt
+pub quiet_reported : {X : Type 0} (a c : Kept) (h : List Event) (r : Result X Error) → faults h ≡ faults a.history → ReportsFaultsSince h c.history r → OnOk r (faults c.history ≡ faults a.history)
+quiet_reported a c h (Ok x) same t = t.no_fault (λ io. absurd (cc)) ∙ same
+quiet_reported a c h (Err e) same t = tt
 
-errors_told : {X : Type 0} (a c : Kept) (h : List Event) (r : Result X Error) → faults h ≡ faults a.history → IsTold h c.history r → IfErr r (TellsError a c)
-errors_told a c h (Ok x) same t = tt
-errors_told {X} a c h (Err e) same t = (let r : Result X Error = Err e in tells_error a c h r e same t refl)
+errors_reported : {X : Type 0} (a c : Kept) (h : List Event) (r : Result X Error) → faults h ≡ faults a.history → ReportsFaultsSince h c.history r → IfErr r (ReportsError a c)
+errors_reported a c h (Ok x) same t = tt
+errors_reported {X} a c h (Err e) same t = (let r : Result X Error = Err e in reports_error a c h r e same t refl)
 
 -- a change, behind calls that only read
 pub changed : {X : Type 0} (t new : State) (Done : Kept → Type 0) (after : Tree) (h : List Event) (bs : List ℕ) (r : Result X Error) → faults h ≡ faults t.kept.history → OnlyReads t.kept.disk.blocks t.kept.history h → Writes bs (with_history t.kept h) new.kept
-    → IsTold h new.kept.history r → OnOk r (new.failed ≡ false) → OnOk r (Done new.kept × StandsAs t.kept after new.kept) → SurvivesTo t.kept new.kept after → IsChange t Done after r new
-changed t new Done after h bs r same reads w told works both survives = record {
+    → ReportsFaultsSince h new.kept.history r → OnOk r (new.failed ≡ false) → OnOk r (Done new.kept × StandsAs t.kept after new.kept) → SurvivesTo t.kept new.kept after → IsChange t Done after r new
+changed t new Done after h bs r same reads w reported works both survives = record {
   done = first r both;
   works = works;
   stands = second r both;
   called = called_by_writing t.kept h new.kept bs reads w;
-  errors = errors_told t.kept new.kept h r same told;
+  errors = errors_reported t.kept new.kept h r same reported;
   survives = survives;
 }
   where
@@ -143,10 +143,10 @@ only_read_change {X} t root rests mid Done after r e is k =
       works = tt;
       stands = tt;
       called = called_by_reading t.kept mid.kept k.only;
-      errors = record { errors = k.told.errors; fault = λ io. k.told.fault (ap Err io); no_fault = λ other. k.told.no_fault (λ z. other (same_error X e Io z)) };
+      errors = record { errors = k.reported.errors; fault = λ io. k.reported.fault (ap Err io); no_fault = λ other. k.reported.no_fault (λ z. other (same_error X e Io z)) };
       survives = survives_reading t root rests mid.kept.history k.only.reads after;
     }
 
 -- one that failed
-pub failed_change : {X : Type 0} (t new : State) (Done : Kept → Type 0) (after : Tree) (r : Result X Error) (e : Error) → r ≡ Err e → HasCalled t.kept new.kept → TellsError t.kept new.kept e → SurvivesTo t.kept new.kept after → IsChange t Done after r new
-failed_change {X} t new Done after r e is called told survives = subst (λ (z : Result X Error). IsChange t Done after z new) (sym is) (record { done = tt; works = tt; stands = tt; called = called; errors = told; survives = survives })
+pub failed_change : {X : Type 0} (t new : State) (Done : Kept → Type 0) (after : Tree) (r : Result X Error) (e : Error) → r ≡ Err e → HasCalled t.kept new.kept → ReportsError t.kept new.kept e → SurvivesTo t.kept new.kept after → IsChange t Done after r new
+failed_change {X} t new Done after r e is called reported survives = subst (λ (z : Result X Error). IsChange t Done after z new) (sym is) (record { done = tt; works = tt; stands = tt; called = called; errors = reported; survives = survives })

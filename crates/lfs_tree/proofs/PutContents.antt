@@ -19,11 +19,11 @@ use Rattle.lfs_model.specs.Shown.{file_blocks, tree_in}
 use Rattle.lfs_model.specs.WrittenContent.{pair_bytes}
 use Rattle.lfs_model.proofs.Counts.{count}
 use Rattle.lfs_model.proofs.WrittenAnew.{kind_of-tag_with, len_of-tag_with}
-use Rattle.lfs_writer.specs.Standing.{StandsIn, TellsWork}
-use Rattle.lfs_operations.specs.Changing.{TellsPut}
+use Rattle.lfs_writer.specs.Standing.{StandsIn, ReportsWork}
+use Rattle.lfs_operations.specs.Changing.{ReportsPut}
 use Rattle.lfs_operations.specs.Editing.{slot_at}
 use Rattle.lfs_operations.specs.Making.{HasRoomFor}
-use Rattle.lfs_operations.specs.Storing.{CanStore, IsStored}
+use Rattle.lfs_operations.specs.Storing.{CanStore, IsStructSet}
 use Rattle.lfs_thread.specs.Kept.{Kept, State}
 use Rattle.lfs_lookup.specs.Entry.{ShowsContents}
 use Rattle.lfs_tree.specs.OpenContents.{bytes_held}
@@ -34,9 +34,9 @@ use Rattle.lfs_lookup.specs.declared.entry.Contents.TheVariants as entry
 use Rattle.lfs_lookup.specs.declared.paths.Found.{Found}
 use Rattle.lfs_lookup.specs.declared.paths.Found.TheVariants as found
 use Rattle.lfs_lookup.specs.declared.search.Spot.{Spot}
-use Rattle.lfs_tree.specs.declared.storing.FileSlot.{FileSlot}
+use Rattle.lfs_tree.specs.declared.contents_at.FileSlot.{FileSlot}
 use Rattle.lfs_lookup.proofs.AtPaths.{directory_at_path, nothing_at, refused_none}
-use Rattle.lfs_tree.proofs.CarryTold.{told_with_room}
+use Rattle.lfs_tree.proofs.ReportedFaults.{reported_with_room}
 use Rattle.lfs_writer.specs.Contents.{form_of, held_bytes}
 use Rattle.lfs_writer.specs.declared.contents.Contents.{Contents}
 use Rattle.lfs_writer.specs.declared.contents.Contents.TheVariants.{InMemory}
@@ -96,8 +96,8 @@ module _ (t : Kept) (spot : Spot) (contents : Contents) (can : CanPutContents t 
   }
 
 pub stored_from : (t new : Kept) (spot : Spot) (contents : Contents) (kind : ℕ) (bytes : List ℕ) → IsPart 2 (kind, bytes) → struct_typed kind bytes ≡ struct_in contents → (r : Result (Unit {0}) Error)
-    → OnOk r ((store : CanStore t spot.pair spot.id kind bytes) → IsStored t new store.can.path store.can.name store.contents store.gone store.come)
-    → OnOk r ((can : CanPutContents t spot contents) → IsStored t new can.can.path can.can.name (bytes_held t contents) can.come.gone can.come.come)
+    → OnOk r ((store : CanStore t spot.pair spot.id kind bytes) → IsStructSet t new store.can.path store.can.name store.contents store.gone store.come)
+    → OnOk r ((can : CanPutContents t spot contents) → IsStructSet t new can.can.path can.can.name (bytes_held t contents) can.come.gone can.come.come)
 stored_from t new spot contents kind bytes part is (Err e) h = tt
 stored_from t new spot contents kind bytes part is (Ok u) h = λ can. h (store_of t spot contents can kind bytes part is)
 
@@ -132,7 +132,7 @@ held_struct contents list bytes is e = ap (λ b. Inline b) e ∙ sym (ap struct_
 
 -- ---- what it tells
 
-pub tells_put : (old new : State) (pair : ℕ) (id kind : ℕ) (bytes : List ℕ) (r : Result (Unit {0}) Error) → HasRoomFor 2 old.kept.map → TellsPut old new pair (PutStruct id kind bytes ∷ []) r → TellsWork old.kept new.kept r
-tells_put old new pair id kind bytes r room tells =
-    let t = told_with_room old.kept new.kept r room tells.tells.tells in
+pub reports_put : (old new : State) (pair : ℕ) (id kind : ℕ) (bytes : List ℕ) (r : Result (Unit {0}) Error) → HasRoomFor 2 old.kept.map → ReportsPut old new pair (PutStruct id kind bytes ∷ []) r → ReportsWork old.kept new.kept r
+reports_put old new pair id kind bytes r room reports =
+    let t = reported_with_room old.kept new.kept r room reports.reports.reports in
     record { errors = t.errors; fault = t.fault; no_fault = t.no_fault }

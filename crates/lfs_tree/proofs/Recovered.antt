@@ -6,7 +6,7 @@ use Rattle.std.proofs.lemmas.Option.{same_Some}
 use Rattle.lfs_device.specs.declared.error.Error.{Error}
 use Rattle.lfs_device.specs.declared.error.Error.TheVariants.{Io, NoMemory}
 use Rattle.lfs_writer.specs.Settling.{IsReadBesideMap}
-use Rattle.lfs_writer.specs.Standing.{TellsWork}
+use Rattle.lfs_writer.specs.Standing.{ReportsWork}
 use Rattle.lfs_model.specs.BlockSets.{AreUsed, IsInFlight, IsUsed}
 use Rattle.lfs_model.specs.BlockSets.BlockState.{InFlight, Used}
 use Rattle.lfs_model.specs.Disk.{Disk}
@@ -14,7 +14,7 @@ use Rattle.lfs_model.specs.History.{EachEvent, EachSince, Event, OnlyReads, faul
 use Rattle.lfs_model.specs.Keeping.{struct_at}
 use Rattle.lfs_model.specs.Layout.{onward}
 use Rattle.lfs_model.specs.Operations as ops
-use Rattle.lfs_model.specs.PowerLoss.{IsLeft, Survives, with_blocks}
+use Rattle.lfs_model.specs.PowerLoss.{IsLeftByStop, Survives, with_blocks}
 use Rattle.lfs_model.specs.Session.{Files, Session}
 use Rattle.lfs_model.specs.Slots.{Gstate, no_gstate}
 use Rattle.lfs_model.specs.WrittenContent.{is_no_gstate}
@@ -36,16 +36,16 @@ use Rattle.lfs_model.proofs.Global.{HasNoMove}
 use Rattle.lfs_model.proofs.Histories.{LeavesOnly-reads, LeavesOnly-weaker, Stops-read, unprogrammed-reads}
 use Rattle.lfs_operations.specs.Dropping.{SameInFlight}
 use Rattle.lfs_operations.specs.Ready.{IsReady}
-use Rattle.lfs_operations.specs.Recovering.{AreUnreached, AreUnreachedFrom, CanDropUnreached, HasRecovered, TellsOfSteps}
+use Rattle.lfs_operations.specs.Recovering.{AreUnreached, AreUnreachedFrom, CanDropUnreached, HasRecovered, ReportsOfSteps}
 use Rattle.lfs_operations.specs.EndingMove.{CanEndMove, HasEndedMove}
 use Rattle.lfs_operations.proofs.RecoverMap.{count_used}
 use Rattle.lfs_operations.proofs.RecoverWrites.{none_there}
 use Rattle.lfs_thread.specs.Kept.{Kept, State}
-use Rattle.lfs_thread.specs.Steps.{HasTold, IsOnlyRead, Writes}
-use Rattle.lfs_tree.specs.Carrying.{Carries, HasCalled, SurvivesTo, TellsError}
-use Rattle.lfs_tree.specs.Held.{IsHeld, IsRooted, seen_kept, seen_thread}
+use Rattle.lfs_thread.specs.Steps.{HasReported, IsOnlyRead, Writes}
+use Rattle.lfs_tree.specs.Carrying.{AppliesOn, HasCalled, SurvivesTo, ReportsError}
+use Rattle.lfs_tree.specs.Held.{IsHeld, IsRooted, tree_state_of, seen_thread}
 use Rattle.lfs_tree.specs.Recovering.{CanDropLost, HasDroppedLost}
-use Rattle.lfs_tree.specs.Seen.{IsCarried, IsSound, LeavesFlight, Seen, kept_of, tree_seen}
+use Rattle.lfs_tree.specs.TreeState.{IsAppliedOn, IsSound, LeavesFlight, TreeState, kept_of, tree_view}
 use Rattle.lfs_tree.proofs.Carried.{all_pairs, keeps_writing, lists_from, read_is, with_history}
 use Rattle.lfs_tree.proofs.CarryFreed.{writes_then}
 use Rattle.lfs_tree.proofs.KeptFiles.{keeps_same, keeps_then}
@@ -83,7 +83,7 @@ apart_pairs t used b flies = All-from_recursion (λ c. c ≢ b) (blocks_of t.pai
         let wrong : InFlight ≡ Used = same_Some InFlight Used (sym flies ∙ here) in
         absurd (cc)
 
-leaves_same : (a c : Kept) → AreUsed a.map (used_blocks a.disk a.pairs) → SameInFlight a.map c.map → Writes (blocks_of a.pairs) a c → LeavesFlight (seen_kept a true false) (seen_kept c true false)
+leaves_same : (a c : Kept) → AreUsed a.map (used_blocks a.disk a.pairs) → SameInFlight a.map c.map → Writes (blocks_of a.pairs) a c → LeavesFlight (tree_state_of a true false) (tree_state_of c true false)
 leaves_same a c used same w = record {
   stay = λ b flies. (same b).1 flies;
   none_comes = λ b flies. (same b).0 flies;
@@ -91,7 +91,7 @@ leaves_same a c used same w = record {
   unprogrammed_still = λ b k flies was. w.elsewhere.stays b k (apart_pairs a used b flies) was;
 }
 
-pub leaves_then : (a b c : Seen) → LeavesFlight a b → LeavesFlight b c → LeavesFlight a c
+pub leaves_then : (a b c : TreeState) → LeavesFlight a b → LeavesFlight b c → LeavesFlight a c
 leaves_then a b c f g = record {
   stay = λ x flies. g.stay x (f.stay x flies);
   none_comes = λ x flies. f.none_comes x (g.none_comes x flies);
@@ -99,7 +99,7 @@ leaves_then a b c f g = record {
   unprogrammed_still = λ x k flies was. g.unprogrammed_still x k (f.stay x flies) (f.unprogrammed_still x k flies was);
 }
 
-leaves_reading : (t : Kept) (h : List Event) → OnlyReads t.disk.blocks t.history h → LeavesFlight (seen_kept t true false) (seen_kept (with_history t h) true false)
+leaves_reading : (t : Kept) (h : List Event) → OnlyReads t.disk.blocks t.history h → LeavesFlight (tree_state_of t true false) (tree_state_of (with_history t h) true false)
 leaves_reading t h reads = record {
   stay = λ b flies. flies;
   none_comes = λ b flies. flies;
@@ -110,14 +110,14 @@ leaves_reading t h reads = record {
 -- ---- directories are dropped
 
 pub can_drop : (t m : Kept) (numbers : List ℕ) → CanDropLost t → 1024 ≤ t.disk.block_size → IsOnlyRead t m → AreUnreached t.pairs numbers → CanDropUnreached m numbers
-can_drop t m numbers can large r told = subst (λ z. CanDropUnreached z numbers) (sym (read_is t m r)) (record {
+can_drop t m numbers can large r reported = subst (λ z. CanDropUnreached z numbers) (sym (read_is t m r)) (record {
   accepted = can.accepted;
   writable = can.writable;
   used = can.used;
   size = can.size;
   large = large;
   none = can.none;
-  told = told;
+  reported = reported;
 })
 
 -- the lists are freed behind the drop
@@ -147,7 +147,7 @@ dropped_behind t h d reads k = record {
   completed = k.completed;
   fewer = k.fewer;
   keeps = λ path file. let keeps = k.keeps path file in record { file = keeps.file; struct = keeps.struct; list = keeps.list; bytes = keeps.bytes };
-  flight = leaves_then (seen_kept t true false) (seen_kept (with_history t h) true false) (seen_kept d true false) (leaves_reading t h reads) k.flight;
+  flight = leaves_then (tree_state_of t true false) (tree_state_of (with_history t h) true false) (tree_state_of d true false) (leaves_reading t h reads) k.flight;
 }
 
 pub dropped : (t m d : Kept) → IsOnlyRead t m → HasDroppedLost m d → HasDroppedLost t d
@@ -179,9 +179,9 @@ pub end_survives : (a b : Kept) (h : List Event) → Writes (blocks_of a.pairs) 
     → Survives a.disk a.history h (tree_in a.disk a.pairs) (tree_in a.disk a.pairs)
 end_survives a b h w shows calls called first second =
     survives_then a.disk a.history b.history h (tree_in a.disk a.pairs) (tree_in a.disk a.pairs) w.at_worst (some_since calls b.history h called) first
-    (λ clean. LeavesOnly-weaker (λ left x. subst (λ z. IsLeft z (tree_in a.disk a.pairs) (tree_in a.disk a.pairs))
+    (λ clean. LeavesOnly-weaker (λ left x. subst (λ z. IsLeftByStop z (tree_in a.disk a.pairs) (tree_in a.disk a.pairs))
     (λ j. record { block_size = w.shape.block_size j; page = w.shape.page j; order = w.shape.order j; blocks = left })
-    (subst (λ z. IsLeft (with_blocks left b.disk) z z) shows x)) (second clean))
+    (subst (λ z. IsLeftByStop (with_blocks left b.disk) z z) shows x)) (second clean))
 
 -- ---- calls
 
@@ -213,7 +213,7 @@ pub can_drop_then : (a b : Kept) → HasEndedMove a b → CanDropLost b
 can_drop_then a b e = record { accepted = e.taken.follows.accepted; writable = e.taken.writable; used = e.used; size = e.size; none = e.none }
 
 pub recovered_whole : (t : State) (root : ℕ) (b c : Kept) → IsRooted t root true → (gstate_of t.kept.pairs ≡ no_gstate → ⊥) → HasEndedMove t.kept b → Writes (blocks_of t.kept.pairs) t.kept b → HasDroppedLost b c → HasCalled b c
-    → faults c.history ≡ faults t.kept.history → Carries t.kept ops.Recover c
+    → faults c.history ≡ faults t.kept.history → AppliesOn t.kept ops.Recover c
 recovered_whole t root b c rooted left e w d called quiet =
     let a = t.kept in
     let all = called_then a b c (called_writing a b (blocks_of a.pairs) w) called in
@@ -236,7 +236,7 @@ recovered_whole t root b c rooted left e w d called quiet =
           arranged_after a.disk c.disk c.disk a.pairs c.pairs c.pairs s ops.Recover all.geometry k.accepted k.recovered (e.leads_on s c.disk c.pairs k.laid_out) (recovered_stays c.disk c.pairs s k.accepted d.ready.writable d.ready.settled);
       itself = λ z. absurd (cc);
       nothing_left = λ z done. absurd (left done.gstate);
-      flight = leaves_then (seen_kept a true false) (seen_kept b true false) (seen_kept c true false) (leaves_same a b rooted.sound.used e.flying w) d.flight;
+      flight = leaves_then (tree_state_of a true false) (tree_state_of b true false) (tree_state_of c true false) (leaves_same a b rooted.sound.used e.flying w) d.flight;
       keeps = λ path file away.
           let first = keeps_writing a b (blocks_of a.pairs) rooted.sound.accepted rooted.sound.used (all_pairs a) w path file (struct_stays a.disk a.pairs b.pairs path file (e.taken.follows.stays path (same_leaves path))) in
           let k = keeps_then a b c path first (d.keeps path first.file) in
@@ -249,37 +249,37 @@ recovered_whole t root b c rooted left e w d called quiet =
 same_error : {X : Type 0} (e f : Error) → (let r : Result X Error = Err e in r) ≡ Err f → e ≡ f
 same_error e f h = cc
 
-pub tells_reading : {X : Type 0} (t m : Kept) (r : Result X Error) (e : Error) → r ≡ Err e → HasTold t m r → TellsError t m e
-tells_reading {X} t m r e is told = record {
-  errors = subst (λ (z : Result X Error). IfErr z (λ f. (f ≡ Io) ⊎ (f ≡ NoMemory))) is told.errors;
-  fault = λ io. told.fault (is ∙ ap Err io);
-  no_fault = λ other. told.no_fault (λ io. other (same_error e Io (sym is ∙ io)));
+pub reports_reading : {X : Type 0} (t m : Kept) (r : Result X Error) (e : Error) → r ≡ Err e → HasReported t m r → ReportsError t m e
+reports_reading {X} t m r e is reported = record {
+  errors = subst (λ (z : Result X Error). IfErr z (λ f. (f ≡ Io) ⊎ (f ≡ NoMemory))) is reported.errors;
+  fault = λ io. reported.fault (is ∙ ap Err io);
+  no_fault = λ other. reported.no_fault (λ io. other (same_error e Io (sym is ∙ io)));
 }
 
-pub tells_steps : {X : Type 0} (m d : State) (r : Result X Error) (e : Error) → r ≡ Err e → TellsOfSteps m d r → TellsError m.kept d.kept e
-tells_steps {X} m d r e is told = record {
-  errors = subst (λ (z : Result X Error). IfErr z (λ f. (f ≡ Io) ⊎ (f ≡ NoMemory))) is told.errors;
-  fault = λ io. told.fault (is ∙ ap Err io);
-  no_fault = λ other. told.no_fault (λ io. other (same_error e Io (sym is ∙ io)));
+pub reports_steps : {X : Type 0} (m d : State) (r : Result X Error) (e : Error) → r ≡ Err e → ReportsOfSteps m d r → ReportsError m.kept d.kept e
+reports_steps {X} m d r e is reported = record {
+  errors = subst (λ (z : Result X Error). IfErr z (λ f. (f ≡ Io) ⊎ (f ≡ NoMemory))) is reported.errors;
+  fault = λ io. reported.fault (is ∙ ap Err io);
+  no_fault = λ other. reported.no_fault (λ io. other (same_error e Io (sym is ∙ io)));
 }
 
-pub tells_work : {X : Type 0} (m d : Kept) (r : Result X Error) (e : Error) → r ≡ Err e → TellsWork m d r → TellsError m d e
-tells_work {X} m d r e is told = record {
-  errors = subst (λ (z : Result X Error). IfErr z (λ f. (f ≡ Io) ⊎ (f ≡ NoMemory))) is told.errors;
-  fault = λ io. told.fault (is ∙ ap Err io);
-  no_fault = λ other. told.no_fault (λ io. other (same_error e Io (sym is ∙ io)));
+pub reports_work : {X : Type 0} (m d : Kept) (r : Result X Error) (e : Error) → r ≡ Err e → ReportsWork m d r → ReportsError m d e
+reports_work {X} m d r e is reported = record {
+  errors = subst (λ (z : Result X Error). IfErr z (λ f. (f ≡ Io) ⊎ (f ≡ NoMemory))) is reported.errors;
+  fault = λ io. reported.fault (is ∙ ap Err io);
+  no_fault = λ other. reported.no_fault (λ io. other (same_error e Io (sym is ∙ io)));
 }
 
-pub tells_then : (a b c : Kept) (e : Error) → faults b.history ≡ faults a.history → TellsError b c e → TellsError a c e
-tells_then a b c e quiet t = record { errors = t.errors; fault = λ io. let k = t.fault io in omega (arith, k, quiet); no_fault = λ other. t.no_fault other ∙ quiet }
+pub reports_then : (a b c : Kept) (e : Error) → faults b.history ≡ faults a.history → ReportsError b c e → ReportsError a c e
+reports_then a b c e quiet t = record { errors = t.errors; fault = λ io. let k = t.fault io in omega (arith, k, quiet); no_fault = λ other. t.no_fault other ∙ quiet }
 
 -- an error is passed on
-pub tells_given : {Y : Type 0} (a c : Kept) (given : Result Y Error) (e f : Error) → given ≡ Err f → f ≡ e → TellsError a c e → IfErr given (TellsError a c)
-tells_given {Y = Y} a c given e f is same t = subst (λ (r : Result Y Error). IfErr r (TellsError a c)) (sym is) (subst (TellsError a c) (sym same) t)
+pub reports_given : {Y : Type 0} (a c : Kept) (given : Result Y Error) (e f : Error) → given ≡ Err f → f ≡ e → ReportsError a c e → IfErr given (ReportsError a c)
+reports_given {Y = Y} a c given e f is same t = subst (λ (r : Result Y Error). IfErr r (ReportsError a c)) (sym is) (subst (ReportsError a c) (sym same) t)
 
 -- ---- where nothing is left to recover
 
-pub recovered_already : (t : Seen) → t.failed ≡ false → t.writable ≡ true → IsSound t → gstate_of t.pairs ≡ no_gstate → IsCarried t ops.Recover t
+pub recovered_already : (t : TreeState) → t.failed ≡ false → t.writable ≡ true → IsSound t → gstate_of t.pairs ≡ no_gstate → IsAppliedOn t ops.Recover t
 recovered_already t works writable sound settled = record {
   works = works;
   sound = sound;
@@ -292,7 +292,7 @@ recovered_already t works writable sound settled = record {
   recovered = recovered_from t.disk t.pairs sound.accepted settled;
   shows = λ around files. refl;
   arranged = λ files.
-      let s : Session = record { tree = tree_seen t; files = files } in
+      let s : Session = record { tree = tree_view t; files = files } in
       arranged_settled t.disk t.pairs s ops.Recover t.disk t.pairs sound.accepted (sound.fits writable) settled (recovered_stays t.disk t.pairs s sound.accepted (sound.fits writable) settled);
   itself = λ e. absurd (cc);
   nothing_left = λ e done. (refl, (refl, refl));
@@ -301,7 +301,7 @@ recovered_already t works writable sound settled = record {
   lists = λ none. lists_from t.disk t.disk t.pairs (λ b some. refl);
 }
 
-pub none_survives : (t : Seen) (after : Tree) → Survives t.disk t.history t.history (tree_seen t) after
+pub none_survives : (t : TreeState) (after : Tree) → Survives t.disk t.history t.history (tree_view t) after
 none_survives t after clean = record { events = []; extends = refl; each = tt }
 
 -- a state in which nothing is set
@@ -325,7 +325,7 @@ pub something_set : (g : Gstate) → is_no_gstate g ≡ false → g ≡ no_gstat
 something_set g e is = let k = sym e ∙ ap is_no_gstate is in absurd (cc)
 
 -- what works is sound
-pub held_sound : (thread : State) (root : ℕ) (writable : Bool) (now : Seen) → IsHeld thread root writable → seen_thread thread writable ≡ now → now.failed ≡ false → IsSound now
+pub held_sound : (thread : State) (root : ℕ) (writable : Bool) (now : TreeState) → IsHeld thread root writable → seen_thread thread writable ≡ now → now.failed ≡ false → IsSound now
 held_sound thread root writable now kept view works =
-    let s = (kept (ap (λ (s : Seen). s.failed) view ∙ works)).sound in
+    let s = (kept (ap (λ (s : TreeState). s.failed) view ∙ works)).sound in
     subst IsSound view (record { accepted = s.accepted; fits = s.fits; is_kept = s.is_kept; used = s.used; size = s.size })

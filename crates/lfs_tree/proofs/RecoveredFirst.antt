@@ -16,7 +16,7 @@ use Rattle.lfs_model.specs.Disk.{SameGeometry, entry_limit}
 use Rattle.lfs_model.specs.Layout.{Goes, IsArranged}
 use Rattle.lfs_model.specs.Operations as ops
 use Rattle.lfs_model.specs.Operations.{Operation}
-use Rattle.lfs_model.specs.PowerLoss.{IsLeft, with_blocks}
+use Rattle.lfs_model.specs.PowerLoss.{IsLeftByStop, with_blocks}
 use Rattle.lfs_model.specs.Run.{is_recover, renames_to_itself}
 use Rattle.lfs_model.specs.Session.{Session, is_overcharged, parent_fault}
 use Rattle.lfs_model.specs.Slots.{Attributes, charge_of, no_gstate}
@@ -33,24 +33,24 @@ use Rattle.lfs_operations.proofs.RecoverBefore.{AreKin, stand_kin}
 use Rattle.lfs_operations.specs.Ready.{KeepsRoot}
 use Rattle.lfs_thread.specs.Kept.{Kept, State}
 use Rattle.lfs_tree.specs.Allowed.{CanAdd, CanRemove, CanRemoveAttr, CanRename, CanSetAttr, HasRoom}
-use Rattle.lfs_tree.specs.Carrying.{Carries, HasCalled, Spares, StandsAs, SurvivesTo, TellsError}
-use Rattle.lfs_tree.specs.Held.{IsRooted, seen_kept}
+use Rattle.lfs_tree.specs.Carrying.{AppliesOn, HasCalled, Spares, StandsAs, SurvivesTo, ReportsError}
+use Rattle.lfs_tree.specs.Held.{IsRooted, tree_state_of}
 use Rattle.lfs_tree.specs.KeepsFiles.{ListsStay}
 use Rattle.lfs_tree.specs.Recovering.{HasDroppedLost, HasSettled}
-use Rattle.lfs_tree.specs.Seen.{IsSound, around_of, kept_of}
+use Rattle.lfs_tree.specs.TreeState.{IsSound, around_of, kept_of}
 use Rattle.lfs_tree.proofs.KeptFiles.{keeps_then}
 use Rattle.lfs_tree.proofs.Recovered.{called_then, leaves_then, recovered_already, some_since}
 
 -- ---- the recovery
 
 -- no more blocks are used
-fewer_used : (c : Kept) (used : List ℕ) → IsSound (seen_kept c true false) → ((b : ℕ) → count b (used_blocks c.disk c.pairs) ≤ count b used) → length (used_blocks c.disk c.pairs) ≤ length used
+fewer_used : (c : Kept) (used : List ℕ) → IsSound (tree_state_of c true false) → ((b : ℕ) → count b (used_blocks c.disk c.pairs) ≤ count b used) → length (used_blocks c.disk c.pairs) ≤ length used
 fewer_used c used sound fewer =
     let e = used_count-AreUsed c.map (used_blocks c.disk c.pairs) sound.accepted.owned_once sound.used in
     let f = few_used used c.map (λ b is. Contains-count used b (let k = count-Contains (used_blocks c.disk c.pairs) b ((sound.used b).0 is) in let l = fewer b in omega arith)) in
     omega arith
 
-pub settled_whole : (a b c : Kept) → (gstate_of a.pairs ≡ no_gstate → ⊥) → HasEndedMove a b → HasDroppedLost b c → Carries a ops.Recover c → HasSettled a c
+pub settled_whole : (a b c : Kept) → (gstate_of a.pairs ≡ no_gstate → ⊥) → HasEndedMove a b → HasDroppedLost b c → AppliesOn a ops.Recover c → HasSettled a c
 settled_whole a b c left e d carries =
     let now : Session = record { tree = tree_in b.disk b.pairs; files = [] } in
     let done = d.completed now refl in
@@ -62,12 +62,12 @@ settled_whole a b c left e d carries =
     }
 
 pub settled_stands : (a c : Kept) → HasSettled a c → KeepsRoot a c → StandsAs a (tree_in a.disk a.pairs) c
-settled_stands a c f root = record { sound = f.carries.sound; fits = f.carries.fits; root = root; shows = f.carries.shows (around_of (seen_kept a true false)) []; no_fault = f.carries.no_fault }
+settled_stands a c f root = record { sound = f.carries.sound; fits = f.carries.fits; root = root; shows = f.carries.shows (around_of (tree_state_of a true false)) []; no_fault = f.carries.no_fault }
 
 -- nothing was left
 pub settled_already : (t : State) (root : ℕ) → IsRooted t root true → gstate_of t.kept.pairs ≡ no_gstate → HasSettled t.kept t.kept
 settled_already t root r e = record {
-  carries = recovered_already (seen_kept t.kept true false) refl refl r.sound e;
+  carries = recovered_already (tree_state_of t.kept true false) refl refl r.sound e;
   leads_on = λ s disk qs h. h;
   room = omega arith;
   same = λ none. refl;
@@ -137,17 +137,17 @@ survives_before a c after k clean = LeavesOnly-weaker (λ left x. record { pairs
     go left ps (inl e) = inl e
     go left ps (inr e) = inl e
 
-called_by : (a b : Kept) (op : Operation) → Carries a op b → HasCalled a b
+called_by : (a b : Kept) (op : Operation) → AppliesOn a op b → HasCalled a b
 called_by a b op k = record { geometry = k.geometry; calls = k.calls; called = k.called }
 
 module _ (a b : Kept) (f : HasSettled a b) where
   pub tree_is : tree_in b.disk b.pairs ≡ tree_in a.disk a.pairs
-  tree_is = f.carries.shows (around_of (seen_kept a true false)) []
+  tree_is = f.carries.shows (around_of (tree_state_of a true false)) []
 
   pub called_after : (c : Kept) → HasCalled b c → HasCalled a c
   called_after c k = called_then a b c (called_by a b ops.Recover f.carries) k
 
-  pub carried_after : (c : Kept) (op : Operation) → renames_to_itself op ≡ false → is_recover op ≡ false → Carries b op c → Carries a op c
+  pub carried_after : (c : Kept) (op : Operation) → renames_to_itself op ≡ false → is_recover op ≡ false → AppliesOn b op c → AppliesOn a op c
   carried_after c op apart other k =
       let all = called_after c (called_by b c op k) in
       record {
@@ -165,8 +165,8 @@ module _ (a b : Kept) (f : HasSettled a b) where
             (subst (λ t. IsArranged b.disk b.pairs (record { tree = t; files = files }) op c.disk c.pairs) tree_is (k.arranged files));
         itself = λ e. absurd (cc (apart, e));
         nothing_left = λ e. absurd (cc (other, e));
-        flight = leaves_then (seen_kept a true false) (seen_kept b true false) (seen_kept c true false) f.carries.flight k.flight;
-        keeps = λ path file away. let first = f.carries.keeps path file refl in keeps_then (kept_of (seen_kept a true false)) (kept_of (seen_kept b true false)) (kept_of (seen_kept c true false)) path first (k.keeps path first.file away);
+        flight = leaves_then (tree_state_of a true false) (tree_state_of b true false) (tree_state_of c true false) f.carries.flight k.flight;
+        keeps = λ path file away. let first = f.carries.keeps path file refl in keeps_then (kept_of (tree_state_of a true false)) (kept_of (tree_state_of b true false)) (kept_of (tree_state_of c true false)) path first (k.keeps path first.file away);
         lists = λ none. subst (λ (z : Kept). gstate_of z.pairs ≡ no_gstate → ListsStay z.disk z.pairs c.disk) (f.same none) k.lists none;
       }
 
@@ -182,21 +182,21 @@ module _ (a b : Kept) (f : HasSettled a b) where
   survives_after c change called first second =
       survives_then a.disk a.history b.history c.history (tree_in a.disk a.pairs) (change (tree_in a.disk a.pairs)) (some_since f.carries.calls a.history b.history f.carries.called) (some_since called.calls b.history c.history called.called)
       (survives_before a b (change (tree_in a.disk a.pairs)) first)
-      (λ clean. LeavesOnly-weaker (λ left x. subst (λ d. IsLeft d (tree_in a.disk a.pairs) (change (tree_in a.disk a.pairs))) (left_on left) (subst (λ t. IsLeft (with_blocks left b.disk) t (change t)) tree_is x)) (second clean))
+      (λ clean. LeavesOnly-weaker (λ left x. subst (λ d. IsLeftByStop d (tree_in a.disk a.pairs) (change (tree_in a.disk a.pairs))) (left_on left) (subst (λ t. IsLeftByStop (with_blocks left b.disk) t (change t)) tree_is x)) (second clean))
 
   -- ---- what its checks have shown
 
-  charge_is : (name : Name) (attributes : Attributes) → is_overcharged (around_of (seen_kept b true false)) name attributes ≡ is_overcharged (around_of (seen_kept a true false)) name attributes
+  charge_is : (name : Name) (attributes : Attributes) → is_overcharged (around_of (tree_state_of b true false)) name attributes ≡ is_overcharged (around_of (tree_state_of a true false)) name attributes
   charge_is name attributes = ap₂ (λ (size page : ℕ). nat_lt (entry_limit size page) (charge_of size name attributes)) f.carries.geometry.block_size f.carries.geometry.page
 
-  room_is : (need : ℕ) → HasRoom (seen_kept a true false) need → HasRoom (seen_kept b true false) need
+  room_is : (need : ℕ) → HasRoom (tree_state_of a true false) need → HasRoom (tree_state_of b true false) need
   room_is need room =
       let few = fewer_flying b.map a.map f.carries.flight.none_comes in
       let used = f.room in
       let count = f.carries.geometry.count in
       omega (arith, room)
 
-  pub add_after : (path : Path) (need : ℕ) → CanAdd (seen_kept a true false) path need → CanAdd (seen_kept b true false) path need
+  pub add_after : (path : Path) (need : ℕ) → CanAdd (tree_state_of a true false) path need → CanAdd (tree_state_of b true false) path need
   add_after path need can = record {
     works = refl;
     writable = refl;
@@ -207,7 +207,7 @@ module _ (a b : Kept) (f : HasSettled a b) where
     room = room_is need can.room;
   }
 
-  pub remove_after : (path : Path) → CanRemove (seen_kept a true false) path → CanRemove (seen_kept b true false) path
+  pub remove_after : (path : Path) → CanRemove (tree_state_of a true false) path → CanRemove (tree_state_of b true false) path
   remove_after path can = record {
     works = refl;
     writable = refl;
@@ -217,7 +217,7 @@ module _ (a b : Kept) (f : HasSettled a b) where
     empty = subst (λ (t : Tree). nat_lt 0 (length (names_of (t path))) ≡ false) (sym tree_is) can.empty;
   }
 
-  pub set_attr_after : (path : Path) (kind : ℕ) (bytes : List ℕ) → CanSetAttr (seen_kept a true false) path kind bytes → CanSetAttr (seen_kept b true false) path kind bytes
+  pub set_attr_after : (path : Path) (kind : ℕ) (bytes : List ℕ) → CanSetAttr (tree_state_of a true false) path kind bytes → CanSetAttr (tree_state_of b true false) path kind bytes
   set_attr_after path kind bytes can = record {
     works = refl;
     writable = refl;
@@ -225,12 +225,12 @@ module _ (a b : Kept) (f : HasSettled a b) where
     parents = subst (λ t. parent_fault t [] path ≡ None) (sym tree_is) can.parents;
     something = subst (λ (t : Tree). is_none (t path) ≡ false) (sym tree_is) can.something;
     len = can.len;
-    fits = subst (λ (t : Tree). is_overcharged (around_of (seen_kept b true false)) (last_name path) (put_attribute kind bytes (attributes_of (t path))) ≡ false) (sym tree_is)
+    fits = subst (λ (t : Tree). is_overcharged (around_of (tree_state_of b true false)) (last_name path) (put_attribute kind bytes (attributes_of (t path))) ≡ false) (sym tree_is)
         (charge_is (last_name path) (put_attribute kind bytes (attributes_of (tree_in a.disk a.pairs path))) ∙ can.fits);
     room = room_is 2 can.room;
   }
 
-  pub remove_attr_after : (path : Path) (kind : ℕ) → CanRemoveAttr (seen_kept a true false) path kind → CanRemoveAttr (seen_kept b true false) path kind
+  pub remove_attr_after : (path : Path) (kind : ℕ) → CanRemoveAttr (tree_state_of a true false) path kind → CanRemoveAttr (tree_state_of b true false) path kind
   remove_attr_after path kind can = record {
     works = refl;
     writable = refl;
@@ -240,7 +240,7 @@ module _ (a b : Kept) (f : HasSettled a b) where
     there = subst (λ (t : Tree). is_none (attribute_of kind (attributes_of (t path))) ≡ false) (sym tree_is) can.there;
   }
 
-  pub rename_after : (from to : Path) → CanRename (seen_kept a true false) from to → CanRename (seen_kept b true false) from to
+  pub rename_after : (from to : Path) → CanRename (tree_state_of a true false) from to → CanRename (tree_state_of b true false) from to
   rename_after from to can = record {
     works = refl;
     writable = refl;
@@ -254,16 +254,16 @@ module _ (a b : Kept) (f : HasSettled a b) where
     directory = subst (λ (t : Tree). (not (same_path from to) && is_directory (t from) && is_file (t to)) ≡ false) (sym tree_is) can.directory;
     file = subst (λ (t : Tree). (not (same_path from to) && is_file (t from) && is_directory (t to)) ≡ false) (sym tree_is) can.file;
     empty = subst (λ (t : Tree). (not (same_path from to) && nat_lt 0 (length (names_of (t to)))) ≡ false) (sym tree_is) can.empty;
-    fits = subst (λ (t : Tree). (not (same_path from to) && is_overcharged (around_of (seen_kept b true false)) (last_name to) (attributes_of (t from))) ≡ false) (sym tree_is)
+    fits = subst (λ (t : Tree). (not (same_path from to) && is_overcharged (around_of (tree_state_of b true false)) (last_name to) (attributes_of (t from))) ≡ false) (sym tree_is)
         (ap (λ x. not (same_path from to) && x) (charge_is (last_name to) (attributes_of (tree_in a.disk a.pairs from))) ∙ can.fits);
     room = room_is 2 can.room;
   }
 
   -- ---- what it tells
 
-  pub told_after : (c : Kept) (e : Error) → TellsError b c e → TellsError a c e
-  told_after c e told = record {
-    errors = told.errors;
-    fault = λ io. let k = told.fault io in let same = f.carries.no_fault in omega (arith, k, same);
-    no_fault = λ other. told.no_fault other ∙ f.carries.no_fault;
+  pub reported_after : (c : Kept) (e : Error) → ReportsError b c e → ReportsError a c e
+  reported_after c e reported = record {
+    errors = reported.errors;
+    fault = λ io. let k = reported.fault io in let same = f.carries.no_fault in omega (arith, k, same);
+    no_fault = λ other. reported.no_fault other ∙ f.carries.no_fault;
   }

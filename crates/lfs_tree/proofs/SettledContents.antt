@@ -5,7 +5,7 @@ use Rattle.std.proofs.lemmas.List.Elements.{All-contains, All-from_recursion}
 use Rattle.std.proofs.lemmas.Option.{same_Some}
 use Rattle.lfs_device.specs.Bytes.{HasBytes}
 use Rattle.lfs_model.proofs.Sites.{Among, among_right}
-use Rattle.lfs_model.specs.Discipline.{HoldsSlot}
+use Rattle.lfs_model.specs.Frame.{HoldsSlot}
 use Rattle.lfs_model.specs.TreeEdits.{change_at, same_path}
 use Rattle.lfs_model.specs.BlockSets.{AreUsed, IsFree, IsInFlight, IsUsed}
 use Rattle.lfs_model.specs.BlockSets.BlockState.{Free, InFlight, Used}
@@ -17,7 +17,7 @@ use Rattle.lfs_model.specs.Operations as ops
 use Rattle.lfs_model.specs.Operations.{Operation}
 use Rattle.lfs_model.specs.Keeping.{struct_at}
 use Rattle.lfs_model.specs.Session.{Session, Writer, Writing}
-use Rattle.lfs_model.specs.PowerLoss.{IsLeft, with_blocks}
+use Rattle.lfs_model.specs.PowerLoss.{IsLeftByStop, with_blocks}
 use Rattle.lfs_model.specs.SlotEdits.{slot_of_path}
 use Rattle.lfs_model.specs.Slots.{Slot}
 use Rattle.lfs_model.specs.Effects.{with_bytes}
@@ -38,7 +38,7 @@ use Rattle.lfs_writer.proofs.Outside.{none_or_some, not_there}
 use Rattle.lfs_writer.proofs.Settlement.{settled_exactly}
 use Rattle.lfs_operations.proofs.Held.{here}
 use Rattle.lfs_operations.specs.Changing.{WritesIn}
-use Rattle.lfs_operations.specs.Storing.{IsStored, with_contents_at}
+use Rattle.lfs_operations.specs.Storing.{IsStructSet, with_contents_at}
 use Rattle.lfs_thread.specs.Kept.{Kept, State}
 use Rattle.lfs_thread.specs.Steps.{pair_in, Writes}
 use Rattle.lfs_tree.proofs.CarryCreated.{ready_to}
@@ -46,7 +46,7 @@ use Rattle.lfs_tree.proofs.LeftAlone.{contains_among, holds_slot}
 use Rattle.lfs_tree.specs.Carrying.{HasCalled, IsAtRest, SurvivesTo}
 use Rattle.lfs_tree.specs.OpenContents.{bytes_held}
 use Rattle.lfs_tree.specs.Storing.{CanCommit, CanPutContents, HasCommitted, IsFileFor, list_in, list_in_struct, struct_in, ChangesPairOf}
-use Rattle.lfs_tree.specs.declared.storing.FileSlot.{FileSlot}
+use Rattle.lfs_tree.specs.declared.contents_at.FileSlot.{FileSlot}
 use Rattle.lfs_lookup.proofs.AtPaths.{SizedLists}
 use Rattle.lfs_tree.proofs.Carried.{pair_blocks, with_history}
 use Rattle.lfs_tree.proofs.CarryEdited.{can_edit, slot_below}
@@ -59,7 +59,7 @@ use Rattle.lfs_writer.specs.declared.contents.Contents.{Contents}
 
 module _ (t : Kept) (path : Path) (u : Slot) (ok : IsAccepted t.disk t.pairs) (used : AreUsed t.map (used_blocks t.disk t.pairs)) (at : slot_of_path t.pairs path ≡ Some u) (sized : SizedLists t.disk)
     (c : Contents) (can : CanCommit t path c) (pair : ℕ) (below : pair < length t.pairs) (new : Kept) (w : WritesIn t pair new) (above : Path) (name : Name) (come : CanCome t (bytes_held t c) u.struct (struct_in c))
-    (is : IsStored t new above name (bytes_held t c) come.gone come.come) where
+    (is : IsStructSet t new above name (bytes_held t c) come.gone come.come) where
   -- a block that isn't free and no pair's isn't written
   untouched : (b : ℕ) → (IsFree t.map b → ⊥) → count b (blocks_of t.pairs) ≡ 0 → block_at new.disk b ≡ block_at t.disk b
   untouched b taken none =
@@ -227,8 +227,8 @@ module _ (t : State) (root : ℕ) (rests : IsAtRest t root) (path : Path) (large
 
   module _ (new : Kept) (w : WritesIn (with_history t.kept h) file.spot.pair new)
       (gives : (put : CanPutContents (with_history t.kept h) file.spot c)
-      → IsStored (with_history t.kept h) new put.can.path put.can.name (bytes_held (with_history t.kept h) c) put.come.gone put.come.come) where
-    is : IsStored (with_history t.kept h) new slot.slot.above slot.slot.name (bytes_held (with_history t.kept h) c) come.gone come.come
+      → IsStructSet (with_history t.kept h) new put.can.path put.can.name (bytes_held (with_history t.kept h) c) put.come.gone put.come.come) where
+    is : IsStructSet (with_history t.kept h) new slot.slot.above slot.slot.name (bytes_held (with_history t.kept h) c) come.gone come.come
     unfolding can_put can_edit
     is = gives can_put
 
@@ -268,7 +268,7 @@ module _ (t : State) (root : ℕ) (rests : IsAtRest t root) (path : Path) (large
           let first : LeavesOnly Stops t.kept.history new.history (λ d. Unit {0}) = LeavesOnly-trans (LeavesOnly-reads Stops-read reads tt) (LeavesOnly-weaker (λ d p. tt) (LeavesOnly-worst w.writes.at_worst)) in
           survives_then t.kept.disk t.kept.history new.history later.history (tree_in t.kept.disk t.kept.pairs) after first only.reads k
           (λ clean. LeavesOnly-reads Stops-read only.reads
-          (subst (λ (d : Disk). IsLeft d (tree_in t.kept.disk t.kept.pairs) (change_at path (with_bytes (bytes_held t.kept c)) (tree_in t.kept.disk t.kept.pairs))) disk_is
+          (subst (λ (d : Disk). IsLeftByStop d (tree_in t.kept.disk t.kept.pairs) (change_at path (with_bytes (bytes_held t.kept c)) (tree_in t.kept.disk t.kept.pairs))) disk_is
           (record {
             pairs = new.pairs;
             accepted = is.now.ready.accepted;

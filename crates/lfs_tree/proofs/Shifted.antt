@@ -26,12 +26,12 @@ use Rattle.lfs_operations.specs.MovingSteps.{WritesAmong}
 use Rattle.lfs_tree.specs.Allowed.{CanRename}
 use Rattle.lfs_tree.specs.Calls as call
 use Rattle.lfs_tree.specs.Calls.{left_by}
-use Rattle.lfs_tree.specs.Carrying.{Carries, HasDone, IsAtRest, IsOperationOn, IsTarget, Spares, StandsAs, SurvivesTo}
+use Rattle.lfs_tree.specs.Carrying.{AppliesOn, HasDone, IsAtRest, IsOperationOn, IsTarget, Spares, StandsAs, SurvivesTo}
 use Rattle.lfs_tree.specs.CarryingSlots.{HasEntry}
-use Rattle.lfs_tree.specs.Held.{seen_kept}
+use Rattle.lfs_tree.specs.Held.{tree_state_of}
 use Rattle.lfs_lookup.specs.Paths.{BeginsOnPath, LeadsTo, StandsOnPath}
-use Rattle.lfs_tree.specs.Shifting.{CanShift, CanShiftFound, CanShiftOnto, CanShiftOver, CanShiftTo, HasShifted, IsSource, IsSourceIn, TellsOfWork}
-use Rattle.lfs_tree.specs.declared.carrying_rename.Source.{Source}
+use Rattle.lfs_tree.specs.Shifting.{CanShift, CanShiftFound, CanShiftOnto, CanShiftOver, CanShiftTo, HasShifted, IsSource, IsSourceIn, ReportsOfWork}
+use Rattle.lfs_tree.specs.declared.renames_at.Source.{Source}
 use Rattle.lfs_lookup.specs.declared.entry.Contents.{Contents}
 use Rattle.lfs_lookup.specs.declared.paths.Found.{Found}
 use Rattle.lfs_lookup.specs.declared.paths.Found.TheVariants as found
@@ -42,8 +42,8 @@ use Rattle.lfs_tree.proofs.CarryGone.{branch_is, none_entered}
 use Rattle.lfs_tree.proofs.CarryLogged.{logged_there}
 use Rattle.lfs_tree.proofs.CarryRooms.{last_is_name, room_for}
 use Rattle.lfs_tree.proofs.CarrySurvives.{survives_behind}
-use Rattle.lfs_tree.proofs.CarryTold.{IsTold}
-use Rattle.lfs_tree.proofs.Operated.{changed, does_rename, quiet_told, rename_stands}
+use Rattle.lfs_tree.proofs.ReportedFaults.{ReportsFaultsSince}
+use Rattle.lfs_tree.proofs.Operated.{changed, does_rename, quiet_reported, rename_stands}
 use Rattle.lfs_lookup.proofs.Directories.{within}
 use Rattle.lfs_tree.proofs.EmptyDirectories.{at_there, bare_there}
 use Rattle.lfs_tree.proofs.Mounting.{sound_read}
@@ -64,7 +64,7 @@ source_for t path (found.File parent slot contents) source l h = source_is t.pai
 
 -- ---- what may be done
 
-pub entry_to_rename : (t : Kept) (from to : Path) → CanRename (seen_kept t true false) from to → HasEntry (tree_in t.disk t.pairs) from
+pub entry_to_rename : (t : Kept) (from to : Path) → CanRename (tree_state_of t true false) from to → HasEntry (tree_in t.disk t.pairs) from
 entry_to_rename t from to can = record { entry = can.entry; parents = can.parents; something = can.something }
 
 -- what isn't beneath it, and is another path, doesn't begin with it
@@ -81,7 +81,7 @@ checked_apart true b e f = absurd (cc)
 checked_apart false b e f = f
 
 module _ (t : State) (root : ℕ) (rests : IsAtRest t root) (from to : Path) (components : list_all is_component to ≡ true) (large : 1024 ≤ t.kept.disk.block_size) (bytes : HasBytes t.kept.disk.blocks)
-    (can : CanRename (seen_kept t.kept true false) from to) (other : same_path from to ≡ false) (source : Source) (is : IsSource t.kept.pairs from source) (h : List Event) where
+    (can : CanRename (tree_state_of t.kept true false) from to) (other : same_path from to ≡ false) (source : Source) (is : IsSource t.kept.pairs from source) (h : List Event) where
   pub elsewhere : rest_after from to ≡ None
   elsewhere = goes_elsewhere from to can.apart other
 
@@ -162,7 +162,7 @@ module _ (t : State) (root : ℕ) (rests : IsAtRest t root) (from to : Path) (co
 -- ---- what comes of it
 
 module _ (t : State) (root : ℕ) (rests : IsAtRest t root) (from to : Path) (other : same_path from to ≡ false) (h : List Event) (c : Kept) (reads : OnlyReads t.kept.disk.blocks t.kept.history h) (w : WritesAmong (with_history t.kept h) c) where
-  shifted_at : (given to_given : List ℕ) → HasShifted (with_history t.kept h) from to c → faults c.history ≡ faults t.kept.history → as_path given ≡ from → as_path to_given ≡ to → Carries t.kept (ops.Rename given to_given) c
+  shifted_at : (given to_given : List ℕ) → HasShifted (with_history t.kept h) from to c → faults c.history ≡ faults t.kept.history → as_path given ≡ from → as_path to_given ≡ to → AppliesOn t.kept (ops.Rename given to_given) c
   shifted_at given to_given is quiet e f = carried t.kept h (ops.Rename given to_given) c
       (record {
         accepted = rests.held.sound.accepted;
@@ -184,9 +184,9 @@ module _ (t : State) (root : ℕ) (rests : IsAtRest t root) (from to : Path) (ot
 
   -- all that is said of it
   pub rename_does : (r : Result (Unit {0}) Error) (given to_given : List ℕ) → as_path given ≡ from → as_path to_given ≡ to → faults h ≡ faults t.kept.history → OnOk r (HasShifted (with_history t.kept h) from to new.kept)
-      → IsTold h new.kept.history r → OnOk r (new.failed ≡ false) → SurvivesTo (with_history t.kept h) new.kept (renamed from to before) → IsOperationOn t (call.Rename from to) r new
-  rename_does r given to_given named to_named quiet shifted told works survives =
-      changed t new (HasDone t.kept (call.Rename from to)) (left_by (call.Rename from to) before) h w.blocks r quiet reads w.writes told works (go r shifted (quiet_told t.kept new.kept h r quiet told))
+      → ReportsFaultsSince h new.kept.history r → OnOk r (new.failed ≡ false) → SurvivesTo (with_history t.kept h) new.kept (renamed from to before) → IsOperationOn t (call.Rename from to) r new
+  rename_does r given to_given named to_named quiet shifted reported works survives =
+      changed t new (HasDone t.kept (call.Rename from to)) (left_by (call.Rename from to) before) h w.blocks r quiet reads w.writes reported works (go r shifted (quiet_reported t.kept new.kept h r quiet reported))
       (survives_behind t root rests h new.kept w.blocks (renamed from to before) reads w.writes survives)
     where
       go : (r : Result (Unit {0}) Error) → OnOk r (HasShifted (with_history t.kept h) from to new.kept) → OnOk r (faults new.kept.history ≡ faults t.kept.history)
@@ -194,7 +194,7 @@ module _ (t : State) (root : ℕ) (rests : IsAtRest t root) (from to : Path) (ot
       go (Err e) shifted same = tt
       go (Ok x) shifted same = (
         record {
-          carries = does_rename (λ op. Carries t.kept op new.kept) from to (λ given to_given e f. shifted_at t root rests from to other h new.kept reads w given to_given shifted same e f);
+          carries = does_rename (λ op. AppliesOn t.kept op new.kept) from to (λ given to_given e f. shifted_at t root rests from to other h new.kept reads w given to_given shifted same e f);
           spares = does_rename (λ op. Spares t.kept op new.kept) from to (λ given to_given e f none files. shifted.alone (record { tree = tree_in t.kept.disk t.kept.pairs; files = files }) given to_given e f);
         },
         rename_stands t.kept new.kept from to given to_given named to_named (shifted_at t root rests from to other h new.kept reads w given to_given shifted same named to_named) shifted.root,
@@ -210,8 +210,8 @@ rests_still t mid root rests only works = record {
   settled = ap gstate_of only.pairs ∙ rests.settled;
 }
 
-pub told_of_work : {X : Type 0} (old new : State) (result : Result X Error) → TellsOfWork old new result → IsTold old.kept.history new.kept.history result
-told_of_work old new result t = record { errors = t.errors; fault = t.fault; no_fault = t.no_fault }
+pub reported_of_work : {X : Type 0} (old new : State) (result : Result X Error) → ReportsOfWork old new result → ReportsFaultsSince old.kept.history new.kept.history result
+reported_of_work old new result t = record { errors = t.errors; fault = t.fault; no_fault = t.no_fault }
 
 leads_back : (t : Kept) (h : List Event) (path : Path) (f : Found) → LeadsTo (with_history t h) path f → LeadsTo t path f
 leads_back t h path found.Root l = record { parents = l.parents; there = l.there }

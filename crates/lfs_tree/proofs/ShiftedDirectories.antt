@@ -13,13 +13,13 @@ use Rattle.lfs_operations.specs.MovingSteps.{WritesAmong}
 use Rattle.lfs_operations.specs.MovingAcross.{IsRenamedAcross, with_moved}
 use Rattle.lfs_operations.specs.MovingOnto.{CanReplaceDirectory}
 use Rattle.lfs_operations.specs.Renaming.{with_renamed}
-use Rattle.lfs_operations.specs.RenamingOver.{CanRenameOntoDirectory, IsRenamedOntoDirectory, TellsOverSteps}
+use Rattle.lfs_operations.specs.RenamingOver.{CanRenameOntoDirectory, IsRenamedOntoDirectory, ReportsOverSteps}
 use Rattle.lfs_thread.specs.Device.{four_of, two_of}
 use Rattle.lfs_thread.specs.Kept.{Kept, State}
 use Rattle.lfs_thread.specs.Steps.{IsOnlyRead, Writes, pair_in}
 use Rattle.lfs_tree.specs.Carrying.{SurvivesTo}
-use Rattle.lfs_tree.specs.Shifting.{CanShift, CanShiftOver, HasShifted, TellsOfWork}
-use Rattle.lfs_tree.specs.declared.carrying_rename.Source.{Source}
+use Rattle.lfs_tree.specs.Shifting.{CanShift, CanShiftOver, HasShifted, ReportsOfWork}
+use Rattle.lfs_tree.specs.declared.renames_at.Source.{Source}
 use Rattle.lfs_lookup.specs.declared.search.Spot.{Spot}
 use Rattle.lfs_tree.proofs.Carried.{among_two, behind_below}
 use Rattle.lfs_tree.proofs.ShiftedAlone.{spares_one, spares_two}
@@ -130,8 +130,8 @@ module _ (t : Kept) (from to : Path) (source : Source) (slot : Spot) (gone : ℕ
 
 -- ---- what is told
 
-pub told_over : {X : Type 0} (old new : State) (r : Result X Error) → TellsOverSteps old new r → TellsOfWork old new r
-told_over {X} old new r t = record { works = works r t.failed; errors = t.errors; fault = t.fault; no_fault = t.no_fault }
+pub reported_over : {X : Type 0} (old new : State) (r : Result X Error) → ReportsOverSteps old new r → ReportsOfWork old new r
+reported_over {X} old new r t = record { works = works r t.failed; errors = t.errors; fault = t.fault; no_fault = t.no_fault }
   where
     works : (r : Result X Error) → (new.failed ≡ is_err r) ⊎ ((new.failed ≡ false) × IsOnlyRead old.kept new.kept) → OnOk r (new.failed ≡ false)
     works (Ok x) (inl h) = h

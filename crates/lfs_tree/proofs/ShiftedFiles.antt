@@ -4,8 +4,8 @@ use Rattle.std.specs.Prelude.{IfErr, OnOk, is_err}
 use Rattle.lfs_device.specs.declared.error.Error.{Error}
 use Rattle.lfs_device.specs.declared.error.Error.TheVariants.{Io, NoMemory}
 use Rattle.lfs_writer.specs.Settling.{IsReadBesideMap}
-use Rattle.lfs_writer.specs.Standing.{TellsWork}
-use Rattle.lfs_model.specs.Discipline.{LeavesAlone}
+use Rattle.lfs_writer.specs.Standing.{ReportsWork}
+use Rattle.lfs_model.specs.Frame.{LeavesAlone}
 use Rattle.lfs_model.specs.Thread.{superblocks_before}
 use Rattle.lfs_model.specs.TreeEdits.{renamed, rest_after}
 use Rattle.lfs_model.specs.InDirectory.{Stands}
@@ -29,8 +29,8 @@ use Rattle.lfs_thread.specs.Kept.{Kept, State}
 use Rattle.lfs_thread.specs.Steps.{pair_in}
 use Rattle.lfs_tree.specs.Carrying.{SurvivesTo}
 use Rattle.lfs_lookup.specs.Entry.{ShowsContents}
-use Rattle.lfs_tree.specs.Shifting.{CanShift, CanShiftOnto, HasShifted, HasShiftedOnto, TellsOfWork}
-use Rattle.lfs_tree.specs.declared.carrying_rename.Source.{Source}
+use Rattle.lfs_tree.specs.Shifting.{CanShift, CanShiftOnto, HasShifted, HasShiftedOnto, ReportsOfWork}
+use Rattle.lfs_tree.specs.declared.renames_at.Source.{Source}
 use Rattle.lfs_lookup.specs.declared.entry.Contents.{Contents}
 use Rattle.lfs_lookup.specs.declared.entry.Contents.TheVariants as shown
 use Rattle.lfs_lookup.specs.declared.search.Spot.{Spot}
@@ -185,8 +185,8 @@ onto_done t mid new from to contents is only ready flying = record {
 pub apart_then : (t mid new : Kept) → WritesAmong t mid → IsReadBesideMap mid new → WritesAmong t new
 apart_then t mid new w only = record { blocks = w.blocks; writes = writes_then t mid new w.blocks w.writes only; each = w.each }
 
-pub told_then : {X Y : Type 0} (old mid new : State) (x : X) (result : Result X Error) (given : Result Y Error) → result ≡ Ok x → TellsOfWork old mid result → new.failed ≡ is_err given → TellsWork mid.kept new.kept given → TellsOfWork old new given
-told_then {X} {Y} old mid new x result given is t failed w =
+pub reported_then : {X Y : Type 0} (old mid new : State) (x : X) (result : Result X Error) (given : Result Y Error) → result ≡ Ok x → ReportsOfWork old mid result → new.failed ≡ is_err given → ReportsWork mid.kept new.kept given → ReportsOfWork old new given
+reported_then {X} {Y} old mid new x result given is t failed w =
     let same = t.no_fault (λ io. let z = sym is ∙ io in absurd (cc)) in
     record {
       works = works given failed;
@@ -199,8 +199,8 @@ told_then {X} {Y} old mid new x result given is t failed w =
     works (Ok y) e = e
     works (Err e) f = tt
 
-pub told_of : {X Y : Type 0} (old new : State) (e : Error) (result : Result X Error) (given : Result Y Error) → result ≡ Err e → given ≡ Err e → TellsOfWork old new result → TellsOfWork old new given
-told_of {X} {Y} old new e result given is same t = record {
+pub reported_of : {X Y : Type 0} (old new : State) (e : Error) (result : Result X Error) (given : Result Y Error) → result ≡ Err e → given ≡ Err e → ReportsOfWork old new result → ReportsOfWork old new given
+reported_of {X} {Y} old new e result given is same t = record {
   works = subst (λ (r : Result Y Error). OnOk r (new.failed ≡ false)) (sym same) tt;
   errors = subst (λ (r : Result Y Error). IfErr r (λ x. (x ≡ Io) ⊎ (x ≡ NoMemory))) (sym same) (subst (λ (r : Result X Error). IfErr r (λ x. (x ≡ Io) ⊎ (x ≡ NoMemory))) is t.errors);
   fault = λ io. t.fault (is ∙ ap Err (error_is e Io given same io));

@@ -7,7 +7,7 @@ use Rattle.lfs_model.specs.Tree.{Path}
 use Rattle.lfs_model.proofs.Paths.{rest_itself}
 use Rattle.lfs_thread.specs.Kept.{Kept}
 use Rattle.lfs_tree.specs.Shifting.{CanShift}
-use Rattle.lfs_tree.specs.declared.carrying_rename.Source.{Source}
+use Rattle.lfs_tree.specs.declared.renames_at.Source.{Source}
 use Rattle.lfs_lookup.specs.declared.search.Spot.{Spot}
 use Rattle.lfs_tree.proofs.SameDirectory.{same_above, same_first}
 

@@ -26,17 +26,17 @@ use Rattle.lfs_operations.specs.Changing.{HasTwoFree, WritesIn, has_failed}
 use Rattle.lfs_operations.specs.Editing.{CanEdit, slot_at}
 use Rattle.lfs_operations.specs.Making.{HasRoomFor}
 use Rattle.lfs_operations.specs.MoveEnds.{end_at}
-use Rattle.lfs_operations.specs.MovingSteps.{TellsInSteps, WritesInTwo, left_at, WritesAmong}
+use Rattle.lfs_operations.specs.MovingSteps.{ReportsInSteps, WritesInTwo, left_at, WritesAmong}
 use Rattle.lfs_operations.specs.MovingAcross.{CanRenameAcross, IsRenamedAcross, with_moved}
 use Rattle.lfs_operations.specs.Ready.{IsReady, IsReadyBut}
 use Rattle.lfs_operations.specs.Removing.{goes_whole}
-use Rattle.lfs_operations.specs.Renaming.{CanRename, IsRenamed, TellsMove, with_renamed}
+use Rattle.lfs_operations.specs.Renaming.{CanRename, IsRenamed, ReportsMove, with_renamed}
 use Rattle.lfs_thread.specs.Device.{two_of}
 use Rattle.lfs_thread.specs.Kept.{Kept, State}
 use Rattle.lfs_thread.specs.Steps.{Writes, pair_in}
 use Rattle.lfs_tree.specs.Carrying.{SurvivesTo}
-use Rattle.lfs_tree.specs.Shifting.{CanShift, CanShiftTo, HasShifted, TellsOfWork}
-use Rattle.lfs_tree.specs.declared.carrying_rename.Source.{Source}
+use Rattle.lfs_tree.specs.Shifting.{CanShift, CanShiftTo, HasShifted, ReportsOfWork}
+use Rattle.lfs_tree.specs.declared.renames_at.Source.{Source}
 use Rattle.lfs_lookup.specs.declared.search.Spot.{Spot}
 use Rattle.lfs_tree.proofs.Carried.{among_one, among_two, behind_below, pair_blocks}
 use Rattle.lfs_tree.proofs.CarryCreated.{stay_in_flight}
@@ -57,29 +57,29 @@ if_both (Ok x) h k f = f h k
 if_both (Err e) h k f = tt
 
 -- there was room, so NoSpace doesn't come
-told_errors : {X : Type 0} (old : Kept) (r : Result X Error) → HasRoomFor 2 old.map → ((r ≡ Err NoSpace) → (HasTwoFree old.map → ⊥)) → IfErr r (λ e. (e ≡ Io) ⊎ ((e ≡ NoMemory) ⊎ (e ≡ NoSpace))) → IfErr r (λ e. (e ≡ Io) ⊎ (e ≡ NoMemory))
-told_errors old (Ok x) room none h = tt
-told_errors old (Err e) room none (inl io) = inl io
-told_errors old (Err e) room none (inr (inl memory)) = inr memory
-told_errors old (Err e) room none (inr (inr space)) = absurd (no_room old.map room (none (ap Err space)))
+reported_errors : {X : Type 0} (old : Kept) (r : Result X Error) → HasRoomFor 2 old.map → ((r ≡ Err NoSpace) → (HasTwoFree old.map → ⊥)) → IfErr r (λ e. (e ≡ Io) ⊎ ((e ≡ NoMemory) ⊎ (e ≡ NoSpace))) → IfErr r (λ e. (e ≡ Io) ⊎ (e ≡ NoMemory))
+reported_errors old (Ok x) room none h = tt
+reported_errors old (Err e) room none (inl io) = inl io
+reported_errors old (Err e) room none (inr (inl memory)) = inr memory
+reported_errors old (Err e) room none (inr (inr space)) = absurd (no_room old.map room (none (ap Err space)))
 
 works_on : {X : Type 0} (new : State) (P : Type 0) (r : Result X Error) → (new.failed ≡ has_failed r) ⊎ ((new.failed ≡ false) × P) → OnOk r (new.failed ≡ false)
 works_on new P (Ok x) (inl h) = h
 works_on new P (Ok x) (inr h) = h.0
 works_on new P (Err e) h = tt
 
-pub told_within : {X : Type 0} (old new : State) (index : ℕ) (changes : List Change) (r : Result X Error) → HasRoomFor 2 old.kept.map → TellsMove old new index changes r → TellsOfWork old new r
-told_within old new index changes r room t = record {
+pub reported_within : {X : Type 0} (old new : State) (index : ℕ) (changes : List Change) (r : Result X Error) → HasRoomFor 2 old.kept.map → ReportsMove old new index changes r → ReportsOfWork old new r
+reported_within old new index changes r room t = record {
   works = works_on new _ r t.failed;
-  errors = told_errors old.kept r room t.tells.no_space t.tells.errors;
-  fault = t.tells.fault;
-  no_fault = t.tells.no_fault;
+  errors = reported_errors old.kept r room t.reports.no_space t.reports.errors;
+  fault = t.reports.fault;
+  no_fault = t.reports.no_fault;
 }
 
-pub told_across : {X : Type 0} (old new : State) (index : ℕ) (changes : List Change) (r : Result X Error) → HasRoomFor 2 old.kept.map → TellsInSteps old new index changes r → TellsOfWork old new r
-told_across old new index changes r room t = record {
+pub reported_across : {X : Type 0} (old new : State) (index : ℕ) (changes : List Change) (r : Result X Error) → HasRoomFor 2 old.kept.map → ReportsInSteps old new index changes r → ReportsOfWork old new r
+reported_across old new index changes r room t = record {
   works = works_on new _ r t.failed;
-  errors = told_errors old.kept r room t.no_space t.errors;
+  errors = reported_errors old.kept r room t.no_space t.errors;
   fault = t.fault;
   no_fault = t.no_fault;
 }

@@ -2,7 +2,7 @@
 use Rattle.std.proofs.Common.{ℕ, ◌≡◌, ◌≤◌, ◌+◌, ◌∙◌, Bool, true, false, List, [], ◌∷◌, ◌++◌, length, Result, Ok, Err, refl, sym, ap, subst, arith, append_assoc}
 use Rattle.std.specs.Prelude.{IfErr, OnOk, Contains}
 use Rattle.lfs_device.specs.declared.error.Error.{Error}
-use Rattle.lfs_model.specs.Discipline.{HoldsSlot}
+use Rattle.lfs_model.specs.Frame.{HoldsSlot}
 use Rattle.lfs_model.specs.TreeEdits.{change_at}
 use Rattle.lfs_model.specs.Blocks.{Blocks}
 use Rattle.lfs_model.specs.BlockSets.{used_count}
@@ -11,7 +11,7 @@ use Rattle.lfs_model.specs.History.{EachEvent, EachSince, Event, faults}
 use Rattle.lfs_model.specs.Layout.{IsLaidOut}
 use Rattle.lfs_model.specs.Operations as ops
 use Rattle.lfs_model.specs.Operations.{Operation}
-use Rattle.lfs_model.specs.PowerLoss.{IsLeft, Survives, with_blocks}
+use Rattle.lfs_model.specs.PowerLoss.{IsLeftByStop, Survives, with_blocks}
 use Rattle.lfs_model.specs.Session.{Session, ctz_blocks}
 use Rattle.lfs_model.specs.Effects.{with_bytes}
 use Rattle.lfs_model.specs.Thread.{Pair, gstate_of}
@@ -22,15 +22,15 @@ use Rattle.lfs_model.proofs.AfterStops.{survives_then}
 use Rattle.lfs_model.proofs.Arranged.{arranged_after, recovered_stays}
 use Rattle.lfs_model.proofs.Committed.{recovered_from}
 use Rattle.lfs_model.proofs.Histories.{LeavesOnly-weaker, LeavesOnly-worst}
-use Rattle.lfs_writer.specs.Standing.{CanFinish, Holds, LeavesPairsAndUsed, held_in}
+use Rattle.lfs_writer.specs.Standing.{CanFinish, HoldsContents, LeavesPairsAndUsed, held_in}
 use Rattle.lfs_thread.specs.Kept.{Kept, State}
 use Rattle.lfs_tree.proofs.LeftAlone.{pair_of_alone}
-use Rattle.lfs_tree.specs.Carrying.{HasCalled, IsAtRest, SurvivesTo, TellsError}
-use Rattle.lfs_tree.specs.Held.{IsHeld, seen_kept, seen_thread}
+use Rattle.lfs_tree.specs.Carrying.{HasCalled, IsAtRest, SurvivesTo, ReportsError}
+use Rattle.lfs_tree.specs.Held.{IsHeld, tree_state_of, seen_thread}
 use Rattle.lfs_tree.proofs.Asking.{seen_working}
 use Rattle.lfs_tree.specs.KeepsFiles.{KeepsOthers}
 use Rattle.lfs_tree.specs.OpenContents.{CanStoreAt, IsArrangedBy, IsSettleable, IsStoredAt, bytes_held, kept_of}
-use Rattle.lfs_tree.specs.Seen.{IsSound, Seen, tree_seen}
+use Rattle.lfs_tree.specs.TreeState.{IsSound, TreeState, tree_view}
 use Rattle.lfs_tree.specs.Storing.{CanCommit, HasCommitted, HasStored, IsFinished, IsLaidBy, ChangesPairOf}
 use Rattle.lfs_tree.proofs.BesideWritten.{accepted_beside, bytes_of_held, geometry_beside, left_beside, over_beside, rooted_beside, tree_beside}
 use Rattle.lfs_tree.proofs.UsedBlocks.{count_is}
@@ -56,7 +56,7 @@ called_then a b c k m = record {
   called = m.called ∙ ap (λ z. m.calls ++ z) k.called ∙ sym (append_assoc m.calls k.calls a.history);
 }
 
-pub errors_then : {X : Type 0} (a b c : Kept) (r : Result X Error) → faults b.history ≡ faults a.history → IfErr r (TellsError b c) → IfErr r (TellsError a c)
+pub errors_then : {X : Type 0} (a b c : Kept) (r : Result X Error) → faults b.history ≡ faults a.history → IfErr r (ReportsError b c) → IfErr r (ReportsError a c)
 errors_then a b c (Ok x) same t = tt
 errors_then a b c (Err e) same t = record {
   errors = t.errors;
@@ -66,16 +66,16 @@ errors_then a b c (Err e) same t = record {
 
 -- ---- what is asked for
 
-room_on : (t : Kept) → IsSound (seen_kept t true false) → (need : ℕ) → length (used_blocks t.disk t.pairs) + need ≤ block_count t.disk → used_count t.map + need ≤ length t.map
-room_on t sound need room = let e = count_is (seen_kept t true false) sound in let s = sound.size in omega arith
+room_on : (t : Kept) → IsSound (tree_state_of t true false) → (need : ℕ) → length (used_blocks t.disk t.pairs) + need ≤ block_count t.disk → used_count t.map + need ≤ length t.map
+room_on t sound need room = let e = count_is (tree_state_of t true false) sound in let s = sound.size in omega arith
 
 finished_form : (limit : ℕ) (f : Form) → IsSettleable limit f → IsFinished limit (finished f)
 finished_form limit (form.InMemory size) h = h
 finished_form limit (form.Finished size flying) h = h
 finished_form limit (form.InHand stop base flying) h = h
 
-module _ (t : State) (root : ℕ) (rests : IsAtRest t root) (path : Path) (contents : Contents) (can : CanStoreAt (seen_kept t.kept true false) path contents) where
-  abbrev sound : IsSound (seen_kept t.kept true false)
+module _ (t : State) (root : ℕ) (rests : IsAtRest t root) (path : Path) (contents : Contents) (can : CanStoreAt (tree_state_of t.kept true false) path contents) where
+  abbrev sound : IsSound (tree_state_of t.kept true false)
   sound = rests.held.sound
 
   pub can_finish : CanFinish t.kept contents
@@ -89,7 +89,7 @@ module _ (t : State) (root : ℕ) (rests : IsAtRest t root) (path : Path) (conte
     pub survives_beside : (after : Tree) → SurvivesTo t.kept b.kept after
     survives_beside after clean = LeavesOnly-weaker (λ blocks spared. left_beside t.kept blocks sound.accepted (sound.fits refl) sound.used spared) (LeavesOnly-worst leaves.at_worst)
 
-    module _ (c : Contents) (holds : Holds b.kept c (bytes_in t.kept.disk.blocks t.kept.disk.block_size contents) (finished (form_of contents))) (owned : AreOwned b.kept.map (held_in t.kept contents) (held_in b.kept c)) where
+    module _ (c : Contents) (holds : HoldsContents b.kept c (bytes_in t.kept.disk.blocks t.kept.disk.block_size contents) (finished (form_of contents))) (owned : AreOwned b.kept.map (held_in t.kept contents) (held_in b.kept c)) where
       bytes_same : bytes_held b.kept c ≡ bytes_held t.kept contents
       bytes_same = bytes_of_held b.kept c (bytes_in t.kept.disk.blocks t.kept.disk.block_size contents) (finished (form_of contents)) holds
 
@@ -118,7 +118,7 @@ module _ (t : State) (root : ℕ) (rests : IsAtRest t root) (path : Path) (conte
       turn_same = ap (λ (x : Tree). change_at path (with_bytes (bytes_held b.kept c)) x) tree_same ∙ ap (λ z. change_at path (with_bytes z) (tree_in t.kept.disk t.kept.pairs)) bytes_same
 
       -- seen from before the end of the list
-      arranged_before : (new : Kept) (op : ℕ → Operation) → IsLaidBy b.kept path (bytes_held b.kept c) op new → IsArrangedBy (seen_kept t.kept true false) path (bytes_held t.kept contents) op (seen_kept new true false)
+      arranged_before : (new : Kept) (op : ℕ → Operation) → IsLaidBy b.kept path (bytes_held b.kept c) op new → IsArrangedBy (tree_state_of t.kept true false) path (bytes_held t.kept contents) op (tree_state_of new true false)
       arranged_before new op laid files fd writer wr =
           let s : Session = record { tree = tree_in t.kept.disk t.kept.pairs; files = files } in
           let stays = recovered_stays t.kept.disk t.kept.pairs (record { tree = tree_in t.kept.disk t.kept.pairs; files = files }) sound.accepted (sound.fits refl) rests.settled in
@@ -172,24 +172,24 @@ module _ (t : State) (root : ℕ) (rests : IsAtRest t root) (path : Path) (conte
           let same : (blocks : Blocks) → with_blocks blocks b.kept.disk ≡ with_blocks blocks t.kept.disk = λ blocks. λ i. record { block_size = leaves.shape.block_size i; page = leaves.shape.page i; order = leaves.shape.order i; blocks = blocks } in
           survives_then t.kept.disk t.kept.history b.kept.history new.history (tree_in t.kept.disk t.kept.pairs) after leaves.at_worst second (survives_beside after)
           (λ clean. LeavesOnly-weaker (λ blocks left.
-          subst (λ (d : Disk). IsLeft d (tree_in t.kept.disk t.kept.pairs) (change_at path (with_bytes (bytes_held t.kept contents)) (tree_in t.kept.disk t.kept.pairs))) (same blocks)
-          (subst (λ (x : Tree). IsLeft (with_blocks blocks b.kept.disk) x (change_at path (with_bytes (bytes_held t.kept contents)) (tree_in t.kept.disk t.kept.pairs))) tree_same
-          (subst (λ (x : Tree). IsLeft (with_blocks blocks b.kept.disk) (tree_in b.kept.disk b.kept.pairs) x) turn_same left))) (k clean))
+          subst (λ (d : Disk). IsLeftByStop d (tree_in t.kept.disk t.kept.pairs) (change_at path (with_bytes (bytes_held t.kept contents)) (tree_in t.kept.disk t.kept.pairs))) (same blocks)
+          (subst (λ (x : Tree). IsLeftByStop (with_blocks blocks b.kept.disk) x (change_at path (with_bytes (bytes_held t.kept contents)) (tree_in t.kept.disk t.kept.pairs))) tree_same
+          (subst (λ (x : Tree). IsLeftByStop (with_blocks blocks b.kept.disk) (tree_in b.kept.disk b.kept.pairs) x) turn_same left))) (k clean))
 
 -- ---- seen from a tree
 
-module _ (thread : State) (root : ℕ) (writable : Bool) (now : Seen) (kept : IsHeld thread root writable) (view : seen_thread thread writable ≡ now) (works : now.failed ≡ false) (may : now.writable ≡ true) (path : Path) (contents : Contents) where
+module _ (thread : State) (root : ℕ) (writable : Bool) (now : TreeState) (kept : IsHeld thread root writable) (view : seen_thread thread writable ≡ now) (works : now.failed ≡ false) (may : now.writable ≡ true) (path : Path) (contents : Contents) where
   stored_working : (new : State) → new.failed ≡ false → HasStored thread.kept path (bytes_held thread.kept contents) new.kept → IsStoredAt now path (bytes_held (kept_of now) contents) (seen_thread new writable)
   stored_working new still k =
-      subst (λ a. IsStoredAt now path (bytes_held (kept_of now) contents) (seen_kept new.kept a new.failed)) (sym (ap (λ (s : Seen). s.writable) view ∙ may))
-      (subst (λ b. IsStoredAt now path (bytes_held (kept_of now) contents) (seen_kept new.kept true b)) (sym still)
-      (subst (λ (s : Seen). IsStoredAt s path (bytes_held (kept_of s) contents) (seen_kept new.kept true false)) (sym (seen_working thread root writable now kept view works may)) k))
+      subst (λ a. IsStoredAt now path (bytes_held (kept_of now) contents) (tree_state_of new.kept a new.failed)) (sym (ap (λ (s : TreeState). s.writable) view ∙ may))
+      (subst (λ b. IsStoredAt now path (bytes_held (kept_of now) contents) (tree_state_of new.kept true b)) (sym still)
+      (subst (λ (s : TreeState). IsStoredAt s path (bytes_held (kept_of s) contents) (tree_state_of new.kept true false)) (sym (seen_working thread root writable now kept view works may)) k))
 
   pub all_stored_working : (r : Result (Unit {0}) Error) (new : State) → OnOk r (HasStored thread.kept path (bytes_held thread.kept contents) new.kept) → OnOk r (new.failed ≡ false) → OnOk r (IsStoredAt now path (bytes_held (kept_of now) contents) (seen_thread new writable))
   all_stored_working (Ok x) new k still = stored_working new still k
   all_stored_working (Err e) new k still = tt
 
   pub survives_stored : (new : List Event) → Survives thread.kept.disk thread.kept.history new (tree_in thread.kept.disk thread.kept.pairs) (change_at path (with_bytes (bytes_held thread.kept contents)) (tree_in thread.kept.disk thread.kept.pairs))
-      → Survives now.disk now.history new (tree_seen now) (change_at path (with_bytes (bytes_held (kept_of now) contents)) (tree_seen now))
+      → Survives now.disk now.history new (tree_view now) (change_at path (with_bytes (bytes_held (kept_of now) contents)) (tree_view now))
   survives_stored new k =
-      subst (λ (s : Seen). Survives s.disk s.history new (tree_seen s) (change_at path (with_bytes (bytes_held (kept_of s) contents)) (tree_seen s))) (sym (seen_working thread root writable now kept view works may)) k
+      subst (λ (s : TreeState). Survives s.disk s.history new (tree_view s) (change_at path (with_bytes (bytes_held (kept_of s) contents)) (tree_view s))) (sym (seen_working thread root writable now kept view works may)) k

@@ -19,10 +19,10 @@ use Rattle.lfs_model.specs.Tree.{Node, Path, Tree}
 use Rattle.lfs_model.proofs.Counts.{Each, each_append, each_left, each_right}
 use Rattle.lfs_operations.proofs.RawSlots.{fewer_attributes}
 use Rattle.lfs_tree.specs.KeepsFiles.{taken_by}
-use Rattle.lfs_tree.specs.Seen.{IsCarried, IsSound, Seen, around_of, tree_seen}
+use Rattle.lfs_tree.specs.TreeState.{IsAppliedOn, IsSound, TreeState, around_of, tree_view}
 use Rattle.lfs_tree.proofs.TakenBlocks.{FitBut, all_few, all_fit, fit_unmoved, list_length, lists_append, lists_in, lists_of, parts_fit, some_fit, total, total_append, total_unmoved, used_total}
 
--- ---- slots that make way for others
+-- ---- slots that are replaced by others
 
 module _ (disk : Disk) (olds news : List Slot) (old new : List Pair) (s : IsSpliced olds news old new) where
   abbrev now : Pair
@@ -106,7 +106,7 @@ module _ (disk : Disk) where
   more_drafted : (old fresh drafts : List Pair) (n m : ℕ) → n ≤ m → IsDrafted disk old fresh drafts n → IsDrafted disk old fresh drafts m
   more_drafted old fresh drafts n m le d = record { cuts = d.cuts; few = d.few; same = d.same; taken = (let t = d.taken in omega arith) }
 
-  -- some slots make way for others with no more blocks
+  -- some slots are replaced by others with no more blocks
   spliced_drafted : (old fresh drafts : List Pair) (olds news : List Slot) → Each (Fits disk) old → fresh ≡ [] → IsSpliced olds news old drafts → lists_in size news ≤ lists_in size olds → IsDrafted disk old fresh drafts 2
   spliced_drafted old fresh drafts olds news h none s le = record {
     cuts = 1;
@@ -259,9 +259,9 @@ module _ (disk : Disk) where
       let between = total_unmoved disk (gstate_of a.between) a.between in
       omega arith
 
-pub room_of : (old new : Seen) (op : Operation) → IsSound old → old.writable ≡ true → IsCarried old op new → length (around_of new).used ≤ length (around_of old).used + taken_by op
+pub room_of : (old new : TreeState) (op : Operation) → IsSound old → old.writable ≡ true → IsAppliedOn old op new → length (around_of new).used ≤ length (around_of old).used + taken_by op
 room_of old new op sound writable k =
-    let taken = taken_arranged old.disk new.disk old.pairs new.pairs (tree_seen old) op (k.arranged []) (recursion_from_All (λ (p : Pair). FitsPair old.disk.block_size old.disk.page p.content) old.pairs (sound.fits writable).pairs) in
+    let taken = taken_arranged old.disk new.disk old.pairs new.pairs (tree_view old) op (k.arranged []) (recursion_from_All (λ (p : Pair). FitsPair old.disk.block_size old.disk.page p.content) old.pairs (sound.fits writable).pairs) in
     let before = used_total old.disk old.pairs in
     let after = used_total new.disk new.pairs in
     let unmoved = total_unmoved new.disk (gstate_of new.pairs) new.pairs in

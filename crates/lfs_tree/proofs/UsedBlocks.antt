@@ -6,7 +6,7 @@ use Rattle.std.proofs.lemmas.Bool.{eqb-false}
 use Rattle.lfs_model.specs.BlockSets.{AreUsed, BlockSets, IsUsed, used_count}
 use Rattle.lfs_model.specs.Shown.{used_blocks}
 use Rattle.lfs_model.proofs.BlockSets.{Contains-cons, Contains-head, Contains-tail, used_count-AreUsed}
-use Rattle.lfs_tree.specs.Seen.{Seen, IsSound}
+use Rattle.lfs_tree.specs.TreeState.{TreeState, IsSound}
 
 contained_any : (bs : List ℕ) (block : ℕ) → Contains bs block → list_any (λ b. b == block) bs ≡ true
 contained_any [] block h = absurd (omega (arith, h.1))
@@ -34,5 +34,5 @@ used_is sets bs block false are h = go (list_any (λ b. b == block) bs) refl
     go false e = refl
     go true e = absurd (let k = h.1 ((are block).1 (any_contained bs block e)) in cc)
 
-pub count_is : (t : Seen) → IsSound t → used_count t.map ≡ length (used_blocks t.disk t.pairs)
+pub count_is : (t : TreeState) → IsSound t → used_count t.map ≡ length (used_blocks t.disk t.pairs)
 count_is t s = used_count-AreUsed t.map (used_blocks t.disk t.pairs) s.accepted.owned_once s.used

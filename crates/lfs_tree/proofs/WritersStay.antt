@@ -17,7 +17,7 @@ use Rattle.lfs_model.specs.Tree.{Path}
 use Rattle.lfs_model.proofs.BlockCounts.{few_flying}
 use Rattle.lfs_tree.specs.KeepsFiles.{KeepsFile}
 use Rattle.lfs_tree.specs.OpenContents.{IsOver, bytes_held}
-use Rattle.lfs_tree.specs.Seen.{IsCarried, IsSound, LeavesFlight, Seen, bare, kept_of}
+use Rattle.lfs_tree.specs.TreeState.{IsAppliedOn, IsSound, LeavesFlight, TreeState, bare, kept_of}
 use Rattle.lfs_tree.proofs.ContentsStay.{StayAs, base_list, bytes_stay, hand_bytes_stay, hand_stays, hand_still, list_stays, of_all, stored_stays}
 use Rattle.lfs_tree.proofs.KeptFiles.{list_used}
 use Rattle.lfs_writer.specs.Apart.{IsApart}
@@ -116,7 +116,7 @@ held_states map d now (InHand hand) is b has =
 
 -- ---- the contents of a writer
 
-module _ (old new : Seen) (path : Path) (c : Contents) (over : IsOver old path c) (before : IsSound old) (sound : IsSound new) (geometry : SameGeometry old.disk new.disk) (flight : LeavesFlight old new)
+module _ (old new : TreeState) (path : Path) (c : Contents) (over : IsOver old path c) (before : IsSound old) (sound : IsSound new) (geometry : SameGeometry old.disk new.disk) (flight : LeavesFlight old new)
     (keeps : KeepsFile (kept_of old) (kept_of new) path) where
   abbrev now : Geometry
   now = over.stands.geometry
@@ -173,12 +173,12 @@ module _ (old new : Seen) (path : Path) (c : Contents) (over : IsOver old path c
   pub bytes_held_stay : bytes_held (kept_of new) c ≡ bytes_held (kept_of old) c
   bytes_held_stay = ap (λ n. bytes_in new.disk.blocks n c) (geometry.block_size ∙ sym over.stands.divided.block_size) ∙ still.1.1 ∙ ap (λ n. bytes_in old.disk.blocks n c) over.stands.divided.block_size
 
-pub contents_stay : (old new : Seen) (op : Operation) (path : Path) (c : Contents) → IsOver old path c → IsSound old → IsCarried old op new → takes_or_moves op path ≡ false
+pub contents_stay : (old new : TreeState) (op : Operation) (path : Path) (c : Contents) → IsOver old path c → IsSound old → IsAppliedOn old op new → takes_or_moves op path ≡ false
     → IsOver new path c × (bytes_held (kept_of new) c ≡ bytes_held (kept_of old) c)
 contents_stay old new op path c over sound k away =
     let keeps = k.keeps path over.file away in
     (over_stays (bare old) (bare new) path c over sound k.sound k.geometry k.flight keeps, bytes_held_stay (bare old) (bare new) path c over sound k.sound k.geometry k.flight keeps)
 
 -- no more blocks are in flight than contents in that form may have
-pub flying_of : (t : Seen) (path : Path) (c : Contents) → IsOver t path c → in_flight_count t.map ≤ form_blocks t.disk.block_size (form_of c)
+pub flying_of : (t : TreeState) (path : Path) (c : Contents) → IsOver t path c → in_flight_count t.map ≤ form_blocks t.disk.block_size (form_of c)
 flying_of t path c over = subst (λ n. in_flight_count t.map ≤ form_blocks n (form_of c)) over.stands.divided.block_size (stands_flying t.map t.disk.blocks over.stands.geometry c over.stands.stands)

@@ -8,7 +8,7 @@ use Rattle.lfs_model.specs.Refusals.{as_path}
 use Rattle.lfs_model.specs.Tree.{DirectoryNode, FileNode, Path, Tree}
 use Rattle.lfs_model.specs.TreeEdits.{added, removed, renamed}
 use Rattle.lfs_tree.specs.CarryingSlots.{with_attributes_changed}
-use Rattle.lfs_tree.specs.Seen.{IsBroken, IsCarried, IsError, LeavesRest, Seen, SurvivesAs, tree_seen}
+use Rattle.lfs_tree.specs.TreeState.{IsBroken, IsAppliedOn, IsError, LeavesRest, TreeState, SurvivesAs, tree_view}
 
 pub data Call : Type 0 where
   Mkdir : (path : Path) → Call
@@ -41,9 +41,9 @@ left_by Recover t = t
 
 -- The operation that the call does is carried out, and leaves the rest alone; or the tree has failed. A loss of power on the way
 -- leaves the tree from before, or that of the call.
-pub record IsOperation {X : Type 0} (old : Seen) (call : Call) (result : Result X Error) (new : Seen) : Type 0 where
-  pub done : OnOk result ((op : Operation) → Does call op → IsCarried old op new)
+pub record IsOperation {X : Type 0} (old : TreeState) (call : Call) (result : Result X Error) (new : TreeState) : Type 0 where
+  pub done : OnOk result ((op : Operation) → Does call op → IsAppliedOn old op new)
   pub alone : OnOk result ((op : Operation) → Does call op → LeavesRest old op new)
   pub broken : OnErr result (IsBroken old new)
   pub errors : IfErr result (IsError old new)
-  pub survives : SurvivesAs old new (left_by call (tree_seen old))
+  pub survives : SurvivesAs old new (left_by call (tree_view old))

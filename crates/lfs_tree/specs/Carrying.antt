@@ -18,9 +18,9 @@ use Rattle.lfs_model.specs.Shown.{tree_in}
 use Rattle.lfs_operations.specs.Ready.{KeepsRoot}
 use Rattle.lfs_thread.specs.Kept.{Kept, State}
 use Rattle.lfs_tree.specs.Calls.{Call, Does, left_by}
-use Rattle.lfs_tree.specs.Held.{IsRooted, seen_kept}
+use Rattle.lfs_tree.specs.Held.{IsRooted, tree_state_of}
 use Rattle.lfs_lookup.specs.Paths.{BeginsOnPath, LeadsTo}
-use Rattle.lfs_tree.specs.Seen.{IsCarried, IsError, IsSound, LeavesRest}
+use Rattle.lfs_tree.specs.TreeState.{IsAppliedOn, IsError, IsSound, LeavesRest}
 use Rattle.lfs_lookup.specs.declared.paths.Found.{Found}
 use Rattle.lfs_lookup.specs.declared.paths.Found.TheVariants as found
 use Rattle.lfs_lookup.specs.declared.search.Spot.{Spot}
@@ -58,12 +58,12 @@ IsPlaceIn (found.Nothing parent place) spot = place ≡ spot
 IsPlaceIn _ spot = ⊥
 
 -- the operation is carried out
-abbrev pub Carries : Kept → Operation → Kept → Type 0
-Carries old op new = IsCarried (seen_kept old true false) op (seen_kept new true false)
+abbrev pub AppliesOn : Kept → Operation → Kept → Type 0
+AppliesOn old op new = IsAppliedOn (tree_state_of old true false) op (tree_state_of new true false)
 
 -- it leaves the rest alone
 abbrev pub Spares : Kept → Operation → Kept → Type 0
-Spares old op new = LeavesRest (seen_kept old true false) op (seen_kept new true false)
+Spares old op new = LeavesRest (tree_state_of old true false) op (tree_state_of new true false)
 
 -- the device is divided as before, and had further calls
 pub record HasCalled (old new : Kept) : Type 0 where
@@ -72,8 +72,8 @@ pub record HasCalled (old new : Kept) : Type 0 where
   pub called : new.history ≡ calls ++ old.history
 
 -- `Io` comes with a fault of the device, and `NoMemory` without one
-abbrev pub TellsError : Kept → Kept → Error → Type 0
-TellsError old new e = IsError (seen_kept old true false) (seen_kept new true true) e
+abbrev pub ReportsError : Kept → Kept → Error → Type 0
+ReportsError old new e = IsError (tree_state_of old true false) (tree_state_of new true true) e
 
 -- a loss of power on the way leaves the tree from before, or that one
 abbrev pub SurvivesTo : Kept → Kept → Tree → Type 0
@@ -83,7 +83,7 @@ SurvivesTo old new after = Survives old.disk old.history new.history (tree_in ol
 
 -- the image is a sound one of the writing profile that shows the tree, the root directory begins where it did, and no call failed
 pub record StandsAs (old : Kept) (tree : Tree) (new : Kept) : Type 0 where
-  pub sound : IsSound (seen_kept new true false)
+  pub sound : IsSound (tree_state_of new true false)
   pub fits : IsWritable new.disk new.pairs
   pub root : KeepsRoot old new
   pub shows : tree_in new.disk new.pairs ≡ tree
@@ -96,12 +96,12 @@ pub record IsChange {X : Type 0} (old : State) (Done : Kept → Type 0) (after :
   pub works : OnOk result (new.failed ≡ false)
   pub stands : OnOk result (StandsAs old.kept after new.kept)
   pub called : HasCalled old.kept new.kept
-  pub errors : IfErr result (TellsError old.kept new.kept)
+  pub errors : IfErr result (ReportsError old.kept new.kept)
   pub survives : SurvivesTo old.kept new.kept after
 
 -- the operation that the call does is carried out, and leaves the rest alone
 pub record HasDone (old : Kept) (call : Call) (new : Kept) : Type 0 where
-  pub carries : (op : Operation) → Does call op → Carries old op new
+  pub carries : (op : Operation) → Does call op → AppliesOn old op new
   pub spares : (op : Operation) → Does call op → Spares old op new
 
 -- what a call says over a thread of which nothing is to be recovered

@@ -19,7 +19,7 @@ use Rattle.lfs_model.specs.Thread.{anchor}
 use Rattle.lfs_model.specs.View.{IsAccepted, view_in}
 use Rattle.lfs_model.specs.Profile.{IsWritable}
 use Rattle.lfs_pair.specs.Pair.{address_in}
-use Rattle.lfs_pair.specs.Writing.{Holds}
+use Rattle.lfs_pair.specs.Writing.{HoldsLogContent}
 use Rattle.lfs_thread.specs.Device.{two_of}
 use Rattle.lfs_thread.specs.Kept.{Header, IsHeader, Kept, disk_on}
 use Rattle.lfs_thread.specs.Steps.{Writes}
@@ -42,7 +42,7 @@ pub record IsEmptyRoot (disk : Disk) (history : List Event) (h : Header) : Type 
   pub header : IsHeader disk history h
   pub at : address_in h ≡ anchor
   pub fresh : IsFresh disk
-  pub first : Holds 1 (superblock_alone disk) (block_at disk 0)
+  pub first : HoldsLogContent 1 (superblock_alone disk) (block_at disk 0)
   pub second : has_commit (block_at disk 1) ≡ false
 
 -- there is no other header
@@ -62,7 +62,7 @@ pub record IsEmptyMap (count : ℕ) (sets : BlockSets) : Type 0 where
 -- has all blocks.
 pub record IsFormatted (t : Kept) : Type 0 where
   pub fresh : IsFresh t.disk
-  pub first : Holds 1 (superblock_alone t.disk) (block_at t.disk 0)
+  pub first : HoldsLogContent 1 (superblock_alone t.disk) (block_at t.disk 0)
   pub second : has_commit (block_at t.disk 1) ≡ false
   pub pairs : t.pairs ≡ fresh_pair t.disk ∷ []
   pub used : AreUsed t.map (two_of anchor)

@@ -2,19 +2,19 @@
 use Rattle.std.specs.Prelude.{ℕ, ◌≡◌, Bool, false, []}
 use Rattle.lfs_model.specs.Thread.{superblocks_before}
 use Rattle.lfs_thread.specs.Kept.{Kept, State}
-use Rattle.lfs_tree.specs.Seen.{Seen, IsSound}
+use Rattle.lfs_tree.specs.TreeState.{TreeState, IsSound}
 
--- with nothing at hand
-abbrev pub seen_kept : Kept → Bool → Bool → Seen
-seen_kept t writable failed = record { disk = t.disk; history = t.history; pairs = t.pairs; map = t.map; writable = writable; failed = failed; cache = [] }
+-- with nothing cached
+abbrev pub tree_state_of : Kept → Bool → Bool → TreeState
+tree_state_of t writable failed = record { disk = t.disk; history = t.history; pairs = t.pairs; map = t.map; writable = writable; failed = failed; cache = [] }
 
-abbrev pub seen_thread : State → Bool → Seen
-seen_thread t writable = record (seen_kept t.kept writable t.failed) { cache = t.cache }
+abbrev pub seen_thread : State → Bool → TreeState
+seen_thread t writable = record (tree_state_of t.kept writable t.failed) { cache = t.cache }
 
 -- the thread works, and is that of an accepted image, whose root directory begins with that pair
 pub record IsRooted (t : State) (root : ℕ) (writable : Bool) : Type 0 where
   pub works : t.failed ≡ false
-  pub sound : IsSound (seen_kept t.kept writable false)
+  pub sound : IsSound (tree_state_of t.kept writable false)
   pub root_is : root ≡ superblocks_before t.kept.pairs
 
 -- so, unless it has failed

@@ -1,6 +1,6 @@
 pub mod Formatting
 pub mod KeepsFiles
-pub mod Seen
+pub mod TreeState
 pub mod Allowed
 pub mod Held
 pub mod CarryingSlots

@@ -3,7 +3,7 @@ use Rattle.std.specs.Prelude.{ℕ, ◌≡◌, ◌+◌, ◌^◌, ◌<◌, ◌≤�
 use Rattle.lfs_device.specs.declared.error.Error.{Error}
 use Rattle.lfs_model.specs.TreeEdits.{change_at, is_file}
 use Rattle.lfs_model.specs.BlockSets.{in_flight_count}
-use Rattle.lfs_model.specs.Discipline.{LeavesAlone, paths_of}
+use Rattle.lfs_model.specs.Frame.{LeavesAlone, paths_of}
 use Rattle.lfs_model.specs.Disk.{SameGeometry, block_at, block_count, inline_limit}
 use Rattle.lfs_model.specs.History.{Event, faults}
 use Rattle.lfs_model.specs.Layout.{IsArranged}
@@ -21,8 +21,8 @@ use Rattle.lfs_writer.specs.Standing.{StandsIn, held_in}
 use Rattle.lfs_operations.specs.Storing.{IsWriterOf}
 use Rattle.lfs_thread.specs.Kept.{Kept}
 pub use Rattle.lfs_tree.specs.KeepsFiles.{KeepsOthers, blocks_named, list_at}
-pub use Rattle.lfs_tree.specs.Seen.{kept_of}
-use Rattle.lfs_tree.specs.Seen.{IsBroken, IsError, Seen, IsSound, SurvivesAs, around_of, bare, tree_seen}
+pub use Rattle.lfs_tree.specs.TreeState.{kept_of}
+use Rattle.lfs_tree.specs.TreeState.{IsBroken, IsError, TreeState, IsSound, SurvivesAs, around_of, bare, tree_view}
 use Rattle.lfs_writer.specs.Contents.{IsLarge, NeedsRoom, bytes_in, end_room, form_of, truncate_room, write_room}
 use Rattle.lfs_writer.specs.Form as form
 use Rattle.lfs_writer.specs.Form.{Form, form_size}
@@ -34,7 +34,7 @@ abbrev pub bytes_held : Kept → Contents → List ℕ
 bytes_held t contents = bytes_in t.disk.blocks t.disk.block_size contents
 
 -- a writer's contents have these bytes, in that form
-pub record HasBytesAs (t : Seen) (these : List ℕ) (shape : Form) (contents : Contents) : Type 0 where
+pub record HasBytesAs (t : TreeState) (these : List ℕ) (shape : Form) (contents : Contents) : Type 0 where
   pub bytes : bytes_held (kept_of t) contents ≡ these
   pub form : form_of contents ≡ shape
 
@@ -45,20 +45,20 @@ pub record IsOverFile (t : Kept) (path : Path) (contents : Contents) : Type 0 wh
   pub stands : StandsIn t contents
   pub owned : AreOwned t.map (list_at t path) (held_in t contents)
 
-abbrev pub IsOver : Seen → Path → Contents → Type 0
+abbrev pub IsOver : TreeState → Path → Contents → Type 0
 IsOver t path contents = IsOverFile (kept_of t) path contents
 
 -- ---- what is asked for
 
 -- nothing is in flight, and a file stands there
-pub record CanOpen (t : Seen) (path : Path) : Type 0 where
+pub record CanOpen (t : TreeState) (path : Path) : Type 0 where
   pub works : t.failed ≡ false
   pub writable : t.writable ≡ true
   pub idle : in_flight_count t.map ≡ 0
-  pub file : is_file (tree_seen t path) ≡ true
+  pub file : is_file (tree_view t path) ≡ true
 
 -- So many bytes, at least one, may be written there. Past the inline limit there is room for what that wants in flight.
-pub record CanWriteBeside (t : Seen) (contents : Contents) (place count : ℕ) : Type 0 where
+pub record CanWriteBeside (t : TreeState) (contents : Contents) (place count : ℕ) : Type 0 where
   pub works : t.failed ≡ false
   pub stands : StandsIn (kept_of t) contents
   pub large : IsLarge (inline_limit t.disk.block_size) (form_of contents)
@@ -68,7 +68,7 @@ pub record CanWriteBeside (t : Seen) (contents : Contents) (place count : ℕ) :
       → length (around_of t).used + write_room t.disk.block_size place count (form_of contents) ≤ block_count t.disk
 
 -- They may be cut or filled up to that size. Where blocks are wanted, there is room for them.
-pub record CanTruncateBeside (t : Seen) (contents : Contents) (size : ℕ) : Type 0 where
+pub record CanTruncateBeside (t : TreeState) (contents : Contents) (size : ℕ) : Type 0 where
   pub works : t.failed ≡ false
   pub stands : StandsIn (kept_of t) contents
   pub large : IsLarge (inline_limit t.disk.block_size) (form_of contents)
@@ -83,7 +83,7 @@ IsSettleable limit (form.Finished size flying) = limit < size
 IsSettleable limit (form.InHand stop base flying) = limit < max stop base
 
 -- The file at the path may get these contents: there is room for what is still to be written of them, and then for two blocks.
-pub record CanStoreAtImage (t : Seen) (path : Path) (contents : Contents) : Type 0 where
+pub record CanStoreAtImage (t : TreeState) (path : Path) (contents : Contents) : Type 0 where
   pub works : t.failed ≡ false
   pub writable : t.writable ≡ true
   pub settled : gstate_of t.pairs ≡ no_gstate
@@ -92,7 +92,7 @@ pub record CanStoreAtImage (t : Seen) (path : Path) (contents : Contents) : Type
   pub end : length (around_of t).used + end_room t.disk.block_size (form_of contents) ≤ block_count t.disk
   pub room : length (around_of t).used + ctz_blocks t.disk.block_size (length (bytes_held (kept_of t) contents)) + 2 ≤ block_count t.disk
 
-abbrev pub CanStoreAt : Seen → Path → Contents → Type 0
+abbrev pub CanStoreAt : TreeState → Path → Contents → Type 0
 CanStoreAt t path contents = CanStoreAtImage (bare t) path contents
 
 -- ---- what comes of it
@@ -102,12 +102,12 @@ abbrev pub IsOpenedForm : ℕ → ℕ → Form → Type 0
 IsOpenedForm block_size size shape = ((shape ≡ form.InMemory size) × (size ≤ inline_limit block_size)) ⊎ (shape ≡ form.Finished size false)
 
 -- Only blocks were written that the image doesn't use: it shows what it showed, in the same pairs.
-pub record IsWrittenBeside (old new : Seen) : Type 0 where
+pub record IsWrittenBeside (old new : TreeState) : Type 0 where
   pub works : new.failed ≡ false
   pub sound : IsSound new
   pub writable : new.writable ≡ old.writable
   pub pairs : new.pairs ≡ old.pairs
-  pub shows : tree_seen new ≡ tree_seen old
+  pub shows : tree_view new ≡ tree_view old
   pub around : around_of new ≡ around_of old
   pub stay : (b : ℕ) → Contains (used_blocks old.disk old.pairs) b → block_at new.disk b ≡ block_at old.disk b
   pub geometry : SameGeometry old.disk new.disk
@@ -116,23 +116,23 @@ pub record IsWrittenBeside (old new : Seen) : Type 0 where
   pub no_fault : faults new.history ≡ faults old.history
 
 -- What a call on a writer's contents says, that leaves the image as it is. So does a loss of power on its way.
-pub record IsWriting {X : Type 0} (old : Seen) (result : Result X Error) (new : Seen) : Type 0 where
+pub record IsWriting {X : Type 0} (old : TreeState) (result : Result X Error) (new : TreeState) : Type 0 where
   pub beside : OnOk result (IsWrittenBeside old new)
   pub broken : OnErr result (IsBroken old new)
   pub errors : IfErr result (IsError old new)
-  pub survives : old.writable ≡ true → SurvivesAs old new (tree_seen old)
+  pub survives : old.writable ≡ true → SurvivesAs old new (tree_view old)
 
 -- where slots stand is what the operation on such a writer wants
-abbrev pub IsArrangedBy : Seen → Path → List ℕ → (ℕ → Operation) → Seen → Type 0
-IsArrangedBy old path bytes op new = (files : Files) (fd : ℕ) (writer : Writer) → IsWriterOf (record { tree = tree_seen old; files = files }) fd path bytes writer
-    → IsArranged old.disk old.pairs (record { tree = tree_seen old; files = files }) (op fd) new.disk new.pairs
+abbrev pub IsArrangedBy : TreeState → Path → List ℕ → (ℕ → Operation) → TreeState → Type 0
+IsArrangedBy old path bytes op new = (files : Files) (fd : ℕ) (writer : Writer) → IsWriterOf (record { tree = tree_view old; files = files }) fd path bytes writer
+    → IsArranged old.disk old.pairs (record { tree = tree_view old; files = files }) (op fd) new.disk new.pairs
 
 -- the operation is about that path, as a sync or a close of its writer
 abbrev pub IsAboutPath : Session → Operation → Path → Type 0
 IsAboutPath s op path = paths_of s op ≡ path ∷ []
 
 -- The file at the path has these bytes, without a fault of the device, and nothing is in flight any more. Other pairs and all lists hold what they held.
-pub record IsStoredAtImage (old : Seen) (path : Path) (bytes : List ℕ) (new : Seen) : Type 0 where
+pub record IsStoredAtImage (old : TreeState) (path : Path) (bytes : List ℕ) (new : TreeState) : Type 0 where
   pub works : new.failed ≡ false
   pub sound : IsSound new
   pub writable : new.writable ≡ true
@@ -142,12 +142,12 @@ pub record IsStoredAtImage (old : Seen) (path : Path) (bytes : List ℕ) (new : 
   pub no_fault : faults new.history ≡ faults old.history
   pub fits : IsWritable new.disk new.pairs
   pub recovered : IsRecovered new.pairs
-  pub shows : tree_seen new ≡ change_at path (with_bytes bytes) (tree_seen old)
-  pub others : KeepsOthers (tree_seen old) old.pairs path new.pairs
+  pub shows : tree_view new ≡ change_at path (with_bytes bytes) (tree_view old)
+  pub others : KeepsOthers (tree_view old) old.pairs path new.pairs
   pub synced : IsArrangedBy old path bytes ops.Sync new
   pub closed : IsArrangedBy old path bytes ops.Close new
-  pub alone : (files : Files) (op : Operation) → IsAboutPath (record { tree = tree_seen old; files = files }) op path → LeavesAlone old.disk old.pairs (record { tree = tree_seen old; files = files }) op new.disk new.pairs
+  pub alone : (files : Files) (op : Operation) → IsAboutPath (record { tree = tree_view old; files = files }) op path → LeavesAlone old.disk old.pairs (record { tree = tree_view old; files = files }) op new.disk new.pairs
   pub none_in_flight : in_flight_count new.map ≡ 0
 
-abbrev pub IsStoredAt : Seen → Path → List ℕ → Seen → Type 0
+abbrev pub IsStoredAt : TreeState → Path → List ℕ → TreeState → Type 0
 IsStoredAt old path bytes new = IsStoredAtImage (bare old) path bytes (bare new)

@@ -3,7 +3,7 @@ use Rattle.std.specs.Prelude.{All, false}
 use Rattle.lfs_model.specs.BlockSets.{IsFree}
 use Rattle.lfs_model.specs.Slots.{Slot, Struct}
 use Rattle.lfs_model.specs.Shown.{file_blocks}
-use Rattle.lfs_writer.specs.Standing.{Holds, held_in}
+use Rattle.lfs_writer.specs.Standing.{HoldsContents, held_in}
 use Rattle.lfs_thread.specs.Kept.{Kept}
 use Rattle.lfs_lookup.specs.BytesAt.{IsFileAt}
 use Rattle.lfs_lookup.specs.FileBytes.{bytes_shown}
@@ -28,5 +28,5 @@ opened_form (entry.List head size) = form.Finished size false
 
 -- a writer has the bytes that the struct says, in memory or as the file's list
 pub record IsOpened (t : Kept) (struct : Struct) (shape : Form) (contents : Contents) : Type 0 where
-  pub holds : Holds t contents (bytes_shown t.disk struct) shape
+  pub holds : HoldsContents t contents (bytes_shown t.disk struct) shape
   pub owned : AreOwned t.map (file_blocks t.disk struct) (held_in t contents)

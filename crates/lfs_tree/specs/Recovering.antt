@@ -15,10 +15,10 @@ use Rattle.lfs_model.specs.Steps.{IsCompleted, count, HasNoMove}
 use Rattle.lfs_operations.specs.Ready.{IsReady, KeepsRoot}
 use Rattle.lfs_operations.specs.EndingMove.{RecoversTo}
 use Rattle.lfs_thread.specs.Kept.{Kept}
-use Rattle.lfs_tree.specs.Carrying.{Carries}
-use Rattle.lfs_tree.specs.Held.{seen_kept}
+use Rattle.lfs_tree.specs.Carrying.{AppliesOn}
+use Rattle.lfs_tree.specs.Held.{tree_state_of}
 use Rattle.lfs_tree.specs.KeepsFiles.{KeepsFile}
-use Rattle.lfs_tree.specs.Seen.{LeavesFlight}
+use Rattle.lfs_tree.specs.TreeState.{LeavesFlight}
 
 -- The image is accepted and may be written, and no move is set; the map knows each of its blocks.
 pub record CanDropLost (t : Kept) : Type 0 where
@@ -37,13 +37,13 @@ pub record HasDroppedLost (old new : Kept) : Type 0 where
   pub completed : (s : Session) → s.tree ≡ tree_in old.disk old.pairs → IsCompleted old.disk old.pairs s ops.Recover new.disk new.pairs
   pub fewer : (b : ℕ) → count b (used_blocks new.disk new.pairs) ≤ count b (used_blocks old.disk old.pairs)
   pub keeps : (path : Path) → is_file (tree_in old.disk old.pairs path) ≡ true → KeepsFile old new path
-  pub flight : LeavesFlight (seen_kept old true false) (seen_kept new true false)
+  pub flight : LeavesFlight (tree_state_of old true false) (tree_state_of new true false)
 
 -- What a loss of power left is ended, if it left anything, without a fault of the device. Where slots stand behind a further
 -- recovery they stand behind one of the old image, and no more blocks are used: so an operation on the new image is one on the old.
 -- Where nothing was left, nothing was called.
 pub record HasSettled (old new : Kept) : Type 0 where
-  pub carries : Carries old ops.Recover new
+  pub carries : AppliesOn old ops.Recover new
   pub leads_on : RecoversTo old new
   pub room : length (used_blocks new.disk new.pairs) ≤ length (used_blocks old.disk old.pairs)
   pub same : gstate_of old.pairs ≡ no_gstate → new ≡ old

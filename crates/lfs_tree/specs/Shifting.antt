@@ -2,7 +2,7 @@
 use Rattle.std.specs.Prelude.{ℕ, ◌≡◌, ◌⊎◌, ◌<◌, true, false, List, [], ◌∷◌, ◌++◌, length, None, Result, IfErr, IsErrOf, OnOk}
 use Rattle.lfs_device.specs.declared.error.Error.{Error}
 use Rattle.lfs_device.specs.declared.error.Error.TheVariants.{Io, NoMemory}
-use Rattle.lfs_model.specs.Discipline.{LeavesAlone}
+use Rattle.lfs_model.specs.Frame.{LeavesAlone}
 use Rattle.lfs_model.specs.TreeEdits.{renamed, rest_after}
 use Rattle.lfs_model.specs.History.{faults}
 use Rattle.lfs_model.specs.InDirectory.{Belongs, Stands}
@@ -26,7 +26,7 @@ use Rattle.lfs_tree.specs.CarryingSlots.{IsSlotFor}
 use Rattle.lfs_lookup.specs.Entry.{ShowsContents}
 use Rattle.lfs_tree.specs.Going.{CanFree}
 use Rattle.lfs_lookup.specs.Paths.{BeginsOnPath}
-use Rattle.lfs_tree.specs.declared.carrying_rename.Source.{Source}
+use Rattle.lfs_tree.specs.declared.renames_at.Source.{Source}
 use Rattle.lfs_lookup.specs.declared.entry.Contents.{Contents}
 use Rattle.lfs_lookup.specs.declared.paths.Found.{Found}
 use Rattle.lfs_lookup.specs.declared.paths.Found.TheVariants as found
@@ -116,7 +116,7 @@ pub record HasShiftedOnto (old : Kept) (from to : Path) (contents : Contents) (n
   pub alone : HasSparedOthers old from to new
 
 -- `Io` comes with a fault of the device, and any other answer with none; where there is no error the thread works
-pub record TellsOfWork {X : Type 0} (old new : State) (result : Result X Error) : Type 0 where
+pub record ReportsOfWork {X : Type 0} (old new : State) (result : Result X Error) : Type 0 where
   pub works : OnOk result (new.failed ≡ false)
   pub errors : IfErr result (λ e. (e ≡ Io) ⊎ (e ≡ NoMemory))
   pub fault : IsErrOf result Io → faults old.kept.history < faults new.kept.history

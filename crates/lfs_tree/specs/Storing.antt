@@ -2,7 +2,7 @@
 use Rattle.std.specs.Prelude.{Contains, ℕ, ◌≡◌, ◌≢◌, ◌+◌, ◌≤◌, Bool, true, false, List, [], ◌<◌, length, None}
 use Rattle.lfs_model.specs.TreeEdits.{change_at}
 use Rattle.lfs_model.specs.BlockSets.{in_flight_count, used_count}
-use Rattle.lfs_model.specs.Discipline.{HoldsSlot}
+use Rattle.lfs_model.specs.Frame.{HoldsSlot}
 use Rattle.lfs_model.specs.Disk.{Disk, block_at, inline_limit}
 use Rattle.lfs_model.specs.Layout.{IsLaidOut}
 use Rattle.lfs_model.specs.Operations as ops
@@ -22,16 +22,16 @@ use Rattle.lfs_operations.specs.Making.{HasRoomFor}
 use Rattle.lfs_operations.specs.Storing.{IsWriterOf}
 use Rattle.lfs_thread.specs.Kept.{Kept}
 use Rattle.lfs_tree.specs.CarryingSlots.{IsSlotFor}
-use Rattle.lfs_tree.specs.Held.{seen_kept}
+use Rattle.lfs_tree.specs.Held.{tree_state_of}
 use Rattle.lfs_tree.specs.KeepsFiles.{KeepsOthers}
 use Rattle.lfs_tree.specs.OpenContents.{IsOverFile, IsStoredAt, bytes_held}
-use Rattle.lfs_tree.specs.Seen.{IsSound}
+use Rattle.lfs_tree.specs.TreeState.{IsSound}
 use Rattle.lfs_lookup.specs.declared.entry.Contents.{Contents as EntryContents}
 use Rattle.lfs_lookup.specs.declared.entry.Contents.TheVariants as entry
 use Rattle.lfs_lookup.specs.declared.paths.Found.{Found}
 use Rattle.lfs_lookup.specs.declared.paths.Found.TheVariants as found
 use Rattle.lfs_lookup.specs.declared.search.Spot.{Spot}
-use Rattle.lfs_tree.specs.declared.storing.FileSlot.{FileSlot}
+use Rattle.lfs_tree.specs.declared.contents_at.FileSlot.{FileSlot}
 use Rattle.lfs_writer.specs.Contents.{form_of, held_bytes}
 use Rattle.lfs_writer.specs.Form as form
 use Rattle.lfs_writer.specs.Form.{Form}
@@ -115,7 +115,7 @@ pub record ChangesPairOf (disk : Disk) (ps : List Pair) (path : Path) (new : Dis
 
 -- the file at the path has these bytes, nothing is in flight, and the root directory begins where it did
 pub record HasCommitted (old : Kept) (path : Path) (bytes : List ℕ) (new : Kept) : Type 0 where
-  pub sound : IsSound (seen_kept new true false)
+  pub sound : IsSound (tree_state_of new true false)
   pub fits : IsWritable new.disk new.pairs
   pub settled : gstate_of new.pairs ≡ no_gstate
   pub root : KeepsRoot old new
@@ -128,4 +128,4 @@ pub record HasCommitted (old : Kept) (path : Path) (bytes : List ℕ) (new : Kep
 
 -- the same, seen from a tree
 abbrev pub HasStored : Kept → Path → List ℕ → Kept → Type 0
-HasStored old path bytes new = IsStoredAt (seen_kept old true false) path bytes (seen_kept new true false)
+HasStored old path bytes new = IsStoredAt (tree_state_of old true false) path bytes (tree_state_of new true false)

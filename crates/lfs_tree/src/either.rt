@@ -9,7 +9,7 @@ ghost use Rattle.lfs_model.specs.declared.order.NameOrder.TheVariants.{LongerFir
 ghost use Rattle.lfs_mount.specs.Device.{IsMountError};
 ghost use Rattle.lfs_mount.specs.Either.{GivesDeviceBack};
 ghost use Rattle.lfs_thread.specs.Kept.{disk_on};
-ghost use Rattle.lfs_tree.specs.Seen.{IsMountedTree};
+ghost use Rattle.lfs_tree.specs.TreeState.{IsMountedTree};
 
 use crate::mounted::read_root;
 use crate::tree::Tree;

@@ -1,13 +1,13 @@
 // An empty file system on a device.
 
 ghost use Rattle.std.specs.Prelude.{◌≡◌, ◌≤◌, ◌+◌, [], false, IfErr, IfOk, OnOk};
-ghost use Rattle.lfs_device.specs.Calls.{ChangesOnly, TellsFaults};
+ghost use Rattle.lfs_device.specs.Calls.{ChangesOnly, ReportsFaults};
 ghost use Rattle.lfs_model.specs.History.{erases};
 ghost use Rattle.lfs_model.specs.Thread.{anchor};
-ghost use Rattle.lfs_pair.specs.ChangeSeen.{changes_seen};
+ghost use Rattle.lfs_pair.specs.ChangeView.{changes_view};
 ghost use Rattle.lfs_pair.specs.Fresh.{FailsUntouched};
 ghost use Rattle.lfs_thread.specs.Device.{two_of};
-ghost use Rattle.lfs_thread.specs.Kept.{disk_on, seen_on};
+ghost use Rattle.lfs_thread.specs.Kept.{disk_on, kept_view_on};
 ghost use Rattle.lfs_thread.specs.Steps.{Writes};
 ghost use Rattle.lfs_tree.specs.Formatting.{ComesBack, ErasesTwo, IsEmptyMap, IsEmptyRoot, IsEmptyThread, IsFormatted, ShowsEmptyRoot, put_superblock};
 
@@ -25,7 +25,7 @@ const ROOT: [u32; 2] = [0, 1];
 
 // The changes that put the superblock into slot 0.
 fn superblock_changes<'a>(structure: &'a [u8; 24]) -> [Change<'a>; 2]
-    ensures { changes_seen result ≡ put_superblock structure.now }
+    ensures { changes_view result ≡ put_superblock structure.now }
 {
     [
         Change::Create {
@@ -47,7 +47,7 @@ fn write_root<D: BlockDevice>(alloc: Global, device: &mut D) -> Result<Pair, Err
     ensures erases { OnOk result (erases (D.history device.new) ≡ erases (D.history device.old) + 2) }
     ensures error { IfErr result (λ e. FailsUntouched device.old device.new e) }
     ensures device { ChangesOnly D.BlockDevice (two_of anchor) device.old device.new }
-    ensures faults { TellsFaults D.BlockDevice device.old device.new result }
+    ensures faults { ReportsFaults D.BlockDevice device.old device.new result }
 {
     let geometry = device.geometry();
     let structure = superblock_bytes(&Superblock::of(&geometry));
@@ -67,7 +67,7 @@ fn write_thread<D: BlockDevice>(
     ensures erases { OnOk result (erases (D.history device.new) ≡ erases (D.history device.old) + 2) }
     ensures error { IfErr result (λ e. FailsUntouched device.old device.new e) }
     ensures device { ChangesOnly D.BlockDevice (two_of anchor) device.old device.new }
-    ensures faults { TellsFaults D.BlockDevice device.old device.new result }
+    ensures faults { ReportsFaults D.BlockDevice device.old device.new result }
 {
     // Room for the header, before anything is written.
     pairs.reserve(1)?;
@@ -105,7 +105,7 @@ pub fn format<D: BlockDevice>(alloc: Global, mut device: D) -> Result<Thread<D>,
     ensures works { IfOk result (λ t. t.failed ≡ false) }
     ensures formatted { IfOk result (λ t. IsFormatted t.kept) }
     ensures shows { IfOk result (λ t. ShowsEmptyRoot t.kept) }
-    ensures writes { IfOk result (λ t. Writes (two_of anchor) (seen_on D.BlockDevice device [] []) t.kept) }
+    ensures writes { IfOk result (λ t. Writes (two_of anchor) (kept_view_on D.BlockDevice device [] []) t.kept) }
     ensures calls { IfOk result (λ t. ErasesTwo (D.history device) t.kept.history) }
     ensures back { IfErr result (λ e. ComesBack D.BlockDevice (two_of anchor) device e.0 e.1) }
 {

@@ -7,7 +7,7 @@ ghost use Rattle.lfs_model.specs.Operations.{Operation};
 ghost use Rattle.lfs_model.specs.Tree.{Path};
 ghost use Rattle.lfs_tree.specs.KeepsFiles.{taken_by};
 ghost use Rattle.lfs_tree.specs.OpenContents.{IsOver, bytes_held};
-ghost use Rattle.lfs_tree.specs.Seen.{IsCarried, IsSound, Seen, around_of, kept_of};
+ghost use Rattle.lfs_tree.specs.TreeState.{IsAppliedOn, IsSound, TreeState, around_of, kept_of};
 ghost use Rattle.lfs_writer.specs.Contents.{form_of};
 ghost use Rattle.lfs_writer.specs.Form.{form_blocks};
 ghost use Rattle.lfs_writer.specs.declared.contents.Contents.{Contents};
@@ -16,13 +16,13 @@ ghost use Rattle.lfs_writer.specs.declared.contents.Contents.{Contents};
 /// takes it away nor moves it, also what isn't in the tree yet. No more blocks are in flight than
 /// contents in their form have.
 pub fn contents_stay()
-    ensures over { (old new : Seen) (op : Operation) (path : Path) (contents : Contents) → IsOver old path contents → IsSound old → IsCarried old op new → takes_or_moves op path ≡ false → IsOver new path contents }
-    ensures bytes { (old new : Seen) (op : Operation) (path : Path) (contents : Contents) → IsOver old path contents → IsSound old → IsCarried old op new → takes_or_moves op path ≡ false
+    ensures over { (old new : TreeState) (op : Operation) (path : Path) (contents : Contents) → IsOver old path contents → IsSound old → IsAppliedOn old op new → takes_or_moves op path ≡ false → IsOver new path contents }
+    ensures bytes { (old new : TreeState) (op : Operation) (path : Path) (contents : Contents) → IsOver old path contents → IsSound old → IsAppliedOn old op new → takes_or_moves op path ≡ false
         → bytes_held (kept_of new) contents ≡ bytes_held (kept_of old) contents }
-    ensures flying { (t : Seen) (path : Path) (contents : Contents) → IsOver t path contents → in_flight_count t.map ≤ form_blocks t.disk.block_size (form_of contents) }
+    ensures flying { (t : TreeState) (path : Path) (contents : Contents) → IsOver t path contents → in_flight_count t.map ≤ form_blocks t.disk.block_size (form_of contents) }
 {}
 
 /// An operation that the tree carries out takes few blocks more than the image has.
 pub fn carried_takes_few()
-    ensures { (old new : Seen) (op : Operation) → IsSound old → old.writable ≡ true → IsCarried old op new → length (around_of new).used ≤ length (around_of old).used + taken_by op }
+    ensures { (old new : TreeState) (op : Operation) → IsSound old → old.writable ≡ true → IsAppliedOn old op new → length (around_of new).used ≤ length (around_of old).used + taken_by op }
 {}

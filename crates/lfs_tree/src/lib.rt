@@ -3,11 +3,10 @@
 #![tactic(auto)]
 
 mod answers;
-mod carrying;
-mod carrying_attributes;
-mod carrying_removal;
-mod carrying_rename;
+mod attributes_at;
+mod contents_at;
 mod either;
+mod entries_at;
 mod formatting;
 mod laws;
 mod lost_lists;
@@ -16,7 +15,8 @@ mod opening;
 mod readers;
 mod recovering_lost;
 mod remounting;
-mod storing;
+mod removals_at;
+mod renames_at;
 mod tree;
 mod unreached;
 mod writers;

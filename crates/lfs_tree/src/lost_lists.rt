@@ -3,14 +3,14 @@
 ghost use Rattle.std.specs.Prelude.{◌≡◌, ◌++◌, ◌<◌, IfErr, IfOk, OnOk, false, is_err, length, map};
 ghost use Rattle.std.specs.Option.{option_to_list};
 ghost use Rattle.lfs_writer.specs.Settling.{IsReadBesideMap};
-ghost use Rattle.lfs_writer.specs.Standing.{TellsWork};
+ghost use Rattle.lfs_writer.specs.Standing.{ReportsWork};
 ghost use Rattle.lfs_model.specs.LoggedContent.{HasParts, HaveParts};
 ghost use Rattle.lfs_model.specs.Slots.{Content as ModelContent};
 ghost use Rattle.lfs_operations.specs.Dropping.{SameInFlight};
 ghost use Rattle.lfs_operations.specs.Ready.{IsReady};
 ghost use Rattle.lfs_operations.specs.Recovering.{AreUnreached, slots_at};
-ghost use Rattle.lfs_tag.specs.ContentSeen.{slot_seen};
-ghost use Rattle.lfs_thread.specs.Lent.{IsBlockOf};
+ghost use Rattle.lfs_tag.specs.ContentView.{slot_view};
+ghost use Rattle.lfs_thread.specs.CachedLog.{IsBlockOf};
 ghost use Rattle.lfs_thread.specs.Steps.{pair_in};
 ghost use Rattle.lfs_tree.specs.LostLists.{CanFreeLists, list_typed, lists_named, lists_typed};
 ghost use Rattle.lfs_lookup.specs.Reading.{IsReading};
@@ -25,8 +25,8 @@ use std::alloc::{AllocError, Global};
 
 // The list that a slot names, if it names one.
 fn list_of(slot: &Slot<'_>) -> Option<Stored>
-    requires { HasParts (slot_seen slot.now) }
-    ensures { option_to_list result ≡ list_typed (slot_seen slot.now).struct }
+    requires { HasParts (slot_view slot.now) }
+    ensures { option_to_list result ≡ list_typed (slot_view slot.now).struct }
 {
     let Some(structure) = slot.structure else {
         return None;
@@ -43,8 +43,8 @@ fn list_of(slot: &Slot<'_>) -> Option<Stored>
 
 // Adds the lists that slots name.
 fn push_lists(lists: &mut Vec<Stored>, slots: &[Slot<'_>]) -> Result<(), AllocError>
-    requires { HaveParts (map slot_seen slots.now) }
-    ensures { OnOk result (lists.new.items ≡ lists.old.items ++ lists_typed (map slot_seen slots.now)) }
+    requires { HaveParts (map slot_view slots.now) }
+    ensures { OnOk result (lists.new.items ≡ lists.old.items ++ lists_typed (map slot_view slots.now)) }
 {
     for slot in slots {
         if let Some(list) = list_of(slot) {
@@ -77,7 +77,7 @@ fn push_lists_at<D: BlockDevice>(
     ensures lists { OnOk result (lists.new.items ≡ lists.old.items ++ lists_named (pair_in thread.old.kept index).content.slots) }
     ensures reading { IsReading thread.old thread.new result }
 {
-    thread.bring(index)?;
+    thread.load_pair(index)?;
     push_lists_in(alloc, lists, &thread.lend(index).unwrap())
 }
 
@@ -115,7 +115,7 @@ pub(crate) fn free_lists<D: BlockDevice>(
     ensures flying { OnOk result (SameInFlight thread.old.kept.map thread.new.kept.map) }
     ensures only { IsReadBesideMap thread.old.kept thread.new.kept }
     ensures failed { thread.new.failed ≡ is_err result }
-    ensures tells { TellsWork thread.old.kept thread.new.kept result }
+    ensures reports { ReportsWork thread.old.kept thread.new.kept result }
 {
     settled_map_is_exact();
     let nothing = Stored {

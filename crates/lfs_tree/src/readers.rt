@@ -1,7 +1,7 @@
 // The contents of files that are open for reading.
 
 ghost use Rattle.std.specs.Prelude.{◌≡◌, ◌<◌, ◌+◌, ◌^◌, List, ℕ, IfOk, drop, false, length, take};
-ghost use Rattle.lfs_model.specs.Discipline.{parents};
+ghost use Rattle.lfs_model.specs.Frame.{parents};
 ghost use Rattle.lfs_model.specs.History.{reads};
 ghost use Rattle.lfs_model.specs.Slots.{Inline};
 ghost use Rattle.lfs_model.specs.Tree.{Path as ModelPath};
@@ -9,7 +9,7 @@ ghost use Rattle.lfs_model.specs.TreeEdits.{bytes_at};
 ghost use Rattle.lfs_lookup.specs.FileContents.{AreContentsAt, AreFoundAt, struct_of};
 ghost use Rattle.lfs_lookup.specs.Finds.{Finds};
 ghost use Rattle.lfs_tree.specs.Reads.{ReadsOnce};
-ghost use Rattle.lfs_tree.specs.Seen.{IsAsking, kept_of, tree_seen};
+ghost use Rattle.lfs_tree.specs.TreeState.{IsAsking, kept_of, tree_view};
 
 use crate::answers::note_error;
 use crate::tree::Tree;
@@ -19,13 +19,13 @@ use std::alloc::Global;
 
 impl<D: BlockDevice> Tree<D> {
     /// What a path leads to, and the contents of a file there. Each pair of the directories above it is
-    /// read at most once, and none where all of them are at hand.
+    /// read at most once, and none where all of them are cached.
     ///
     /// `Io` where a read failed, and `NoMemory` where memory isn't granted. It has failed then.
     pub fn find_file(&mut self, alloc: Global, path: &Path<'_>) -> Result<FoundFile, Error>
         requires { self.old.failed ≡ false }
         ensures asks { IsAsking self.old result self.new }
-        ensures found { IfOk result (λ found. Finds (tree_seen self.old) path.now found.finding) }
+        ensures found { IfOk result (λ found. Finds (tree_view self.old) path.now found.finding) }
         ensures contents { IfOk result (λ found. AreFoundAt (kept_of self.old) path.now found.contents) }
         ensures few { ReadsOnce (parents path.now) self.old self.new.history }
     {
@@ -48,7 +48,7 @@ impl<D: BlockDevice> Tree<D> {
         requires works { self.old.failed ≡ false }
         requires there { (path : ModelPath) × AreContentsAt self.old.pairs path contents.now }
         ensures asks { IsAsking self.old result self.new }
-        ensures bytes { (path : ModelPath) → AreContentsAt self.old.pairs path contents.now → IfOk result (λ v. v.items ≡ take count (drop position (bytes_at (tree_seen self.old path)))) }
+        ensures bytes { (path : ModelPath) → AreContentsAt self.old.pairs path contents.now → IfOk result (λ v. v.items ≡ take count (drop position (bytes_at (tree_view self.old path)))) }
         ensures end { IfOk result (λ v. position + length v.items < 2 ^ 32) }
         ensures none { (own : List ℕ) → struct_of contents.now ≡ Inline own → self.new.history ≡ self.old.history }
     {

@@ -7,12 +7,12 @@ ghost use Rattle.lfs_model.specs.Thread.{blocks_of, gstate_of, superblocks_befor
 ghost use Rattle.lfs_model.specs.Shown.{tree_in};
 ghost use Rattle.lfs_operations.specs.Recovering.{CanDropUnreached, slots_at};
 ghost use Rattle.lfs_thread.specs.Steps.{Writes};
-ghost use Rattle.lfs_tree.specs.Carrying.{HasCalled, IsChange, SurvivesTo, TellsError};
+ghost use Rattle.lfs_tree.specs.Carrying.{HasCalled, IsChange, SurvivesTo, ReportsError};
 ghost use Rattle.lfs_tree.specs.Held.{IsRooted};
 ghost use Rattle.lfs_tree.specs.LostLists.{lists_named};
 ghost use Rattle.lfs_tree.specs.Recovering.{CanDropLost, HasDroppedLost, HasSettled};
 
-use crate::carrying::know_device;
+use crate::entries_at::know_device;
 use crate::lost_lists::{free_lists, lists_of_pairs};
 use crate::unreached::unreached;
 use lfs_device::{BlockDevice, Error};
@@ -37,7 +37,7 @@ fn drop_with_lists<D: BlockDevice>(
     ensures dropped { OnOk result (HasDroppedLost thread.old.kept thread.new.kept) }
     ensures works { OnOk result (thread.new.failed ≡ false) }
     ensures no_fault { OnOk result (faults thread.new.kept.history ≡ faults thread.old.kept.history) }
-    ensures errors { IfErr result (TellsError thread.old.kept thread.new.kept) }
+    ensures errors { IfErr result (ReportsError thread.old.kept thread.new.kept) }
     ensures device { Writes (blocks_of thread.old.kept.pairs) thread.old.kept thread.new.kept }
     ensures survives { SurvivesTo thread.old.kept thread.new.kept (tree_in thread.old.kept.disk thread.old.kept.pairs) }
 {
@@ -62,7 +62,7 @@ fn drop_lost<D: BlockDevice>(
     ensures works { OnOk result (thread.new.failed ≡ false) }
     ensures called { HasCalled thread.old.kept thread.new.kept }
     ensures no_fault { OnOk result (faults thread.new.kept.history ≡ faults thread.old.kept.history) }
-    ensures errors { IfErr result (TellsError thread.old.kept thread.new.kept) }
+    ensures errors { IfErr result (ReportsError thread.old.kept thread.new.kept) }
     ensures survives { SurvivesTo thread.old.kept thread.new.kept (tree_in thread.old.kept.disk thread.old.kept.pairs) }
 {
     know_device(thread);

@@ -1,7 +1,7 @@
 // A device that is read anew.
 
 ghost use Rattle.std.specs.Prelude.{◌≡◌, IfErr, OnErr, OnOk};
-ghost use Rattle.lfs_tree.specs.Seen.{IsBrokenAsking, IsMountError, IsMountedTree};
+ghost use Rattle.lfs_tree.specs.TreeState.{IsBrokenAsking, IsMountError, IsMountedTree};
 
 use crate::tree::Tree;
 use lfs_alloc::BlockMap;

@@ -4,7 +4,7 @@ ghost use Rattle.std.specs.Prelude.{◌≡◌, ◌<◌, ◌==◌, ◌≤◌, ◌
 ghost use Rattle.std.specs.List.{list_any};
 ghost use Rattle.std.specs.Option.{option_map};
 ghost use Rattle.lfs_model.specs.History.{reads};
-ghost use Rattle.lfs_model.specs.Discipline.{pairs_of_path, parents};
+ghost use Rattle.lfs_model.specs.Frame.{pairs_of_path, parents};
 ghost use Rattle.lfs_model.specs.TreeEdits.{attributes_of, bytes_at, same_path};
 ghost use Rattle.lfs_model.specs.Content.{attribute_of};
 ghost use Rattle.lfs_model.specs.Slots.{no_gstate};
@@ -13,29 +13,29 @@ ghost use Rattle.lfs_model.specs.View.{IsAccepted};
 ghost use Rattle.lfs_model.specs.Disk.{SameGeometry, block_count};
 ghost use Rattle.lfs_model.specs.Effects.{items_in};
 ghost use Rattle.lfs_mount.specs.Device.{IsMountError};
-ghost use Rattle.lfs_tag.specs.FieldsSeen.{move_seen};
+ghost use Rattle.lfs_tag.specs.FieldsView.{move_view};
 ghost use Rattle.lfs_thread.specs.Device.{GivesBack, two_of};
-ghost use Rattle.lfs_thread.specs.Kept.{disk_on, seen_on};
+ghost use Rattle.lfs_thread.specs.Kept.{disk_on, kept_view_on};
 ghost use Rattle.lfs_tree.specs.Allowed.{CanCreate, CanMake, CanRemove, CanRemoveAttr, CanRename, CanSetAttr};
-ghost use Rattle.lfs_lookup.specs.AtHand.{AreSmall};
+ghost use Rattle.lfs_lookup.specs.CachedPairs.{AreSmall};
 ghost use Rattle.lfs_tree.specs.Calls as call;
 ghost use Rattle.lfs_tree.specs.Calls.{IsOperation};
-ghost use Rattle.lfs_tree.specs.Reads.{HasOnHand, ReadsOnce, ReadsToCreate};
+ghost use Rattle.lfs_tree.specs.Reads.{HasCached, ReadsOnce, ReadsToCreate};
 ghost use Rattle.lfs_tree.specs.Recovering.{HasSettled};
 ghost use Rattle.lfs_lookup.specs.AttributeAt.{IsAttributesSize};
-ghost use Rattle.lfs_lookup.specs.Finds.{Finds, has_names, list_item_seen};
+ghost use Rattle.lfs_lookup.specs.Finds.{Finds, has_names, list_item_view};
 ghost use Rattle.lfs_tree.specs.Formatting.{ComesBack, IsFormatted, WritesFirstTwo};
-ghost use Rattle.lfs_tree.specs.Seen.{IsAsking, IsBrokenAsking, IsMountError as IsMountErrorOf, IsMountedTree, IsSound, around_of, kept_of, tree_seen};
+ghost use Rattle.lfs_tree.specs.TreeState.{IsAsking, IsBrokenAsking, IsMountError as IsMountErrorOf, IsMountedTree, IsSound, around_of, kept_of, tree_view};
 
 use crate::answers::note_error;
-use crate::carrying::{create_at, make_at};
-use crate::carrying_attributes::{remove_attr_at, set_attr_at};
-use crate::carrying_removal::remove_at;
-use crate::carrying_rename::rename_at;
+use crate::attributes_at::{remove_attr_at, set_attr_at};
+use crate::entries_at::{create_at, make_at};
 use crate::formatting::format;
 use crate::mounted::read_root;
 use crate::recovering_lost::recover_at;
 use crate::remounting::{Spare, mounted_again};
+use crate::removals_at::remove_at;
+use crate::renames_at::rename_at;
 use core::mem::replace_with;
 use lfs_device::{BlockDevice, Error, Geometry};
 use lfs_lookup::{
@@ -61,9 +61,9 @@ pub struct Tree<D: BlockDevice> {
 
 impl<D: BlockDevice> Model for Tree<D> {
     ghost use Rattle.lfs_tree.specs.Held.{IsHeld, seen_thread};
-    ghost use Rattle.lfs_tree.specs.Seen.{Seen};
+    ghost use Rattle.lfs_tree.specs.TreeState.{TreeState};
 
-    ghost Value = { Seen };
+    ghost Value = { TreeState };
 
     ghost view = { λ t. seen_thread t.thread t.is_writable };
 
@@ -99,7 +99,7 @@ impl<D: BlockDevice> Tree<D> {
         ensures sound { IfOk result IsSound }
         ensures formatted { IfOk result (λ t. IsFormatted (kept_of t)) }
         ensures geometry { IfOk result (λ t. SameGeometry (disk_on D.BlockDevice device) t.disk) }
-        ensures calls { IfOk result (λ t. WritesFirstTwo (seen_on D.BlockDevice device [] []) (kept_of t)) }
+        ensures calls { IfOk result (λ t. WritesFirstTwo (kept_view_on D.BlockDevice device [] []) (kept_of t)) }
         ensures back { IfErr result (λ e. ComesBack D.BlockDevice (two_of anchor) device e.0 e.1) }
     {
         match format(alloc, device) {
@@ -195,21 +195,21 @@ impl<D: BlockDevice> Tree<D> {
     /// The global state (DESIGN.md of littlefs, "The move problem").
     pub fn gstate(&self) -> MoveState
         requires { self.now.failed ≡ false }
-        ensures { move_seen result ≡ (around_of self.now).gstate }
+        ensures { move_view result ≡ (around_of self.now).gstate }
     {
         self.thread.state()
     }
 
     /// What a path leads to. Each pair of the directories above it is read at most once, and none where
-    /// all of them are at hand; at most eight directories of one pair each are at hand then.
+    /// all of them are cached; at most eight directories of one pair each are cached then.
     ///
     /// `Io` where a read failed, and `NoMemory` where memory isn't granted. It has failed then.
     pub fn look_up(&mut self, alloc: Global, path: &Path<'_>) -> Result<Finding, Error>
         requires { self.old.failed ≡ false }
         ensures asks { IsAsking self.old result self.new }
-        ensures found { IfOk result (Finds (tree_seen self.old) path.now) }
+        ensures found { IfOk result (Finds (tree_view self.old) path.now) }
         ensures few { ReadsOnce (parents path.now) self.old self.new.history }
-        ensures hand { AreSmall self.old.pairs (parents path.now) → IfOk result (λ found. found.fault ≡ None → HasOnHand self.new (parents path.now)) }
+        ensures hand { AreSmall self.old.pairs (parents path.now) → IfOk result (λ found. found.fault ≡ None → HasCached self.new (parents path.now)) }
     {
         let found = find_at(alloc, &mut self.thread, self.root, path);
         note_error(&mut self.thread, &found);
@@ -223,8 +223,8 @@ impl<D: BlockDevice> Tree<D> {
     pub fn look_inside(&mut self, alloc: Global, path: &Path<'_>) -> Result<Inside, Error>
         requires { self.old.failed ≡ false }
         ensures asks { IsAsking self.old result self.new }
-        ensures found { IfOk result (λ inside. Finds (tree_seen self.old) path.now inside.finding) }
-        ensures has { IfOk result (λ inside. inside.has_entries ≡ has_names (tree_seen self.old) path.now) }
+        ensures found { IfOk result (λ inside. Finds (tree_view self.old) path.now inside.finding) }
+        ensures has { IfOk result (λ inside. inside.has_entries ≡ has_names (tree_view self.old) path.now) }
         ensures few { reads self.new.history ≤ reads self.old.history + sum_by (pairs_of_path self.old.pairs) (parents path.now ++ path.now ∷ []) }
     {
         let inside = look_inside_at(alloc, &mut self.thread, self.root, path);
@@ -233,7 +233,7 @@ impl<D: BlockDevice> Tree<D> {
     }
 
     /// What a path leads to, and an attribute of it, which has at most 1,022 bytes. Each pair of the
-    /// directories above it is read at most once, and none where all of them are at hand.
+    /// directories above it is read at most once, and none where all of them are cached.
     ///
     /// `Io` where a read failed, and `NoMemory` where memory isn't granted. It has failed then.
     pub fn get_attr(
@@ -244,8 +244,8 @@ impl<D: BlockDevice> Tree<D> {
     ) -> Result<FoundAttribute, Error>
         requires { self.old.failed ≡ false }
         ensures asks { IsAsking self.old result self.new }
-        ensures found { IfOk result (λ found. Finds (tree_seen self.old) path.now found.finding) }
-        ensures bytes { IfOk result (λ found. (option_map (λ v. v.items) found.bytes ≡ attribute_of kind (attributes_of (tree_seen self.old path.now))) × IfSome found.bytes (λ v. length v.items ≤ 1022)) }
+        ensures found { IfOk result (λ found. Finds (tree_view self.old) path.now found.finding) }
+        ensures bytes { IfOk result (λ found. (option_map (λ v. v.items) found.bytes ≡ attribute_of kind (attributes_of (tree_view self.old path.now))) × IfSome found.bytes (λ v. length v.items ≤ 1022)) }
         ensures few { ReadsOnce (parents path.now) self.old self.new.history }
     {
         let found = attribute_at(alloc, &mut self.thread, self.root, path, kind);
@@ -255,13 +255,13 @@ impl<D: BlockDevice> Tree<D> {
 
     /// How many bytes of its pair the attributes of what stands at a path take: 4 each, and its own.
     /// 0 where nothing stands there. No more reads than the directories above it have pairs, and none
-    /// where all of them are at hand.
+    /// where all of them are cached.
     ///
     /// `Io` where a read failed, and `NoMemory` where memory isn't granted. It has failed then.
     pub fn attributes_size(&mut self, alloc: Global, path: &Path<'_>) -> Result<usize, Error>
         requires { self.old.failed ≡ false }
         ensures asks { IsAsking self.old result self.new }
-        ensures size { IfOk result (IsAttributesSize (attributes_of (tree_seen self.old path.now))) }
+        ensures size { IfOk result (IsAttributesSize (attributes_of (tree_view self.old path.now))) }
         ensures few { ReadsOnce (parents path.now) self.old self.new.history }
     {
         let size = attributes_size_at(alloc, &mut self.thread, self.root, path);
@@ -270,14 +270,14 @@ impl<D: BlockDevice> Tree<D> {
     }
 
     /// What a path leads to, and what stands in it, where it is a directory. Each pair of the
-    /// directories above it, and of its own, is read at most once, and none where all of them are at hand.
+    /// directories above it, and of its own, is read at most once, and none where all of them are cached.
     ///
     /// `Io` where a read failed, and `NoMemory` where memory isn't granted. It has failed then.
     pub fn list(&mut self, alloc: Global, path: &Path<'_>) -> Result<Listing, Error>
         requires { self.old.failed ≡ false }
         ensures asks { IsAsking self.old result self.new }
-        ensures found { IfOk result (λ listing. Finds (tree_seen self.old) path.now listing.finding) }
-        ensures items { IfOk result (λ listing. map list_item_seen listing.items.items ≡ items_in (tree_seen self.old) path.now) }
+        ensures found { IfOk result (λ listing. Finds (tree_view self.old) path.now listing.finding) }
+        ensures items { IfOk result (λ listing. map list_item_view listing.items.items ≡ items_in (tree_view self.old) path.now) }
         ensures few { ReadsOnce (parents path.now ++ path.now ∷ []) self.old self.new.history }
     {
         let listing = list_at(alloc, &mut self.thread, self.root, path);

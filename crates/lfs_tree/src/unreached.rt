@@ -4,7 +4,7 @@ ghost use Rattle.std.specs.Prelude.{◌≡◌, ◌<◌, ◌≤◌, ◌++◌, ◌
 ghost use Rattle.lfs_model.specs.Thread.{superblocks_before};
 ghost use Rattle.lfs_model.specs.View.{IsAccepted};
 ghost use Rattle.lfs_operations.specs.Recovering.{AreUnreached};
-ghost use Rattle.lfs_lookup.specs.Items.{item_seen, items_seen};
+ghost use Rattle.lfs_lookup.specs.Items.{item_view, items_view};
 ghost use Rattle.lfs_lookup.specs.Profile.{follows_at};
 ghost use Rattle.lfs_lookup.specs.Reading.{IsReading};
 ghost use Rattle.lfs_tree.specs.Unreached.{AllBegin, AreReachMarks, HasMarked, IsNamedBy, IsNamedIn};
@@ -42,9 +42,9 @@ fn mark_branch<D: BlockDevice>(
     pending: &mut Vec<usize>,
 ) -> Result<(), AllocError>
     requires accepted { IsAccepted thread.now.kept.disk thread.now.kept.pairs }
-    requires begins { BeginsIfBranch thread.now.kept.pairs (item_seen item.now).struct }
+    requires begins { BeginsIfBranch thread.now.kept.pairs (item_view item.now).struct }
     requires len { length marks.old.items ≡ length thread.now.kept.pairs }
-    ensures { OnOk result (HasMarked (IsNamedBy thread.now.kept.pairs (item_seen item.now).struct) marks.old.items pending.old.items marks.new.items pending.new.items) }
+    ensures { OnOk result (HasMarked (IsNamedBy thread.now.kept.pairs (item_view item.now).struct) marks.old.items pending.old.items marks.new.items pending.new.items) }
 {
     if let Structure::Branch(to) = item.structure {
         let number = number_of(thread, to).unwrap();
@@ -61,9 +61,9 @@ fn mark_branches<D: BlockDevice>(
     pending: &mut Vec<usize>,
 ) -> Result<(), AllocError>
     requires accepted { IsAccepted thread.now.kept.disk thread.now.kept.pairs }
-    requires begin { AllBegin thread.now.kept.pairs (items_seen items.items) }
+    requires begin { AllBegin thread.now.kept.pairs (items_view items.items) }
     requires len { length marks.old.items ≡ length thread.now.kept.pairs }
-    ensures { OnOk result (HasMarked (IsNamedIn thread.now.kept.pairs (items_seen items.items)) marks.old.items pending.old.items marks.new.items pending.new.items) }
+    ensures { OnOk result (HasMarked (IsNamedIn thread.now.kept.pairs (items_view items.items)) marks.old.items pending.old.items marks.new.items pending.new.items) }
 {
     while let Some(item) = items.pop() {
         mark_branch(thread, &item, marks, pending)?;

@@ -8,14 +8,14 @@ ghost use Rattle.lfs_model.specs.Writers.{written_into, zeros_to};
 ghost use Rattle.lfs_model.specs.Effects.{with_bytes};
 ghost use Rattle.lfs_model.specs.Tree.{Path as ModelPath};
 ghost use Rattle.lfs_tree.specs.OpenContents.{CanOpen, CanStoreAt, CanTruncateBeside, CanWriteBeside, HasBytesAs, IsOpenedForm, IsOver, IsStoredAt, IsWriting, bytes_held, kept_of};
-ghost use Rattle.lfs_tree.specs.Seen.{IsAsking, IsBroken, IsBrokenAsking, IsError, SurvivesAs, tree_seen};
+ghost use Rattle.lfs_tree.specs.TreeState.{IsAsking, IsBroken, IsBrokenAsking, IsError, SurvivesAs, tree_view};
 ghost use Rattle.lfs_writer.specs.Contents.{form_of};
 ghost use Rattle.lfs_writer.specs.Form as form;
 ghost use Rattle.lfs_writer.specs.Form.{truncated, written};
 
 use crate::answers::note_error;
+use crate::contents_at::store_at;
 use crate::opening::{no_contents, open_at};
-use crate::storing::store_at;
 use crate::tree::Tree;
 use lfs_device::{BlockDevice, Error};
 use lfs_lookup::Path;
@@ -30,8 +30,8 @@ impl<D: BlockDevice> Tree<D> {
         requires { CanOpen self.old path.now }
         ensures asks { IsAsking self.old result self.new }
         ensures over { IfOk result (IsOver self.new path.now) }
-        ensures bytes { IfOk result (λ c. bytes_held (kept_of self.new) c ≡ bytes_at (tree_seen self.old path.now)) }
-        ensures form { IfOk result (λ c. IsOpenedForm self.old.disk.block_size (length (bytes_at (tree_seen self.old path.now))) (form_of c)) }
+        ensures bytes { IfOk result (λ c. bytes_held (kept_of self.new) c ≡ bytes_at (tree_view self.old path.now)) }
+        ensures form { IfOk result (λ c. IsOpenedForm self.old.disk.block_size (length (bytes_at (tree_view self.old path.now))) (form_of c)) }
     {
         let contents = open_at(alloc, &mut self.thread, self.root, path);
         note_error(&mut self.thread, &contents);
@@ -45,7 +45,7 @@ impl<D: BlockDevice> Tree<D> {
         requires works { self.old.failed ≡ false }
         requires idle { in_flight_count self.old.map ≡ 0 }
         ensures same { OnOk result (self.new ≡ self.old) }
-        ensures over { (path : ModelPath) → is_file (tree_seen self.old path) ≡ true → IfOk result (IsOver self.new path) }
+        ensures over { (path : ModelPath) → is_file (tree_view self.old path) ≡ true → IfOk result (IsOver self.new path) }
         ensures bytes { IfOk result (λ c. bytes_held (kept_of self.new) c ≡ []) }
         ensures form { IfOk result (λ c. form_of c ≡ form.InMemory 0) }
         ensures broken { OnErr result (IsBrokenAsking self.old self.new) }
@@ -108,7 +108,7 @@ impl<D: BlockDevice> Tree<D> {
         ensures stored { OnOk result (IsStoredAt self.old path.now (bytes_held (kept_of self.old) contents) self.new) }
         ensures broken { OnErr result (IsBroken self.old self.new) }
         ensures errors { IfErr result (IsError self.old self.new) }
-        ensures survives { SurvivesAs self.old self.new (change_at path.now (with_bytes (bytes_held (kept_of self.old) contents)) (tree_seen self.old)) }
+        ensures survives { SurvivesAs self.old self.new (change_at path.now (with_bytes (bytes_held (kept_of self.old) contents)) (tree_view self.old)) }
     {
         let stored = store_at(alloc, &mut self.thread, self.root, path, contents);
         note_error(&mut self.thread, &stored);

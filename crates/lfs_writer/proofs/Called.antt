@@ -1,6 +1,6 @@
 -- What calls of a device one behind the other say of its faults and of what they leave alone.
 use Rattle.std.proofs.Common.{ℕ, ◌≡◌, List, Result, Ok, Err, refl, sym, subst, ◌∙◌, arith}
-use Rattle.lfs_device.specs.Calls.{ReadsOnly, ChangesOnly, TellsFaults}
+use Rattle.lfs_device.specs.Calls.{ReadsOnly, ChangesOnly, ReportsFaults}
 use Rattle.lfs_device.specs.declared.device.BlockDevice.{Ghosts}
 use Rattle.lfs_device.specs.declared.error.Error.{Error}
 use Rattle.lfs_device.specs.declared.error.Error.TheVariants.{Io, NoMemory}
@@ -17,32 +17,32 @@ use Rattle.lfs_writer.proofs.Spared.{SparesUsed-refl, SparesUsed-trans, SparesUs
 
 module _ {D : Type 0} (g : Ghosts D) where
   -- a call that succeeds has no fault
-  pub quiet : {X : Type 0} {old new : D} {x : X} → TellsFaults g old new (Ok x) → faults (g.history new) ≡ faults (g.history old)
-  quiet told = told.no_fault (λ is. absurd (cc))
+  pub quiet : {X : Type 0} {old new : D} {x : X} → ReportsFaults g old new (Ok x) → faults (g.history new) ≡ faults (g.history old)
+  quiet reported = reported.no_fault (λ is. absurd (cc))
 
   -- after calls without a fault
-  pub told_on : {X : Type 0} {old mid new : D} {result : Result X Error} → faults (g.history mid) ≡ faults (g.history old) → TellsFaults g mid new result → TellsFaults g old new result
-  told_on none told = record {
-    fault = λ is. (let more = told.fault is in omega arith);
-    no_fault = λ other. told.no_fault other ∙ none;
+  pub reported_on : {X : Type 0} {old mid new : D} {result : Result X Error} → faults (g.history mid) ≡ faults (g.history old) → ReportsFaults g mid new result → ReportsFaults g old new result
+  reported_on none reported = record {
+    fault = λ is. (let more = reported.fault is in omega arith);
+    no_fault = λ other. reported.no_fault other ∙ none;
   }
 
   -- success after calls without a fault
-  pub told_ok : {X : Type 0} {old new : D} {x : X} → faults (g.history new) ≡ faults (g.history old) → TellsFaults {X = X} g old new (Ok x)
-  told_ok none = record { fault = λ is. absurd (cc); no_fault = λ other. none }
+  pub reported_ok : {X : Type 0} {old new : D} {x : X} → faults (g.history new) ≡ faults (g.history old) → ReportsFaults {X = X} g old new (Ok x)
+  reported_ok none = record { fault = λ is. absurd (cc); no_fault = λ other. none }
 
   -- no memory after calls without a fault
-  pub told_no_memory : {X : Type 0} {old new : D} {e : Error} → e ≡ NoMemory → faults (g.history new) ≡ faults (g.history old) → TellsFaults {X = X} g old new (Err e)
-  told_no_memory {X} {e = e} is none = record {
+  pub reported_no_memory : {X : Type 0} {old new : D} {e : Error} → e ≡ NoMemory → faults (g.history new) ≡ faults (g.history old) → ReportsFaults {X = X} g old new (Err e)
+  reported_no_memory {X} {e = e} is none = record {
     fault = λ io. (let same : e ≡ Io = cc in let both : NoMemory ≡ Io = cc in absurd (cc));
     no_fault = λ other. none;
   }
 
   -- the same error of a call with another result
-  pub told_as : {X Y : Type 0} {old new : D} {e : Error} → TellsFaults {X = X} g old new (Err e) → TellsFaults {X = Y} g old new (Err e)
-  told_as {X} {Y} {e = e} told = record {
-    fault = λ is. told.fault (again is);
-    no_fault = λ other. told.no_fault (λ is. other (back is));
+  pub reported_as : {X Y : Type 0} {old new : D} {e : Error} → ReportsFaults {X = X} g old new (Err e) → ReportsFaults {X = Y} g old new (Err e)
+  reported_as {X} {Y} {e = e} reported = record {
+    fault = λ is. reported.fault (again is);
+    no_fault = λ other. reported.no_fault (λ is. other (back is));
   }
     where
       again : {f : Error} → ◌≡◌ {A = Result Y Error} (Err e) (Err f) → ◌≡◌ {A = Result X Error} (Err e) (Err f)

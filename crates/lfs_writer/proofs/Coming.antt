@@ -13,13 +13,13 @@ use Rattle.lfs_model.proofs.BlockSets.{Contains-count, count-Contains}
 use Rattle.lfs_model.proofs.Counts.{count, each_from_counted, once_from_distinct}
 use Rattle.lfs_thread.specs.Kept.{Kept}
 use Rattle.lfs_writer.specs.Form.{Form}
-use Rattle.lfs_writer.specs.Hand.{IsStored}
+use Rattle.lfs_writer.specs.Hand.{IsListStored}
 use Rattle.lfs_writer.specs.Owned.{AreOwned}
 use Rattle.lfs_writer.specs.declared.contents.Contents.TheVariants.{Finished}
 use Rattle.lfs_writer.specs.declared.stored.Stored.{Stored}
 use Rattle.lfs_writer.specs.Coming.{CanCome}
 use Rattle.lfs_writer.specs.Settling.{blocks_in_list}
-use Rattle.lfs_writer.specs.Standing.{Holds}
+use Rattle.lfs_writer.specs.Standing.{HoldsContents}
 use Rattle.lfs_writer.proofs.Ends.{none_distinct}
 use Rattle.lfs_writer.proofs.Outside.{came, come_apart, counted_both, outside}
 
@@ -31,7 +31,7 @@ flying_else sets b lt free used = go (get_or sets b Free) (slice_get-get_or sets
     go InFlight is = is
     go Used is = absurd (used is)
 
-module _ (t : Kept) (s : Stored) (was : List ℕ) (stored : IsStored t.map t.disk.blocks t.disk.block_size s) (list : IsList t.disk.blocks t.disk.block_size s.head s.size) (owned : AreOwned t.map was (blocks_in_list t s)) where
+module _ (t : Kept) (s : Stored) (was : List ℕ) (stored : IsListStored t.map t.disk.blocks t.disk.block_size s) (list : IsList t.disk.blocks t.disk.block_size s.head s.size) (owned : AreOwned t.map was (blocks_in_list t s)) where
   come_flies : (b : ℕ) → 1 ≤ count b (outside was (blocks_in_list t s)) → IsInFlight t.map b
   come_flies b some =
       let both = came b was (blocks_in_list t s) some in
@@ -42,10 +42,10 @@ module _ (t : Kept) (s : Stored) (was : List ℕ) (stored : IsStored t.map t.dis
       (λ used. absurd (let k = count-Contains was b (owned.each b has used) in let z = both.0 in omega arith))
 
 -- a list
-pub list_comes : (t : Kept) (s : Stored) (bytes : List ℕ) (form : Form) (was : Struct) → Holds t (Finished s) bytes form → s.size ≡ length bytes → inline_limit t.disk.block_size < length bytes
+pub list_comes : (t : Kept) (s : Stored) (bytes : List ℕ) (form : Form) (was : Struct) → HoldsContents t (Finished s) bytes form → s.size ≡ length bytes → inline_limit t.disk.block_size < length bytes
     → AreOwned t.map (file_blocks t.disk was) (blocks_in_list t s) → IsDistinct nat_eq (file_blocks t.disk was) → CanCome t bytes was (Ctz s.head s.size)
 list_comes t s bytes form was holds size large owned distinct =
-    let stored : IsStored t.map t.disk.blocks t.disk.block_size s = subst (λ (n : ℕ). IsStored t.map t.disk.blocks n s) holds.divided.block_size holds.has.stands in
+    let stored : IsListStored t.map t.disk.blocks t.disk.block_size s = subst (λ (n : ℕ). IsListStored t.map t.disk.blocks n s) holds.divided.block_size holds.has.stands in
     let list : IsList t.disk.blocks t.disk.block_size s.head s.size = ⊎_elim (λ none. absurd (omega arith)) (λ is. is) stored.base in
     let once = once_from_distinct (blocks_in_list t s) list.blocks.distinct in
     let once_was = once_from_distinct (file_blocks t.disk was) distinct in

@@ -8,7 +8,7 @@ use Rattle.lfs_model.specs.BlockSets.{BlockSets, IsFree, IsInFlight}
 use Rattle.lfs_model.specs.SkipLists.{IsList}
 use Rattle.lfs_writer.specs.Apart.{IsApart}
 use Rattle.lfs_writer.specs.Based.{IsBase, list_blocks}
-use Rattle.lfs_writer.specs.Hand.{IsStored}
+use Rattle.lfs_writer.specs.Hand.{IsListStored}
 use Rattle.lfs_writer.specs.Released.{Releases}
 use Rattle.lfs_writer.specs.declared.stored.Stored.{Stored}
 use Rattle.lfs_writer.proofs.Bases.{blocks_stay, list_stays}
@@ -16,7 +16,7 @@ use Rattle.lfs_writer.proofs.Ends.{base_distinct, gone_of, still_apart, still_fl
 use Rattle.lfs_writer.proofs.Spared.{spares_end}
 use Rattle.lfs_writer.proofs.Takings.{member}
 
-module _ (map : BlockSets) (d f : Blocks) (block_size : ℕ) (stored : Stored) (pending : List ℕ) (is : IsStored map d block_size stored) (none : pending ≡ []) (same : SameButThese pending d f) where
+module _ (map : BlockSets) (d f : Blocks) (block_size : ℕ) (stored : Stored) (pending : List ℕ) (is : IsListStored map d block_size stored) (none : pending ≡ []) (same : SameButThese pending d f) where
   abbrev bb : List ℕ
   bb = list_blocks d block_size stored.head stored.size
 
@@ -30,7 +30,7 @@ module _ (map : BlockSets) (d f : Blocks) (block_size : ℕ) (stored : Stored) (
   base_stays = ⊎_elim (λ zero. inl zero) (λ list. inr (list_stays map pending d f block_size stored.head stored.size (spares_end map pending d f same) apart list)) is.base
 
   pub cuts : (later : BlockSets) (n head keep : ℕ) → IsList f block_size head keep → list_blocks f block_size head keep ≡ take n bb → Releases map later (gone_of stored.in_flight n (list_blocks f block_size stored.head stored.size))
-      → IsStored later f block_size (record { head = head; size = keep; in_flight = stored.in_flight })
+      → IsListStored later f block_size (record { head = head; size = keep; in_flight = stored.in_flight })
   cuts later n head keep list blocks released =
       let out : Releases map later (gone_of stored.in_flight n bb) = subst (λ (l : List ℕ). Releases map later (gone_of stored.in_flight n l)) stay released in
       let front : take n (take n bb) ≡ take n bb = take-take n n bb (omega arith) in

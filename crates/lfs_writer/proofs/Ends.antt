@@ -9,9 +9,9 @@ use Rattle.lfs_model.specs.Blocks.{Blocks, SameButThese}
 use Rattle.lfs_model.specs.BlockSets.{BlockSets, IsFree, IsInFlight}
 use Rattle.lfs_model.specs.BlockSets.BlockState.{Free, Used}
 use Rattle.lfs_model.specs.SkipLists.{blocks_for, AreListBlocks, IsList}
-use Rattle.lfs_ctz.specs.Growing.{Growing, blocks_of, kept_of, pending_of}
+use Rattle.lfs_ctz.specs.Growing.{Growing, blocks_of_list, kept_of, pending_of}
 use Rattle.lfs_writer.specs.Based.{IsBase, list_blocks}
-use Rattle.lfs_writer.specs.Hand.{IsHand, IsStored, KeepsUsed}
+use Rattle.lfs_writer.specs.Hand.{IsHand, IsListStored, KeepsUsed}
 use Rattle.lfs_writer.specs.Released.{Releases}
 use Rattle.lfs_writer.specs.Taken.{Keeps}
 use Rattle.lfs_writer.specs.declared.stored.Stored.{Stored}
@@ -55,7 +55,7 @@ still_flying map later shared kept bb b in_flight front released was is = ⊎_el
     (member (gone_of in_flight shared bb) b)
 
 module _ (map later : BlockSets) (e f : Blocks) (block_size : ℕ) (h : Growing) (base : Stored) (shared head size : ℕ) (hand : IsHand map e block_size h base shared) (others : SameButThese (pending_of h) e f)
-    (list : IsList f block_size head size) (blocks : list_blocks f block_size head size ≡ blocks_of e h) (released : Releases map later (gone_of base.in_flight shared (list_blocks f block_size base.head base.size))) where
+    (list : IsList f block_size head size) (blocks : list_blocks f block_size head size ≡ blocks_of_list e h) (released : Releases map later (gone_of base.in_flight shared (list_blocks f block_size base.head base.size))) where
   bb : List ℕ
   bb = list_blocks e block_size base.head base.size
 
@@ -68,7 +68,7 @@ module _ (map later : BlockSets) (e f : Blocks) (block_size : ℕ) (h : Growing)
   kept_is : list_blocks f block_size head size ≡ kept_of e h
   kept_is = blocks ∙ hand.own
 
-  pub ends : IsStored later f block_size (record { head = head; size = size; in_flight = true })
+  pub ends : IsListStored later f block_size (record { head = head; size = size; in_flight = true })
   ends = record {
     base = inr list;
     count = released.count ∙ hand.begun.marked.count ∙ sym others.count;
@@ -84,12 +84,12 @@ module _ (map later : BlockSets) (e f : Blocks) (block_size : ℕ) (h : Growing)
 
 -- under other names of the geometry
 pub ends_by : (map later : BlockSets) (e f : Blocks) (geometry now device : Geometry) (h : Growing) (base : Stored) (shared head size : ℕ) → now ≡ geometry → device ≡ geometry → IsHand map e geometry.block_size h base shared
-    → SameButThese (pending_of h) e f → IsList f now.block_size head size → list_blocks f now.block_size head size ≡ blocks_of e h
-    → Releases map later (gone_of base.in_flight shared (list_blocks f device.block_size base.head base.size)) → IsStored later f geometry.block_size (record { head = head; size = size; in_flight = true })
+    → SameButThese (pending_of h) e f → IsList f now.block_size head size → list_blocks f now.block_size head size ≡ blocks_of_list e h
+    → Releases map later (gone_of base.in_flight shared (list_blocks f device.block_size base.head base.size)) → IsListStored later f geometry.block_size (record { head = head; size = size; in_flight = true })
 ends_by map later e f geometry now device h base shared head size same also hand others list blocks released =
     ends map later e f geometry.block_size h base shared head size hand others
     (subst (λ (k : Geometry). IsList f k.block_size head size) same list)
-    (subst (λ (k : Geometry). list_blocks f k.block_size head size ≡ blocks_of e h) same blocks)
+    (subst (λ (k : Geometry). list_blocks f k.block_size head size ≡ blocks_of_list e h) same blocks)
     (subst (λ (k : Geometry). Releases map later (gone_of base.in_flight shared (list_blocks f k.block_size base.head base.size))) also released)
 
 -- the same blocks are used

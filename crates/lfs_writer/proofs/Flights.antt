@@ -12,10 +12,10 @@ use Rattle.lfs_model.specs.BlockSets.{BlockSets, in_flight_count}
 use Rattle.lfs_model.specs.Writers.{written_into, zeros_to}
 use Rattle.lfs_device.specs.declared.geometry.Geometry.{Geometry}
 use Rattle.lfs_model.specs.SkipLists.{blocks_back, blocks_for, bytes_of}
-use Rattle.lfs_ctz.specs.Growing.{Growing, IsGrowing, blocks_of, content_of, is_held, joined, kept_of, pending_of, size_of}
+use Rattle.lfs_ctz.specs.Growing.{Growing, IsGrowing, blocks_of_list, content_of, is_held, joined, kept_of, pending_of, size_of}
 use Rattle.lfs_writer.specs.Apart.{Grows, IsMarked, Spares}
 use Rattle.lfs_writer.specs.Based.{IsBase, list_blocks}
-use Rattle.lfs_writer.specs.Hand.{IsBegun, IsHand, IsStored, hand_bytes, stored_bytes}
+use Rattle.lfs_writer.specs.Hand.{IsListBegun, IsHand, IsListStored, hand_bytes, stored_bytes}
 use Rattle.lfs_writer.specs.Roomy.{base_blocks}
 use Rattle.lfs_writer.specs.Taken.{Keeps}
 use Rattle.lfs_writer.specs.declared.stored.Stored.{Stored}
@@ -62,13 +62,13 @@ unfolding lent
 length-lent d block_size s true = length_back d (blocks_for block_size s.size) s.head
 length-lent d block_size s false = refl
 
-pub stored_flying : (map : BlockSets) (d : Blocks) (block_size : ℕ) (s : Stored) → IsStored map d block_size s → in_flight_count map ≤ base_blocks block_size s
+pub stored_flying : (map : BlockSets) (d : Blocks) (block_size : ℕ) (s : Stored) → IsListStored map d block_size s → in_flight_count map ≤ base_blocks block_size s
 stored_flying map d block_size s stored =
     let bb : List ℕ = list_blocks d block_size s.head s.size in
     let few = few_flying (lent s.in_flight bb) map (λ b is. in_lent s.in_flight bb b (stored.flying b is).0 (stored.flying b is).1) in
     omega (arith, few, length-lent d block_size s s.in_flight)
 
-pub begun_flying : (map : BlockSets) (d : Blocks) (block_size : ℕ) (g : Growing) (base : Stored) (shared : ℕ) → IsBegun map d block_size g base shared → in_flight_count map ≤ length (kept_of d g) + base_blocks block_size base
+pub begun_flying : (map : BlockSets) (d : Blocks) (block_size : ℕ) (g : Growing) (base : Stored) (shared : ℕ) → IsListBegun map d block_size g base shared → in_flight_count map ≤ length (kept_of d g) + base_blocks block_size base
 begun_flying map d block_size g base shared begun =
     let bb : List ℕ = list_blocks d block_size base.head base.size in
     let few = few_flying (kept_of d g ++ lent base.in_flight bb) map (λ b is. ⊎_elim
@@ -79,13 +79,13 @@ begun_flying map d block_size g base shared begun =
 
 -- ---- a list in hand that grows, also under another name of the geometry
 
-pub hand_on : (map later : BlockSets) (d e : Blocks) (geometry now : Geometry) (g h : Growing) (base : Stored) (shared : ℕ) → now ≡ geometry → IsBegun map d geometry.block_size g base shared → Spares map (pending_of g) d e → Keeps map later
-    → Grows map d g later e h → IsGrowing e h → IsMarked later e h → blocks_of e h ≡ kept_of e h → length (kept_of e h) ≡ blocks_for now.block_size (size_of now.block_size h) → is_held h ≡ false → IsHand later e now.block_size h base shared
+pub hand_on : (map later : BlockSets) (d e : Blocks) (geometry now : Geometry) (g h : Growing) (base : Stored) (shared : ℕ) → now ≡ geometry → IsListBegun map d geometry.block_size g base shared → Spares map (pending_of g) d e → Keeps map later
+    → Grows map d g later e h → IsGrowing e h → IsMarked later e h → blocks_of_list e h ≡ kept_of e h → length (kept_of e h) ≡ blocks_for now.block_size (size_of now.block_size h) → is_held h ≡ false → IsHand later e now.block_size h base shared
 hand_on map later d e geometry now g h base shared same begun spared keeps grown growing marked own many listed =
     subst (λ (k : Geometry). IsHand later e k.block_size h base shared) (sym same)
     (hand_grows map later d e geometry.block_size g h base shared begun spared keeps grown growing marked own (counted geometry now h (length (kept_of e h)) same many) listed)
 
-pub wrote : (map : BlockSets) (d e : Blocks) (geometry now : Geometry) (g h : Growing) (base : Stored) (shared : ℕ) (bytes : List ℕ) → now ≡ geometry → IsBegun map d geometry.block_size g base shared → Spares map (pending_of g) d e
+pub wrote : (map : BlockSets) (d e : Blocks) (geometry now : Geometry) (g h : Growing) (base : Stored) (shared : ℕ) (bytes : List ℕ) → now ≡ geometry → IsListBegun map d geometry.block_size g base shared → Spares map (pending_of g) d e
     → content_of e h ≡ content_of d g ++ bytes → size_of now.block_size h ≡ size_of geometry.block_size g + length bytes → length (content_of d g) ≡ size_of geometry.block_size g
     → hand_bytes e now.block_size h base ≡ written_into (hand_bytes d geometry.block_size g base) (size_of geometry.block_size g) bytes
 wrote map d e geometry now g h base shared bytes same begun spared content sum long =

@@ -9,7 +9,7 @@ use Rattle.lfs_model.specs.Session.{Writer, ctz_blocks, held_by}
 use Rattle.lfs_model.specs.Writers.{after_write, after_truncate, after_sync, opened_writer, written_into, turns, write_place, zeros_to}
 use Rattle.lfs_model.specs.Operations.{Flags}
 use Rattle.lfs_model.specs.Tree.{Path}
-use Rattle.lfs_writer.specs.Form.{Form, InMemory, Finished, InHand, form_size, form_blocks, grown, shortened, written, truncated, synced, IsKept}
+use Rattle.lfs_writer.specs.Form.{Form, InMemory, Finished, InHand, form_size, form_blocks, grown, shortened, written, truncated, synced, IsWriterForm}
 use Rattle.lfs_model.proofs.ListSizes.{blocks_for-more}
 
 length-zeros_to : (n : ℕ) (bytes : List ℕ) → length (zeros_to n bytes) ≡ max n (length bytes)
@@ -21,7 +21,7 @@ length-written old at bytes =
     omega (arith, front, length-append (take at (zeros_to at old) ++ bytes) (drop (at + length bytes) old), length-append (take at (zeros_to at old)) bytes, length-drop (at + length bytes) old)
 
 -- one form or another
-either : (block_size : ℕ) (t : Bool) (a b : Form) (w : Writer) → (t ≡ true → IsKept block_size a w) → (t ≡ false → IsKept block_size b w) → IsKept block_size (if t then a else b) w
+either : (block_size : ℕ) (t : Bool) (a b : Form) (w : Writer) → (t ≡ true → IsWriterForm block_size a w) → (t ≡ false → IsWriterForm block_size b w) → IsWriterForm block_size (if t then a else b) w
 either block_size true a b w first second = first refl
 either block_size false a b w first second = second refl
 
@@ -37,7 +37,7 @@ turned_or : (t : Bool) (P : Type 0) → (t ≡ true → P) → (t ≡ false → 
 turned_or true P first second = first refl
 turned_or false P first second = second refl
 
-kept_grown : (block_size : ℕ) (w v : Writer) (begin stop : ℕ) → Grew w v begin stop → inline_limit block_size < length v.contents → begin ≤ stop → (form : Form) → IsKept block_size form w → IsKept block_size (grown begin stop form) v
+kept_grown : (block_size : ℕ) (w v : Writer) (begin stop : ℕ) → Grew w v begin stop → inline_limit block_size < length v.contents → begin ≤ stop → (form : Form) → IsWriterForm block_size form w → IsWriterForm block_size (grown begin stop form) v
 kept_grown block_size w v begin stop grew large le (InMemory size) kept =
     let few : size ≤ inline_limit block_size = kept.fits in
     let is : size ≡ length w.contents = kept.size in
@@ -91,7 +91,7 @@ kept_grown block_size w v begin stop grew large le (InHand end base flying) kept
     })
 
 kept_shortened : (block_size : ℕ) (w v : Writer) (size : ℕ) → v.dirty ≡ true → (w.turned ≡ true → v.turned ≡ true) → ((end : ℕ) → w.last_end ≡ Some end → v.turned ≡ true) → length v.contents ≡ size → inline_limit block_size < size → size ≤ length w.contents
-    → (form : Form) → IsKept block_size form w → IsKept block_size (shortened size form) v
+    → (form : Form) → IsWriterForm block_size form w → IsWriterForm block_size (shortened size form) v
 kept_shortened block_size w v size dirty stays turns long large le (InMemory old) kept =
     let few : old ≤ inline_limit block_size = kept.fits in
     let is : old ≡ length w.contents = kept.size in
@@ -114,8 +114,8 @@ kept_shortened block_size w v size dirty stays turns long large le (InHand end b
 turned_on : (turned : Bool) (last_end : Option ℕ) (begin end : ℕ) → last_end ≡ Some end → end ≢ begin → (turned || turns last_end begin) ≡ true
 turned_on turned last_end begin end at ne = or_right turned (turns last_end begin) (let e : turns (Some end) begin ≡ true = ap not (ne_eqb begin end (λ e. ne (sym e))) in ap (λ l. turns l begin) at ∙ e)
 
-pub kept_written : (block_size : ℕ) (form : Form) (w : Writer) (byte : ℕ) (bytes : List ℕ) → IsKept block_size form w
-    → IsKept block_size (written (inline_limit block_size) (write_place w) (length (byte ∷ bytes)) form) (after_write w (byte ∷ bytes))
+pub kept_written : (block_size : ℕ) (form : Form) (w : Writer) (byte : ℕ) (bytes : List ℕ) → IsWriterForm block_size form w
+    → IsWriterForm block_size (written (inline_limit block_size) (write_place w) (length (byte ∷ bytes)) form) (after_write w (byte ∷ bytes))
 kept_written block_size form w byte bytes kept =
     let place : ℕ = write_place w in
     let size : ℕ = form_size form in
@@ -145,7 +145,7 @@ resized_to size w = record w {
   last_end = if nat_lt (length w.contents) size then Some size else w.last_end;
 }
 
-module _ (block_size : ℕ) (form : Form) (w : Writer) (size : ℕ) (kept : IsKept block_size form w) (ne : size ≢ length w.contents) where
+module _ (block_size : ℕ) (form : Form) (w : Writer) (size : ℕ) (kept : IsWriterForm block_size form w) (ne : size ≢ length w.contents) where
   abbrev resized : Writer
   resized = resized_to size w
 
@@ -158,7 +158,7 @@ module _ (block_size : ℕ) (form : Form) (w : Writer) (size : ℕ) (kept : IsKe
   abbrev other : Form
   other = if nat_lt (form_size form) size then grown (form_size form) size form else shortened size form
 
-  kept_other : inline_limit block_size < size → IsKept block_size other resized
+  kept_other : inline_limit block_size < size → IsWriterForm block_size other resized
   kept_other large =
       let is : form_size form ≡ length w.contents = kept.size in
       let now = long in
@@ -178,26 +178,26 @@ module _ (block_size : ℕ) (form : Form) (w : Writer) (size : ℕ) (kept : IsKe
       let less : size ≤ form_size form = ltb-false (form_size form) size shorter in
       kept_shortened block_size w resized size refl (λ t. or_left w.turned (is_some w.last_end) t) some_turned now large (omega arith) form kept)
 
-  kept_resized : IsKept block_size (if nat_le size (inline_limit block_size) then InMemory size else other) resized
+  kept_resized : IsWriterForm block_size (if nat_le size (inline_limit block_size) then InMemory size else other) resized
   kept_resized = either block_size (nat_le size (inline_limit block_size)) (InMemory size) other resized
       (λ fits. record { size = sym long; fits = leb-true size (inline_limit block_size) fits })
       (λ exceeds. kept_other (leb-false size (inline_limit block_size) exceeds))
 
-  kept_truncated_ne : IsKept block_size (truncated (inline_limit block_size) size form) (after_truncate w size)
+  kept_truncated_ne : IsWriterForm block_size (truncated (inline_limit block_size) size form) (after_truncate w size)
   kept_truncated_ne =
       let is : form_size form ≡ length w.contents = kept.size in
       let first : truncated (inline_limit block_size) size form ≡ (if nat_le size (inline_limit block_size) then InMemory size else other) =
       ap (λ (t : Bool). if t then form else (if nat_le size (inline_limit block_size) then InMemory size else other)) (ne_eqb size (form_size form) (λ e. ne (e ∙ is))) in
       let second : after_truncate w size ≡ resized = ap (λ (t : Bool). if t then w else resized) (ne_eqb size (length w.contents) ne) in
-      subst (λ (f : Form). IsKept block_size f (after_truncate w size)) (sym first) (subst (λ (v : Writer). IsKept block_size (if nat_le size (inline_limit block_size) then InMemory size else other) v) (sym second) kept_resized)
+      subst (λ (f : Form). IsWriterForm block_size f (after_truncate w size)) (sym first) (subst (λ (v : Writer). IsWriterForm block_size (if nat_le size (inline_limit block_size) then InMemory size else other) v) (sym second) kept_resized)
 
-pub kept_truncated : (block_size : ℕ) (form : Form) (w : Writer) (size : ℕ) → IsKept block_size form w → IsKept block_size (truncated (inline_limit block_size) size form) (after_truncate w size)
+pub kept_truncated : (block_size : ℕ) (form : Form) (w : Writer) (size : ℕ) → IsWriterForm block_size form w → IsWriterForm block_size (truncated (inline_limit block_size) size form) (after_truncate w size)
 kept_truncated block_size form w size kept = ⊎_elim
     (λ e.
     let first : truncated (inline_limit block_size) size form ≡ form =
     ap (λ (t : Bool). if t then form else (if nat_le size (inline_limit block_size) then InMemory size else (if nat_lt (form_size form) size then grown (form_size form) size form else shortened size form))) (eq-eqb size (form_size form) (e ∙ sym kept.size)) in
     let second : after_truncate w size ≡ w = ap (λ (t : Bool). if t then w else resized_to size w) (eq-eqb size (length w.contents) e) in
-    subst (λ (f : Form). IsKept block_size f (after_truncate w size)) (sym first) (subst (λ (v : Writer). IsKept block_size form v) (sym second) kept))
+    subst (λ (f : Form). IsWriterForm block_size f (after_truncate w size)) (sym first) (subst (λ (v : Writer). IsWriterForm block_size form v) (sym second) kept))
     (λ ne. kept_truncated_ne block_size form w size kept ne)
     (cases_eq size (length w.contents))
 
@@ -208,7 +208,7 @@ contents_synced w = go w.dirty
     go true = refl
     go false = refl
 
-pub kept_synced : (block_size : ℕ) (form : Form) (w : Writer) → IsKept block_size form w → IsKept block_size (synced form) (after_sync w)
+pub kept_synced : (block_size : ℕ) (form : Form) (w : Writer) → IsWriterForm block_size form w → IsWriterForm block_size (synced form) (after_sync w)
 kept_synced block_size (InMemory size) w kept = record { size = kept.size ∙ ap length (sym (contents_synced w)); fits = kept.fits }
 kept_synced block_size (Finished size flying) w kept = record {
   size = kept.size ∙ ap length (sym (contents_synced w));
@@ -221,10 +221,10 @@ kept_synced block_size (InHand end base flying) w kept = record {
 
 -- a writer that was opened on contents in its entry, or truncated, has them in memory
 pub kept_opened_inline : (block_size : ℕ) (path : Path) (flags : Flags) (bytes : List ℕ) → length (opened_writer path flags bytes).contents ≤ inline_limit block_size
-    → IsKept block_size (InMemory (length (opened_writer path flags bytes).contents)) (opened_writer path flags bytes)
+    → IsWriterForm block_size (InMemory (length (opened_writer path flags bytes).contents)) (opened_writer path flags bytes)
 kept_opened_inline block_size path flags bytes few = record { size = refl; fits = few }
 
-pub kept_opened_list : (block_size : ℕ) (path : Path) (flags : Flags) (bytes : List ℕ) → IsKept block_size (Finished (length (opened_writer path flags bytes).contents) false) (opened_writer path flags bytes)
+pub kept_opened_list : (block_size : ℕ) (path : Path) (flags : Flags) (bytes : List ℕ) → IsWriterForm block_size (Finished (length (opened_writer path flags bytes).contents) false) (opened_writer path flags bytes)
 kept_opened_list block_size path flags bytes = record {
   size = refl;
   fits = record { dirty = λ e. absurd (cc); large = λ e. absurd (cc); turned = λ e. absurd (cc) };
@@ -248,7 +248,7 @@ held_once block_size w dirty large = turned_or w.turned (2 + blocks_for block_si
     (λ t. let e : held_by block_size w ≡ 2 + 1 * blocks_for block_size (length w.contents) = held_dirty block_size w dirty large ∙ ap (λ (t : Bool). 2 + (if t then 2 else 1) * blocks_for block_size (length w.contents)) t in omega arith)
 
 -- The blocks in flight, and two more while the writer is dirty, are no more than it holds.
-pub held_covers : (block_size : ℕ) (form : Form) (w : Writer) → IsKept block_size form w → form_blocks block_size form ≤ held_by block_size w - 2
+pub held_covers : (block_size : ℕ) (form : Form) (w : Writer) → IsWriterForm block_size form w → form_blocks block_size form ≤ held_by block_size w - 2
 held_covers block_size (InMemory size) w kept = omega arith
 held_covers block_size (Finished size true) w kept =
     let is : size ≡ length w.contents = kept.size in
@@ -272,7 +272,7 @@ held_covers block_size (InHand end base false) w kept =
     omega arith
 
 -- room for what a writer holds is room for going on, or for a list over the base
-pub room_grown : (block_size end base : ℕ) (flying : Bool) (v : Writer) (used all : ℕ) → IsKept block_size (InHand end base flying) v → used + held_by block_size v ≤ all
+pub room_grown : (block_size end base : ℕ) (flying : Bool) (v : Writer) (used all : ℕ) → IsWriterForm block_size (InHand end base flying) v → used + held_by block_size v ≤ all
     → used + blocks_for block_size end + (if flying then blocks_for block_size base else 0) ≤ all
 room_grown block_size end base flying v used all kept room =
     let covers = held_covers block_size (InHand end base flying) v kept in
@@ -282,7 +282,7 @@ room_grown block_size end base flying v used all kept room =
     omega arith
 
 -- for a list that ends and another one over it
-pub room_turned : (block_size end base : ℕ) (v : Writer) (used all : ℕ) → IsKept block_size (InHand end base true) v → used + held_by block_size v ≤ all
+pub room_turned : (block_size end base : ℕ) (v : Writer) (used all : ℕ) → IsWriterForm block_size (InHand end base true) v → used + held_by block_size v ≤ all
     → used + 2 * blocks_for block_size (max base end) ≤ all
 room_turned block_size end base v used all kept room =
     let is : max end base ≡ length v.contents = kept.size in
@@ -292,7 +292,7 @@ room_turned block_size end base v used all kept room =
     omega arith
 
 -- for ending a list as it is
-pub room_ended : (block_size end base : ℕ) (flying : Bool) (w : Writer) (used all : ℕ) → IsKept block_size (InHand end base flying) w → used + held_by block_size w ≤ all
+pub room_ended : (block_size end base : ℕ) (flying : Bool) (w : Writer) (used all : ℕ) → IsWriterForm block_size (InHand end base flying) w → used + held_by block_size w ≤ all
     → used + (if flying then blocks_for block_size base else 0) + blocks_for block_size base ≤ all
 room_ended block_size end base true w used all kept room =
     let is : max end base ≡ length w.contents = kept.size in

@@ -11,13 +11,13 @@ use Rattle.lfs_model.specs.Blocks.{Blocks}
 use Rattle.lfs_model.specs.BlockSets.{BlockSets, IsFree}
 use Rattle.lfs_model.specs.BlockSets.BlockState.{Free, Used}
 use Rattle.lfs_model.specs.SkipLists.{blocks_for}
-use Rattle.lfs_ctz.specs.Growing.{Growing, IsGrowing, blocks_of, is_held, kept_of, pending_of, size_of}
+use Rattle.lfs_ctz.specs.Growing.{Growing, IsGrowing, blocks_of_list, is_held, kept_of, pending_of, size_of}
 use Rattle.lfs_ctz.specs.Growing.{pending_in}
 use Rattle.lfs_ctz.specs.declared.rest.Rest.{Rest}
 use Rattle.lfs_ctz.specs.declared.rest.Rest.TheVariants.{Closed, Shared, Handed, Held}
 use Rattle.lfs_writer.specs.Apart.{Grows, IsApart, IsMarked, Spares}
 use Rattle.lfs_writer.specs.Based.{list_blocks}
-use Rattle.lfs_writer.specs.Hand.{IsBegun, IsHand, IsStored}
+use Rattle.lfs_writer.specs.Hand.{IsListBegun, IsHand, IsListStored}
 use Rattle.lfs_writer.specs.Taken.{Keeps}
 use Rattle.lfs_writer.specs.declared.stored.Stored.{Stored}
 use Rattle.lfs_writer.proofs.Bases.{blocks_stay, list_stays}
@@ -49,8 +49,8 @@ distinct_parts n xs b distinct (i, lt, is) k x l same =
 
 -- ---- growth
 
-pub hand_grows : (map later : BlockSets) (d e : Blocks) (block_size : ℕ) (g h : Growing) (base : Stored) (shared : ℕ) → IsBegun map d block_size g base shared → Spares map (pending_of g) d e → Keeps map later
-    → Grows map d g later e h → IsGrowing e h → IsMarked later e h → blocks_of e h ≡ kept_of e h → length (kept_of e h) ≡ blocks_for block_size (size_of block_size h) → is_held h ≡ false → IsHand later e block_size h base shared
+pub hand_grows : (map later : BlockSets) (d e : Blocks) (block_size : ℕ) (g h : Growing) (base : Stored) (shared : ℕ) → IsListBegun map d block_size g base shared → Spares map (pending_of g) d e → Keeps map later
+    → Grows map d g later e h → IsGrowing e h → IsMarked later e h → blocks_of_list e h ≡ kept_of e h → length (kept_of e h) ≡ blocks_for block_size (size_of block_size h) → is_held h ≡ false → IsHand later e block_size h base shared
 hand_grows map later d e block_size g h base shared begun spared keeps grown growing marked own many listed =
     let bb : List ℕ = list_blocks d block_size base.head base.size in
     let stay : list_blocks e block_size base.head base.size ≡ bb = blocks_stay map (pending_of g) d e block_size base.head base.size spared begun.apart in
@@ -90,8 +90,8 @@ hand_grows map later d e block_size g h base shared begun spared keeps grown gro
 
 -- ---- the beginning
 
-pub begins : (map : BlockSets) (d : Blocks) (block_size : ℕ) (g : Growing) (base : Stored) (full : ℕ) → IsStored map d block_size base → IsGrowing d g → pending_of g ≡ []
-    → kept_of d g ≡ take full (list_blocks d block_size base.head base.size) → g.full ≡ full → IsBegun map d block_size g base full
+pub begins : (map : BlockSets) (d : Blocks) (block_size : ℕ) (g : Growing) (base : Stored) (full : ℕ) → IsListStored map d block_size base → IsGrowing d g → pending_of g ≡ []
+    → kept_of d g ≡ take full (list_blocks d block_size base.head base.size) → g.full ≡ full → IsListBegun map d block_size g base full
 begins map d block_size g base full stored growing none kept is =
     let bb : List ℕ = list_blocks d block_size base.head base.size in
     let long = length_back d (blocks_for block_size base.size) base.head in

@@ -4,7 +4,7 @@ use Rattle.std.specs.Prelude.{Contains}
 use Rattle.std.proofs.lemmas.List.Elements.{Contains-append_cases, Contains-append_right}
 use Rattle.lfs_model.specs.Blocks.{Blocks}
 use Rattle.lfs_model.specs.BlockSets.{BlockSets}
-use Rattle.lfs_writer.specs.Hand.{IsBegun, IsHand, KeepsUsed}
+use Rattle.lfs_writer.specs.Hand.{IsListBegun, IsHand, KeepsUsed}
 use Rattle.lfs_device.specs.declared.geometry.Geometry.{Geometry}
 use Rattle.lfs_ctz.specs.Growing.{Growing, kept_of, pending_of}
 use Rattle.lfs_writer.specs.Apart.{Spares}
@@ -44,7 +44,7 @@ pub owned_right : {map : BlockSets} (xs : List ℕ) {ys zs : List ℕ} → AreOw
 owned_right xs {ys} first = record { each = λ b has used. Contains-append_right xs ys b (first.each b has used) }
 
 -- a base stays in its blocks while a list is written over it
-pub base_kept : (map : BlockSets) (d e : Blocks) (geometry now : Geometry) (g : Growing) (base : Stored) (shared : ℕ) → now ≡ geometry → IsBegun map d geometry.block_size g base shared → Spares map (pending_of g) d e
+pub base_kept : (map : BlockSets) (d e : Blocks) (geometry now : Geometry) (g : Growing) (base : Stored) (shared : ℕ) → now ≡ geometry → IsListBegun map d geometry.block_size g base shared → Spares map (pending_of g) d e
     → KeepsList now.block_size d base e base
 base_kept map d e geometry now g base shared same begun spared =
     subst (λ (k : Geometry). KeepsList k.block_size d base e base) (sym same) (record { same = refl; blocks = blocks_stay map (pending_of g) d e geometry.block_size base.head base.size spared begun.apart })

@@ -7,15 +7,15 @@ use Rattle.lfs_device.specs.declared.error.Error.{Error}
 use Rattle.lfs_model.specs.Blocks.{Blocks, IsDivided, block_in}
 use Rattle.lfs_model.specs.BlockSets.{BlockSets}
 use Rattle.lfs_model.proofs.Histories.{unprogrammed-reads}
-use Rattle.lfs_thread.specs.Beside.{LeavesPairs, Shows}
+use Rattle.lfs_thread.specs.Beside.{LeavesPairs, IsOnDevice}
 use Rattle.lfs_thread.specs.Kept.{Kept}
 use Rattle.lfs_writer.specs.Based.{IsBase, list_blocks}
-use Rattle.lfs_writer.specs.Settled.{IsSettled, KeepsOthers, SharesUsed}
+use Rattle.lfs_writer.specs.Settled.{IsMapSettled, KeepsOthers, SharesUsed}
 use Rattle.lfs_writer.specs.declared.stored.Stored.{Stored}
 use Rattle.lfs_writer.specs.Settling.{CanSettle, IsSettledIn, blocks_in_list}
 use Rattle.lfs_writer.proofs.Standing.{blocks_here, size_here}
 
-module _ {D : Type 0} (g : Ghosts D) (t : Kept) (device : D) (map : BlockSets) (shows : Shows g t device map)
+module _ {D : Type 0} (g : Ghosts D) (t : Kept) (device : D) (map : BlockSets) (shows : IsOnDevice g t device map)
     (shape : IsDivided (g.geometry device).block_size (g.geometry device).block_count (g.blocks device)) (before stored : Stored) (can : CanSettle t before stored) where
   pub list_here : (s : Stored) → list_blocks (g.blocks device) (g.geometry device).block_size s.head s.size ≡ blocks_in_list t s
   list_here s = ap (λ (d : Blocks). list_blocks d (g.geometry device).block_size s.head s.size) (blocks_here g t device map shows shape)
@@ -52,11 +52,11 @@ module _ {D : Type 0} (g : Ghosts D) (t : Kept) (device : D) (map : BlockSets) (
   }
 
   pub settled_after : (new : Kept) (later_map : BlockSets) → later_map ≡ new.map → (r : Result (Unit {0}) Error)
-      → OnOk r (IsSettled map later_map (list_blocks (g.blocks device) (g.geometry device).block_size before.head before.size) (list_blocks (g.blocks device) (g.geometry device).block_size stored.head stored.size))
+      → OnOk r (IsMapSettled map later_map (list_blocks (g.blocks device) (g.geometry device).block_size before.head before.size) (list_blocks (g.blocks device) (g.geometry device).block_size stored.head stored.size))
       → OnOk r (IsSettledIn t before stored new)
   settled_after new later_map is (Ok u) settled =
-      subst (λ (m : BlockSets). IsSettled t.map m (blocks_in_list t before) (blocks_in_list t stored)) is
-      (subst (λ (m : BlockSets). IsSettled m later_map (blocks_in_list t before) (blocks_in_list t stored)) shows.map
-      (subst (λ (l : List ℕ). IsSettled map later_map l (blocks_in_list t stored)) (list_here before)
-      (subst (λ (l : List ℕ). IsSettled map later_map (list_blocks (g.blocks device) (g.geometry device).block_size before.head before.size) l) (list_here stored) settled)))
+      subst (λ (m : BlockSets). IsMapSettled t.map m (blocks_in_list t before) (blocks_in_list t stored)) is
+      (subst (λ (m : BlockSets). IsMapSettled m later_map (blocks_in_list t before) (blocks_in_list t stored)) shows.map
+      (subst (λ (l : List ℕ). IsMapSettled map later_map l (blocks_in_list t stored)) (list_here before)
+      (subst (λ (l : List ℕ). IsMapSettled map later_map (list_blocks (g.blocks device) (g.geometry device).block_size before.head before.size) l) (list_here stored) settled)))
   settled_after new later_map is (Err e) settled = tt

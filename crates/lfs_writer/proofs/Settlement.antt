@@ -6,11 +6,11 @@ use Rattle.lfs_model.specs.BlockSets.{AreUsed, BlockSets, IsUsed}
 use Rattle.lfs_model.specs.BlockSets.BlockState.{Free, Used}
 use Rattle.lfs_model.proofs.BlockSets.{Contains-count, count-Contains}
 use Rattle.lfs_model.proofs.Counts.{count}
-use Rattle.lfs_writer.specs.Settled.{IsSettled}
+use Rattle.lfs_writer.specs.Settled.{IsMapSettled}
 use Rattle.lfs_writer.proofs.Outside.{none_or_some, not_there}
 
 module _ (sets later : BlockSets) (owned used before now gone come : List ℕ) (are : AreUsed sets owned) (once : (b : ℕ) → count b owned ≤ 1) (counted : (b : ℕ) → count b owned + count b come ≡ count b used + count b gone)
-    (lists : (b : ℕ) → count b now + count b gone ≡ count b come + count b before) (within : (b : ℕ) → Contains now b → Contains used b) (settled : IsSettled sets later before now) where
+    (lists : (b : ℕ) → count b now + count b gone ≡ count b come + count b before) (within : (b : ℕ) → Contains now b → Contains used b) (settled : IsMapSettled sets later before now) where
   used_is : (b : ℕ) → IsUsed later b → Contains used b
   used_is b is = ⊎_elim
       (λ none. ⊎_elim

@@ -12,7 +12,7 @@ use Rattle.lfs_model.specs.BlockSets.BlockState.{Free, InFlight, Used}
 use Rattle.lfs_model.specs.SkipLists.{blocks_back}
 use Rattle.lfs_model.proofs.BlockSets.{slice_get-set_same, slice_get-set_other}
 use Rattle.lfs_model.proofs.ListSizes.{head_of_back}
-use Rattle.lfs_writer.specs.Settled.{IsSettled, Puts}
+use Rattle.lfs_writer.specs.Settled.{IsMapSettled, Puts}
 use Rattle.lfs_writer.proofs.Releasings.{drop_here}
 
 -- the head is the last block
@@ -68,7 +68,7 @@ module _ (state : BlockState) where
       (puts_more old mid new block (drop (index + 1) (blocks_back d count head)) first second)
 
 -- one list is freed, and then another one used
-pub settles : (old mid new : BlockSets) (gone kept : List ℕ) → Puts Free old mid gone → Puts Used mid new kept → IsSettled old new gone kept
+pub settles : (old mid new : BlockSets) (gone kept : List ℕ) → Puts Free old mid gone → Puts Used mid new kept → IsMapSettled old new gone kept
 settles old mid new gone kept first second = record {
   count = second.count ∙ first.count;
   used = second.put;

@@ -12,7 +12,7 @@ use Rattle.lfs_model.specs.SkipLists.{AreListBlocks, blocks_back, word_at}
 use Rattle.lfs_model.proofs.BlockSets.{count-Contains}
 use Rattle.lfs_model.proofs.Counts.{count, count_append, once_from_distinct}
 use Rattle.lfs_model.proofs.Files.{length_back}
-use Rattle.lfs_writer.specs.Settled.{IsSettled, Puts, SharesUsed}
+use Rattle.lfs_writer.specs.Settled.{IsMapSettled, Puts, SharesUsed}
 use Rattle.lfs_writer.specs.Shared.{IsSharedCount, apart_count}
 use Rattle.lfs_writer.proofs.Others.{Contains-behind}
 use Rattle.lfs_writer.proofs.Releasings.{before_in}
@@ -130,7 +130,7 @@ module _ (old mid new : BlockSets) (gone kept : List ℕ) (n : ℕ) (distinct : 
       (from_front n kept b (subst (λ (l : List ℕ). Contains l b) same (front_or_behind n gone b has away))) refl))
       (member (drop n gone) b)
 
-  pub settles_apart : IsSettled old new gone kept
+  pub settles_apart : IsMapSettled old new gone kept
   settles_apart = record {
     count = second.count ∙ first.count;
     used = λ k x l. used_at (get_or kept k x) (Contains-get_or kept k x l);

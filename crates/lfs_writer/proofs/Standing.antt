@@ -7,16 +7,16 @@ use Rattle.lfs_device.specs.declared.geometry.Geometry.{Geometry}
 use Rattle.lfs_model.specs.Blocks.{Blocks, IsDivided}
 use Rattle.lfs_model.specs.BlockSets.{BlockSets, used_count}
 use Rattle.lfs_model.specs.Disk.{Disk}
-use Rattle.lfs_thread.specs.Beside.{IsDividedAs, Shows}
+use Rattle.lfs_thread.specs.Beside.{IsDividedAs, IsOnDevice}
 use Rattle.lfs_thread.specs.Kept.{Kept}
 use Rattle.lfs_writer.specs.Contents.{CanFinishContents, CanTruncateContents, CanWriteContents, FitsTruncation, FitsWrite, HasContents, Stands, end_room, form_of}
 use Rattle.lfs_writer.specs.Form.{Form}
 use Rattle.lfs_writer.specs.Owned.{AreOwned, blocks_held}
 use Rattle.lfs_writer.specs.declared.contents.Contents.{Contents}
-use Rattle.lfs_writer.specs.Standing.{CanFinish, CanTruncate, CanWrite, Holds, StandsIn, held_in}
+use Rattle.lfs_writer.specs.Standing.{CanFinish, CanTruncate, CanWrite, HoldsContents, StandsIn, held_in}
 use Rattle.lfs_writer.proofs.Geometries.{geometry_is}
 
-module _ {D : Type 0} (g : Ghosts D) (t : Kept) (device : D) (map : BlockSets) (shows : Shows g t device map)
+module _ {D : Type 0} (g : Ghosts D) (t : Kept) (device : D) (map : BlockSets) (shows : IsOnDevice g t device map)
     (shape : IsDivided (g.geometry device).block_size (g.geometry device).block_count (g.blocks device)) where
   pub blocks_here : g.blocks device ≡ t.disk.blocks
   blocks_here = ap (λ (d : Disk). d.blocks) shows.disk
@@ -37,7 +37,7 @@ module _ {D : Type 0} (g : Ghosts D) (t : Kept) (device : D) (map : BlockSets) (
       (subst (λ (x : Geometry). Stands t.map t.disk.blocks x contents) (sym (geometry_here is.geometry is.divided)) is.stands))
 
   -- contents that a call left there
-  pub holds_here : (x : Geometry) (contents : Contents) (bytes : List ℕ) (form : Form) → x ≡ g.geometry device → HasContents map (g.blocks device) x contents bytes form → Holds t contents bytes form
+  pub holds_here : (x : Geometry) (contents : Contents) (bytes : List ℕ) (form : Form) → x ≡ g.geometry device → HasContents map (g.blocks device) x contents bytes form → HoldsContents t contents bytes form
   holds_here x contents bytes form is has = record {
     geometry = g.geometry device;
     divided = divided_here;
@@ -69,17 +69,17 @@ module _ {D : Type 0} (g : Ghosts D) (t : Kept) (device : D) (map : BlockSets) (
   }
 
 -- what a call answers, seen from the thread
-pub holds_after : {D : Type 0} (g : Ghosts D) (old new : Kept) (d e : D) (m n : BlockSets) → Shows g old d m → Shows g new e n → IsDivided (g.geometry d).block_size (g.geometry d).block_count (g.blocks d)
+pub holds_after : {D : Type 0} (g : Ghosts D) (old new : Kept) (d e : D) (m n : BlockSets) → IsOnDevice g old d m → IsOnDevice g new e n → IsDivided (g.geometry d).block_size (g.geometry d).block_count (g.blocks d)
     → IsDivided (g.geometry e).block_size (g.geometry e).block_count (g.blocks e) → g.geometry e ≡ g.geometry d → (bytes : Blocks → ℕ → List ℕ) (form : Form) (r : Result Contents Error)
-    → IfOk r (λ c. HasContents n (g.blocks e) (g.geometry d) c (bytes (g.blocks d) (g.geometry d).block_size) form) → IfOk r (λ c. Holds new c (bytes old.disk.blocks old.disk.block_size) form)
+    → IfOk r (λ c. HasContents n (g.blocks e) (g.geometry d) c (bytes (g.blocks d) (g.geometry d).block_size) form) → IfOk r (λ c. HoldsContents new c (bytes old.disk.blocks old.disk.block_size) form)
 holds_after g old new d e m n before after shape later geometry bytes form (Ok c) has =
-    subst (λ (x : Blocks). Holds new c (bytes x old.disk.block_size) form) (blocks_here g old d m before shape)
-    (subst (λ (k : ℕ). Holds new c (bytes (g.blocks d) k) form) (size_here g old d m before shape)
+    subst (λ (x : Blocks). HoldsContents new c (bytes x old.disk.block_size) form) (blocks_here g old d m before shape)
+    (subst (λ (k : ℕ). HoldsContents new c (bytes (g.blocks d) k) form) (size_here g old d m before shape)
     (holds_here g new e n after later (g.geometry d) c (bytes (g.blocks d) (g.geometry d).block_size) form (sym geometry) has))
 holds_after g old new d e m n before after shape later geometry bytes form (Err x) has = tt
 
 -- no used block comes into the lists
-pub owned_after : {D : Type 0} (g : Ghosts D) (old new : Kept) (d e : D) (m n : BlockSets) → Shows g old d m → Shows g new e n → IsDivided (g.geometry d).block_size (g.geometry d).block_count (g.blocks d)
+pub owned_after : {D : Type 0} (g : Ghosts D) (old new : Kept) (d e : D) (m n : BlockSets) → IsOnDevice g old d m → IsOnDevice g new e n → IsDivided (g.geometry d).block_size (g.geometry d).block_count (g.blocks d)
     → IsDivided (g.geometry e).block_size (g.geometry e).block_count (g.blocks e) → g.geometry e ≡ g.geometry d → (contents : Contents) (r : Result Contents Error)
     → IfOk r (λ c. AreOwned n (blocks_held (g.blocks d) (g.geometry d).block_size contents) (blocks_held (g.blocks e) (g.geometry d).block_size c)) → IfOk r (λ c. AreOwned new.map (held_in old contents) (held_in new c))
 owned_after g old new d e m n before after shape later geometry contents (Ok c) owned =

@@ -7,7 +7,7 @@ use Rattle.lfs_device.specs.declared.geometry.Geometry.{Geometry}
 use Rattle.lfs_ctz.specs.Growing.{IsHeld, Growing, end_of}
 use Rattle.lfs_writer.specs.Form as form
 use Rattle.lfs_writer.specs.Form.{Form, form_size}
-use Rattle.lfs_writer.specs.Hand.{IsStored, stored_bytes}
+use Rattle.lfs_writer.specs.Hand.{IsListStored, stored_bytes}
 use Rattle.lfs_writer.specs.Written.{IsGoing, bytes_over}
 use Rattle.lfs_writer.specs.declared.contents.Contents.{Contents}
 use Rattle.lfs_writer.specs.declared.contents.Contents.TheVariants.{InMemory, Finished, InHand}
@@ -43,7 +43,7 @@ pub record IsQuiet (map : BlockSets) (disk : Blocks) (now : Geometry) (list : Gr
 
 abbrev pub Stands : BlockSets → Blocks → Geometry → Contents → Type 0
 Stands map disk now (InMemory list) = IsQuiet map disk now list
-Stands map disk now (Finished stored) = IsStored map disk now.block_size stored
+Stands map disk now (Finished stored) = IsListStored map disk now.block_size stored
 Stands map disk now (InHand hand) = IsGoing map disk now hand
 
 -- they stand so, with these bytes in that form

@@ -4,13 +4,13 @@ use Rattle.lfs_model.specs.Blocks.{Blocks, block_in}
 use Rattle.lfs_model.specs.BlockSets.{BlockSets, IsFree, IsInFlight, IsUsed, used_count}
 use Rattle.lfs_model.specs.History.{Event, unprogrammed}
 use Rattle.lfs_model.specs.SkipLists.{blocks_for, bytes_of}
-use Rattle.lfs_ctz.specs.Growing.{Growing, IsGrowing, blocks_of, content_of, is_held, kept_of, pending_of, size_of}
+use Rattle.lfs_ctz.specs.Growing.{Growing, IsGrowing, blocks_of_list, content_of, is_held, kept_of, pending_of, size_of}
 use Rattle.lfs_writer.specs.Apart.{IsApart, IsMarked}
 use Rattle.lfs_writer.specs.Based.{IsBase, list_blocks}
 use Rattle.lfs_writer.specs.declared.stored.Stored.{Stored}
 
 -- A finished list has all contents. Where it is in flight, some of its blocks may be, and no others are.
-pub record IsStored (map : BlockSets) (disk : Blocks) (block_size : ℕ) (s : Stored) : Type 0 where
+pub record IsListStored (map : BlockSets) (disk : Blocks) (block_size : ℕ) (s : Stored) : Type 0 where
   pub base : IsBase disk block_size s.head s.size
   pub count : length map ≡ length disk
   pub marked : All (λ b. ¬ (IsFree map b)) (list_blocks disk block_size s.head s.size)
@@ -18,7 +18,7 @@ pub record IsStored (map : BlockSets) (disk : Blocks) (block_size : ℕ) (s : St
 
 -- A list in hand has the first bytes, its base the others. They share the first blocks; the other blocks in hand are
 -- none of the base's, and not used. No other block is in flight.
-pub record IsBegun (map : BlockSets) (disk : Blocks) (block_size : ℕ) (g : Growing) (base : Stored) (shared : ℕ) : Type 0 where
+pub record IsListBegun (map : BlockSets) (disk : Blocks) (block_size : ℕ) (g : Growing) (base : Stored) (shared : ℕ) : Type 0 where
   pub growing : IsGrowing disk g
   pub marked : IsMarked map disk g
   pub list : IsBase disk block_size base.head base.size
@@ -31,8 +31,8 @@ pub record IsBegun (map : BlockSets) (disk : Blocks) (block_size : ℕ) (g : Gro
 
 -- All its blocks are its own, as many as its bytes need, and it can be ended.
 pub record IsHand (map : BlockSets) (disk : Blocks) (block_size : ℕ) (g : Growing) (base : Stored) (shared : ℕ) : Type 0 where
-  pub begun : IsBegun map disk block_size g base shared
-  pub own : blocks_of disk g ≡ kept_of disk g
+  pub begun : IsListBegun map disk block_size g base shared
+  pub own : blocks_of_list disk g ≡ kept_of disk g
   pub many : length (kept_of disk g) ≡ blocks_for block_size (size_of block_size g)
   pub listed : is_held g ≡ false
 

@@ -15,7 +15,7 @@ pub record Puts (state : BlockState) (old new : BlockSets) (bs : List ℕ) : Typ
   pub others : (b : ℕ) → All (λ x. x ≢ b) bs → slice_get new b ≡ slice_get old b
 
 -- The blocks of the list that is kept are used, and those that only the other one had are free.
-pub record IsSettled (old new : BlockSets) (gone kept : List ℕ) : Type 0 where
+pub record IsMapSettled (old new : BlockSets) (gone kept : List ℕ) : Type 0 where
   pub count : length new ≡ length old
   pub used : All (IsUsed new) kept
   pub freed : (b : ℕ) → Contains gone b → All (λ x. x ≢ b) kept → IsFree new b

@@ -5,7 +5,7 @@ use Rattle.lfs_model.specs.History.{OnlyReads}
 use Rattle.lfs_model.specs.Thread.{blocks_of}
 use Rattle.lfs_thread.specs.Kept.{Kept}
 use Rattle.lfs_writer.specs.Based.{IsBase, list_blocks}
-use Rattle.lfs_writer.specs.Settled.{IsSettled, SharesUsed}
+use Rattle.lfs_writer.specs.Settled.{IsMapSettled, SharesUsed}
 use Rattle.lfs_writer.specs.declared.stored.Stored.{Stored}
 
 abbrev pub blocks_in_list : Kept → Stored → List ℕ
@@ -26,4 +26,4 @@ pub record IsReadBesideMap (old new : Kept) : Type 0 where
   pub pairs : new.pairs ≡ old.pairs
 
 abbrev pub IsSettledIn : Kept → Stored → Stored → Kept → Type 0
-IsSettledIn old before stored new = IsSettled old.map new.map (blocks_in_list old before) (blocks_in_list old stored)
+IsSettledIn old before stored new = IsMapSettled old.map new.map (blocks_in_list old before) (blocks_in_list old stored)

@@ -21,7 +21,7 @@ pub record StandsIn (t : Kept) (contents : Contents) : Type 0 where
   pub stands : Stands t.map t.disk.blocks geometry contents
 
 -- they stand so, with these bytes in that form
-pub record Holds (t : Kept) (contents : Contents) (bytes : List ℕ) (shape : Form) : Type 0 where
+pub record HoldsContents (t : Kept) (contents : Contents) (bytes : List ℕ) (shape : Form) : Type 0 where
   pub geometry : Geometry
   pub divided : IsDividedAs geometry t.disk
   pub has : HasContents t.map t.disk.blocks geometry contents bytes shape
@@ -42,7 +42,7 @@ pub record LeavesPairsAndUsed (old new : Kept) : Type 0 where
   pub map : KeepsUsed old.map new.map
 
 -- `Io` comes with a fault of the device, and any other answer with none
-pub record TellsWork {X : Type 0} (old new : Kept) (result : Result X Error) : Type 0 where
+pub record ReportsWork {X : Type 0} (old new : Kept) (result : Result X Error) : Type 0 where
   pub errors : IfErr result (λ e. (e ≡ Io) ⊎ (e ≡ NoMemory))
   pub fault : IsErrOf result Io → faults old.history < faults new.history
   pub no_fault : ¬ IsErrOf result Io → faults new.history ≡ faults old.history

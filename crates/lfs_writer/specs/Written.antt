@@ -4,7 +4,7 @@ use Rattle.lfs_device.specs.declared.geometry.Geometry.{Geometry}
 use Rattle.lfs_model.specs.Blocks.{Blocks}
 use Rattle.lfs_model.specs.BlockSets.{BlockSets}
 use Rattle.lfs_ctz.specs.Growing.{end_of}
-use Rattle.lfs_writer.specs.Hand.{IsBegun, IsHand, IsStored, hand_bytes, stored_bytes}
+use Rattle.lfs_writer.specs.Hand.{IsListBegun, IsHand, IsListStored, hand_bytes, stored_bytes}
 use Rattle.lfs_writer.specs.Owned.{AreOwned, blocks_in}
 use Rattle.lfs_writer.specs.declared.stored.Stored.{Stored}
 use Rattle.lfs_writer.specs.declared.writing.Hand.{Hand}
@@ -20,7 +20,7 @@ bytes_over disk hand = hand_bytes disk hand.list.geometry.block_size hand.list h
 -- a list that is begun, of this device
 pub record HasBegun (map : BlockSets) (disk : Blocks) (now : Geometry) (hand : Hand) : Type 0 where
   pub geometry : now ≡ hand.list.geometry
-  pub begun : IsBegun map disk hand.list.geometry.block_size hand.list hand.base hand.shared
+  pub begun : IsListBegun map disk hand.list.geometry.block_size hand.list hand.base hand.shared
 
 -- a list in hand that has bytes, of this device
 pub record IsGoing (map : BlockSets) (disk : Blocks) (now : Geometry) (hand : Hand) : Type 0 where
@@ -53,7 +53,7 @@ pub record TurnsOver (map : BlockSets) (block_size : ℕ) (disk : Blocks) (old :
 
 -- a finished list of so many bytes, these ones
 pub record HasEnded (map : BlockSets) (disk : Blocks) (now : Geometry) (s : Stored) (length : ℕ) (contents : List ℕ) : Type 0 where
-  pub stored : IsStored map disk now.block_size s
+  pub stored : IsListStored map disk now.block_size s
   pub count : s.size ≡ length
   pub bytes : stored_bytes disk now.block_size s ≡ contents
 

@@ -3,9 +3,9 @@
 ghost use Rattle.std.specs.Prelude.{◌≡◌, ◌≤◌, IfOk};
 ghost use Rattle.lfs_device.specs.Calls.{ReadsOnly};
 ghost use Rattle.lfs_model.specs.BlockSets.{BlockSets};
-ghost use Rattle.lfs_ctz.specs.Calls.{TellsMemory};
+ghost use Rattle.lfs_ctz.specs.Calls.{ReportsMemory};
 ghost use Rattle.lfs_writer.specs.Based.{IsBase};
-ghost use Rattle.lfs_writer.specs.Hand.{IsStored, stored_bytes};
+ghost use Rattle.lfs_writer.specs.Hand.{IsListStored, stored_bytes};
 ghost use Rattle.lfs_writer.specs.Written.{IsAt};
 
 use crate::stored::Stored;
@@ -26,11 +26,11 @@ pub(crate) fn begin_over<D: BlockDevice>(
 ) -> Result<Hand, Error>
     requires base { IsBase (D.blocks dev.old) (D.geometry dev.old).block_size base.head base.size }
     requires within { keep ≤ base.size }
-    ensures begun { IfOk result (λ h. (map : BlockSets) → IsStored map (D.blocks dev.old) (D.geometry dev.old).block_size base
+    ensures begun { IfOk result (λ h. (map : BlockSets) → IsListStored map (D.blocks dev.old) (D.geometry dev.old).block_size base
         → IsAt map (D.blocks dev.old) (D.geometry dev.old) h keep (stored_bytes (D.blocks dev.old) (D.geometry dev.old).block_size base)) }
     ensures base { IfOk result (λ h. h.base ≡ base) }
     ensures device { ReadsOnly D.BlockDevice dev.old dev.new }
-    ensures tells { TellsMemory D.BlockDevice dev.old dev.new result }
+    ensures reports { ReportsMemory D.BlockDevice dev.old dev.new result }
 {
     if keep == 0 {
         let list = Extender::start(alloc, dev.geometry())?;

@@ -5,20 +5,20 @@ ghost use Rattle.lfs_model.specs.Blocks.{Blocks};
 ghost use Rattle.lfs_model.specs.BlockSets.{BlockSets, used_count};
 ghost use Rattle.lfs_model.specs.SkipLists.{blocks_for};
 ghost use Rattle.lfs_model.specs.Writers.{written_into};
-ghost use Rattle.lfs_ctz.specs.Calls.{TellsMemory};
+ghost use Rattle.lfs_ctz.specs.Calls.{ReportsMemory};
 ghost use Rattle.lfs_writer.specs.Calls.{LeavesUsed};
 ghost use Rattle.lfs_writer.specs.Contents.{CanWriteContents, HasContents, IsIdle, IsQuiet, bytes_in, form_of, held_bytes, write_room};
 ghost use Rattle.lfs_writer.specs.Form as form;
 ghost use Rattle.lfs_writer.specs.Form.{written};
-ghost use Rattle.lfs_writer.specs.Hand.{IsStored, KeepsUsed, stored_bytes};
+ghost use Rattle.lfs_writer.specs.Hand.{IsListStored, KeepsUsed, stored_bytes};
 ghost use Rattle.lfs_writer.specs.Roomy.{base_blocks};
 ghost use Rattle.lfs_writer.specs.Written.{HasWritten, IsGoing, bytes_over, length_in};
 ghost use Rattle.lfs_writer.specs.Owned.{AreOwned, KeepsList, blocks_held};
 
 use crate::beginning::begin_over;
 use crate::memory::{load, write_out};
+use crate::other_places::write_turned;
 use crate::stored::Stored;
-use crate::turning::write_turned;
 use crate::writing::{Hand, write_from};
 use lfs_alloc::BlockMap;
 use lfs_ctz::Extender;
@@ -71,7 +71,7 @@ fn write_held<D: BlockDevice>(
     ensures owned { IfOk result (λ c. AreOwned map.new (blocks_held (D.blocks dev.old) (D.geometry dev.old).block_size (Contents.InMemory list)) (blocks_held (D.blocks dev.new) (D.geometry dev.old).block_size c)) }
     ensures map { KeepsUsed map.old map.new }
     ensures device { LeavesUsed D.BlockDevice map.old dev.old dev.new }
-    ensures tells { TellsMemory D.BlockDevice dev.old dev.new result }
+    ensures reports { ReportsMemory D.BlockDevice dev.old dev.new result }
 {
     let size = list.size().max(place + bytes.len() as u32);
     if size <= limit {
@@ -92,7 +92,7 @@ fn write_over<D: BlockDevice>(
     place: u32,
     bytes: &[u8],
 ) -> Result<Hand, Error>
-    requires stored { IsStored map.old (D.blocks dev.old) (D.geometry dev.old).block_size stored }
+    requires stored { IsListStored map.old (D.blocks dev.old) (D.geometry dev.old).block_size stored }
     requires some { 1 ≤ length bytes.now }
     requires small { place + length bytes.now < 2 ^ 31 }
     requires room { used_count map.old + blocks_for (D.geometry dev.old).block_size (place + length bytes.now) + base_blocks (D.geometry dev.old).block_size stored ≤ length map.old }
@@ -101,7 +101,7 @@ fn write_over<D: BlockDevice>(
     ensures base { IfOk result (λ h. KeepsList (D.geometry dev.old).block_size (D.blocks dev.old) stored (D.blocks dev.new) h.base) }
     ensures map { KeepsUsed map.old map.new }
     ensures device { LeavesUsed D.BlockDevice map.old dev.old dev.new }
-    ensures tells { TellsMemory D.BlockDevice dev.old dev.new result }
+    ensures reports { ReportsMemory D.BlockDevice dev.old dev.new result }
 {
     let begun = begin_over(alloc, dev, stored, place.min(stored.size))?;
     let mut hand = begun;
@@ -119,7 +119,7 @@ fn write_stored<D: BlockDevice>(
     place: u32,
     bytes: &[u8],
 ) -> Result<Contents, Error>
-    requires stored { IsStored map.old (D.blocks dev.old) (D.geometry dev.old).block_size stored }
+    requires stored { IsListStored map.old (D.blocks dev.old) (D.geometry dev.old).block_size stored }
     requires large { stored.in_flight ≡ true → limit < stored.size }
     requires short { limit < (D.geometry dev.old).block_size }
     requires some { 1 ≤ length bytes.now }
@@ -130,7 +130,7 @@ fn write_stored<D: BlockDevice>(
     ensures owned { IfOk result (λ c. AreOwned map.new (blocks_held (D.blocks dev.old) (D.geometry dev.old).block_size (Contents.Finished stored)) (blocks_held (D.blocks dev.new) (D.geometry dev.old).block_size c)) }
     ensures map { KeepsUsed map.old map.new }
     ensures device { LeavesUsed D.BlockDevice map.old dev.old dev.new }
-    ensures tells { TellsMemory D.BlockDevice dev.old dev.new result }
+    ensures reports { ReportsMemory D.BlockDevice dev.old dev.new result }
 {
     let size = stored.size.max(place + bytes.len() as u32);
     if size <= limit {
@@ -162,7 +162,7 @@ fn write_hand<D: BlockDevice>(
     ensures owned { IfOk result (λ c. AreOwned map.new (blocks_held (D.blocks dev.old) (D.geometry dev.old).block_size (Contents.InHand hand)) (blocks_held (D.blocks dev.new) (D.geometry dev.old).block_size c)) }
     ensures map { KeepsUsed map.old map.new }
     ensures device { LeavesUsed D.BlockDevice map.old dev.old dev.new }
-    ensures tells { TellsMemory D.BlockDevice dev.old dev.new result }
+    ensures reports { ReportsMemory D.BlockDevice dev.old dev.new result }
 {
     let hand = write_turned(alloc, dev, map, hand, place, bytes)?;
     Ok(Contents::InHand(hand))
@@ -188,7 +188,7 @@ pub fn write_contents<D: BlockDevice>(
     ensures owned { IfOk result (λ c. AreOwned map.new (blocks_held (D.blocks dev.old) (D.geometry dev.old).block_size contents) (blocks_held (D.blocks dev.new) (D.geometry dev.old).block_size c)) }
     ensures map { KeepsUsed map.old map.new }
     ensures device { LeavesUsed D.BlockDevice map.old dev.old dev.new }
-    ensures tells { TellsMemory D.BlockDevice dev.old dev.new result }
+    ensures reports { ReportsMemory D.BlockDevice dev.old dev.new result }
 {
     match contents {
         Contents::InMemory(list) => write_held(alloc, dev, map, list, limit, place, bytes),

@@ -4,7 +4,7 @@ ghost use Rattle.std.specs.Prelude.{◌≡◌, ◌≤◌, ◌<◌, ◌+◌, ◌-
 ghost use Rattle.lfs_model.specs.BlockSets.{in_flight_count, used_count};
 ghost use Rattle.lfs_model.specs.History.{reads};
 ghost use Rattle.lfs_model.specs.SkipLists.{IsBytePlace, IsList, blocks_for, bytes_of};
-ghost use Rattle.lfs_ctz.specs.Calls.{ReadsList, TellsMemory};
+ghost use Rattle.lfs_ctz.specs.Calls.{ReadsList, ReportsMemory};
 ghost use Rattle.lfs_ctz.specs.Growing.{IsGrowing, kept_of, pending_of, content_of, end_of};
 ghost use Rattle.lfs_writer.specs.Apart.{IsMarked};
 ghost use Rattle.lfs_writer.specs.Based.{IsBeside};
@@ -42,7 +42,7 @@ pub(crate) fn copy_rest<D: BlockDevice>(
         (max (end_of list.old) size) map.new (D.blocks dev.new) list.new) }
     ensures map { Keeps map.old map.new }
     ensures device { LeavesApart D.BlockDevice map.old (pending_of list.old) dev.old dev.new }
-    ensures tells { TellsMemory D.BlockDevice dev.old dev.new result }
+    ensures reports { ReportsMemory D.BlockDevice dev.old dev.new result }
 {
     if list.size() >= size {
         return Ok(());
@@ -75,7 +75,7 @@ fn copy_pieces<D: BlockDevice>(
         (max (end_of list.old) size) map.new (D.blocks dev.new) list.new) }
     ensures map { Keeps map.old map.new }
     ensures device { LeavesApart D.BlockDevice map.old (pending_of list.old) dev.old dev.new }
-    ensures tells { TellsMemory D.BlockDevice dev.old dev.new result }
+    ensures reports { ReportsMemory D.BlockDevice dev.old dev.new result }
 {
     'copying: while list.size() < size {
         let pos = list.size();

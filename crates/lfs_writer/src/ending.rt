@@ -4,7 +4,7 @@ ghost use Rattle.std.specs.Prelude.{◌≡◌, ◌≤◌, ◌+◌, if◌then◌e
 ghost use Rattle.lfs_device.specs.Calls.{ReadsOnly};
 ghost use Rattle.lfs_model.specs.BlockSets.{used_count};
 ghost use Rattle.lfs_model.specs.SkipLists.{blocks_for};
-ghost use Rattle.lfs_ctz.specs.Calls.{TellsIo, TellsMemory};
+ghost use Rattle.lfs_ctz.specs.Calls.{ReportsIo, ReportsMemory};
 ghost use Rattle.lfs_writer.specs.Based.{IsBase, list_blocks};
 ghost use Rattle.lfs_writer.specs.Calls.{LeavesUsed};
 ghost use Rattle.lfs_writer.specs.Hand.{KeepsUsed};
@@ -35,7 +35,7 @@ pub(crate) fn release_base<D: BlockDevice>(
     ensures released { OnOk result (Releases map.old map.new (if base.in_flight then drop shared (list_blocks (D.blocks dev.old) (D.geometry dev.old).block_size base.head base.size) else [])) }
     ensures map { KeepsUsed map.old map.new }
     ensures device { ReadsOnly D.BlockDevice dev.old dev.new }
-    ensures tells { TellsIo D.BlockDevice dev.old dev.new result }
+    ensures reports { ReportsIo D.BlockDevice dev.old dev.new result }
 {
     if !base.in_flight {
         return Ok(());
@@ -63,7 +63,7 @@ pub(crate) fn end_hand<D: BlockDevice>(
     ensures own { IfOk result (EndsOver map.new (D.geometry dev.old).block_size (D.blocks dev.old) hand.base (D.blocks dev.new)) }
     ensures map { KeepsUsed map.old map.new }
     ensures device { LeavesUsed D.BlockDevice map.old dev.old dev.new }
-    ensures tells { TellsMemory D.BlockDevice dev.old dev.new result }
+    ensures reports { ReportsMemory D.BlockDevice dev.old dev.new result }
 {
     let Hand { list, base, shared } = hand;
     let mut list = list;

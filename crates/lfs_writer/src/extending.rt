@@ -3,7 +3,7 @@
 ghost use Rattle.std.specs.Prelude.{◌≡◌, ◌≤◌, ◌<◌, ◌+◌, ◌++◌, ◌^◌, ℕ, length, OnOk};
 ghost use Rattle.lfs_model.specs.BlockSets.{in_flight_count, used_count};
 ghost use Rattle.lfs_model.specs.SkipLists.{blocks_for};
-ghost use Rattle.lfs_ctz.specs.Calls.{TellsMemory};
+ghost use Rattle.lfs_ctz.specs.Calls.{ReportsMemory};
 ghost use Rattle.lfs_ctz.specs.Growing.{IsGrowing, kept_of, pending_of, content_of, end_of};
 ghost use Rattle.lfs_writer.specs.Apart.{IsMarked};
 ghost use Rattle.lfs_writer.specs.Calls.{LeavesApart};
@@ -40,7 +40,7 @@ pub(crate) fn extend<D: BlockDevice>(
     // No block that was used or in flight changes, but the list's one that waited for more bytes.
     ensures map { Keeps map.old map.new }
     ensures device { LeavesApart D.BlockDevice map.old (pending_of list.old) dev.old dev.new }
-    ensures tells { TellsMemory D.BlockDevice dev.old dev.new result }
+    ensures reports { ReportsMemory D.BlockDevice dev.old dev.new result }
 {
     let count = list.needed(bytes.len() as u32);
     let blocks = take_blocks(alloc, map, count)?;

@@ -3,7 +3,7 @@
 ghost use Rattle.std.specs.Prelude.{◌≡◌, false, is_err, length, take, IfOk, OnOk};
 ghost use Rattle.lfs_model.specs.Writers.{written_into, zeros_to};
 ghost use Rattle.lfs_writer.specs.Settling.{CanSettle, IsReadBesideMap, IsSettledIn};
-ghost use Rattle.lfs_writer.specs.Standing.{CanFinish, CanTruncate, CanWrite, Holds, LeavesPairsAndUsed, TellsWork, held_in};
+ghost use Rattle.lfs_writer.specs.Standing.{CanFinish, CanTruncate, CanWrite, HoldsContents, LeavesPairsAndUsed, ReportsWork, held_in};
 ghost use Rattle.lfs_writer.specs.Contents.{bytes_in, finished, form_of};
 ghost use Rattle.lfs_writer.specs.Form.{truncated, written};
 ghost use Rattle.lfs_writer.specs.Owned.{AreOwned};
@@ -29,12 +29,12 @@ pub fn write_file<D: BlockDevice>(
 ) -> Result<Contents, Error>
     requires works { thread.old.failed ≡ false }
     requires can { CanWrite thread.old.kept contents limit place (length bytes.now) }
-    ensures written { IfOk result (λ c. Holds thread.new.kept c (written_into (bytes_in thread.old.kept.disk.blocks thread.old.kept.disk.block_size contents) place bytes.now)
+    ensures written { IfOk result (λ c. HoldsContents thread.new.kept c (written_into (bytes_in thread.old.kept.disk.blocks thread.old.kept.disk.block_size contents) place bytes.now)
         (written limit place (length bytes.now) (form_of contents))) }
     ensures owned { IfOk result (λ c. AreOwned thread.new.kept.map (held_in thread.old.kept contents) (held_in thread.new.kept c)) }
     ensures works { thread.new.failed ≡ false }
     ensures leaves { LeavesPairsAndUsed thread.old.kept thread.new.kept }
-    ensures tells { TellsWork thread.old.kept thread.new.kept result }
+    ensures reports { ReportsWork thread.old.kept thread.new.kept result }
 {
     let written = thread.beside(alloc, |device, map| {
         write_contents(alloc, device, map, contents, limit, place, bytes)
@@ -57,12 +57,12 @@ pub fn truncate_file<D: BlockDevice>(
 ) -> Result<Contents, Error>
     requires works { thread.old.failed ≡ false }
     requires can { CanTruncate thread.old.kept contents limit size }
-    ensures truncated { IfOk result (λ c. Holds thread.new.kept c (take size (zeros_to size (bytes_in thread.old.kept.disk.blocks thread.old.kept.disk.block_size contents)))
+    ensures truncated { IfOk result (λ c. HoldsContents thread.new.kept c (take size (zeros_to size (bytes_in thread.old.kept.disk.blocks thread.old.kept.disk.block_size contents)))
         (truncated limit size (form_of contents))) }
     ensures owned { IfOk result (λ c. AreOwned thread.new.kept.map (held_in thread.old.kept contents) (held_in thread.new.kept c)) }
     ensures works { thread.new.failed ≡ false }
     ensures leaves { LeavesPairsAndUsed thread.old.kept thread.new.kept }
-    ensures tells { TellsWork thread.old.kept thread.new.kept result }
+    ensures reports { ReportsWork thread.old.kept thread.new.kept result }
 {
     let truncated = thread.beside(alloc, |device, map| {
         truncate_contents(alloc, device, map, contents, limit, size)
@@ -82,11 +82,11 @@ pub fn finish_file<D: BlockDevice>(
 ) -> Result<Contents, Error>
     requires works { thread.old.failed ≡ false }
     requires can { CanFinish thread.old.kept contents }
-    ensures finished { IfOk result (λ c. Holds thread.new.kept c (bytes_in thread.old.kept.disk.blocks thread.old.kept.disk.block_size contents) (finished (form_of contents))) }
+    ensures finished { IfOk result (λ c. HoldsContents thread.new.kept c (bytes_in thread.old.kept.disk.blocks thread.old.kept.disk.block_size contents) (finished (form_of contents))) }
     ensures owned { IfOk result (λ c. AreOwned thread.new.kept.map (held_in thread.old.kept contents) (held_in thread.new.kept c)) }
     ensures works { thread.new.failed ≡ false }
     ensures leaves { LeavesPairsAndUsed thread.old.kept thread.new.kept }
-    ensures tells { TellsWork thread.old.kept thread.new.kept result }
+    ensures reports { ReportsWork thread.old.kept thread.new.kept result }
 {
     let finished = thread.beside(alloc, |device, map| finish(alloc, device, map, contents))?;
     finished
@@ -104,7 +104,7 @@ fn settle_beside<D: BlockDevice>(
     ensures settled { OnOk result (IsSettledIn thread.old.kept before stored thread.new.kept) }
     ensures only { IsReadBesideMap thread.old.kept thread.new.kept }
     ensures works { thread.new.failed ≡ false }
-    ensures tells { TellsWork thread.old.kept thread.new.kept result }
+    ensures reports { ReportsWork thread.old.kept thread.new.kept result }
 {
     let settled = thread.beside(
         alloc,
@@ -130,7 +130,7 @@ pub fn settle_file<D: BlockDevice>(
     ensures settled { OnOk result (IsSettledIn thread.old.kept before stored thread.new.kept) }
     ensures only { IsReadBesideMap thread.old.kept thread.new.kept }
     ensures failed { thread.new.failed ≡ is_err result }
-    ensures tells { TellsWork thread.old.kept thread.new.kept result }
+    ensures reports { ReportsWork thread.old.kept thread.new.kept result }
 {
     let result = settle_beside(alloc, thread, before, stored);
     if result.is_err() {

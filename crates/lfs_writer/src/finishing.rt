@@ -2,7 +2,7 @@
 
 ghost use Rattle.std.specs.Prelude.{ℕ, OnOk, IfOk};
 ghost use Rattle.lfs_model.specs.BlockSets.{IsInFlight};
-ghost use Rattle.lfs_ctz.specs.Calls.{TellsMemory};
+ghost use Rattle.lfs_ctz.specs.Calls.{ReportsMemory};
 ghost use Rattle.lfs_writer.specs.Calls.{LeavesUsed};
 ghost use Rattle.lfs_writer.specs.Contents.{CanFinishContents, HasContents, bytes_in, finished, form_of};
 ghost use Rattle.lfs_writer.specs.Hand.{KeepsUsed};
@@ -31,7 +31,7 @@ pub fn finish<D: BlockDevice>(
     ensures owned { IfOk result (λ c. AreOwned map.new (blocks_held (D.blocks dev.old) (D.geometry dev.old).block_size contents) (blocks_held (D.blocks dev.new) (D.geometry dev.old).block_size c)) }
     ensures map { KeepsUsed map.old map.new }
     ensures device { LeavesUsed D.BlockDevice map.old dev.old dev.new }
-    ensures tells { TellsMemory D.BlockDevice dev.old dev.new result }
+    ensures reports { ReportsMemory D.BlockDevice dev.old dev.new result }
 {
     match contents {
         Contents::InMemory(list) => Ok(Contents::InMemory(list)),

@@ -7,7 +7,7 @@ ghost use Rattle.lfs_model.specs.BlockSets.{BlockSets, used_count};
 ghost use Rattle.lfs_model.specs.SkipLists.{blocks_for};
 ghost use Rattle.lfs_model.specs.Writers.{written_into};
 ghost use Rattle.lfs_device.specs.declared.geometry.Geometry.{Geometry};
-ghost use Rattle.lfs_ctz.specs.Calls.{TellsMemory};
+ghost use Rattle.lfs_ctz.specs.Calls.{ReportsMemory};
 ghost use Rattle.lfs_ctz.specs.Growing.{IsHeld, end_of};
 ghost use Rattle.lfs_writer.specs.Based.{IsBase};
 ghost use Rattle.lfs_writer.specs.Calls.{LeavesUsed};
@@ -39,7 +39,7 @@ pub fn load<D: BlockDevice>(
     ensures resting { IfOk result (IsResting (D.geometry dev.old)) }
     ensures bytes { IfOk result (λ list. held_bytes list ≡ take keep (stored_bytes (D.blocks dev.old) (D.geometry dev.old).block_size stored)) }
     ensures device { ReadsOnly D.BlockDevice dev.old dev.new }
-    ensures tells { TellsMemory D.BlockDevice dev.old dev.new result }
+    ensures reports { ReportsMemory D.BlockDevice dev.old dev.new result }
 {
     let mut list = Extender::start(alloc, dev.geometry())?;
     list.hold(&[]);
@@ -92,7 +92,7 @@ pub(crate) fn write_out<D: BlockDevice>(
     ensures base { IfOk result (λ h. (h.base.size ≡ 0) × (h.base.in_flight ≡ false)) }
     ensures map { KeepsUsed map.old map.new }
     ensures device { LeavesUsed D.BlockDevice map.old dev.old dev.new }
-    ensures tells { TellsMemory D.BlockDevice dev.old dev.new result }
+    ensures reports { ReportsMemory D.BlockDevice dev.old dev.new result }
 {
     let mut list = list;
     let keep = list.size().min(place);

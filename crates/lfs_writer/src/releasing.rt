@@ -3,7 +3,7 @@
 ghost use Rattle.std.specs.Prelude.{◌≡◌, ◌≤◌, ◌<◌, ◌∷◌, [], length, drop, OnOk};
 ghost use Rattle.lfs_device.specs.Calls.{ReadsOnly};
 ghost use Rattle.lfs_model.specs.SkipLists.{AreListBlocks, blocks_back};
-ghost use Rattle.lfs_ctz.specs.Calls.{TellsIo};
+ghost use Rattle.lfs_ctz.specs.Calls.{ReportsIo};
 ghost use Rattle.lfs_writer.specs.Hand.{KeepsUsed};
 ghost use Rattle.lfs_writer.specs.Released.{Releases};
 
@@ -38,7 +38,7 @@ pub(crate) fn release_from<D: BlockDevice>(
     ensures released { OnOk result (Releases map.old map.new (drop from (blocks_back (D.blocks dev.old) count head))) }
     ensures map { KeepsUsed map.old map.new }
     ensures device { ReadsOnly D.BlockDevice dev.old dev.new }
-    ensures tells { TellsIo D.BlockDevice dev.old dev.new result }
+    ensures reports { ReportsIo D.BlockDevice dev.old dev.new result }
 {
     let mut block = head;
     let mut index = count;

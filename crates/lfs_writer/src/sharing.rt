@@ -4,7 +4,7 @@ ghost use Rattle.std.specs.Prelude.{◌≡◌, ◌≤◌, ◌<◌, ◌+◌, ◌-
 ghost use Rattle.lfs_device.specs.Calls.{ReadsOnly};
 ghost use Rattle.lfs_model.specs.History.{reads};
 ghost use Rattle.lfs_model.specs.SkipLists.{AreListBlocks, blocks_back};
-ghost use Rattle.lfs_ctz.specs.Calls.{TellsIo};
+ghost use Rattle.lfs_ctz.specs.Calls.{ReportsIo};
 ghost use Rattle.lfs_writer.specs.Shared.{IsSharedCount, apart_count};
 
 use lfs_ctz::head_before;
@@ -16,7 +16,7 @@ fn back_to<D: BlockDevice>(dev: &mut D, head: u32, count: u32, index: u32) -> Re
     requires within { index ≤ count }
     ensures block { IfOk result (λ b. 0 < index → b ≡ slice_index (blocks_back (D.blocks dev.old) count head) (index - 1)) }
     ensures device { ReadsOnly D.BlockDevice dev.old dev.new }
-    ensures tells { TellsIo D.BlockDevice dev.old dev.new result }
+    ensures reports { ReportsIo D.BlockDevice dev.old dev.new result }
     ensures few { OnOk result (reads (D.history dev.new) ≤ reads (D.history dev.old) + (count - index)) }
 {
     let mut block = head;
@@ -42,7 +42,7 @@ pub(crate) fn shared_count<D: BlockDevice>(
     requires other { AreListBlocks (D.blocks dev.old) other_count other }
     ensures shared { IfOk result (IsSharedCount (blocks_back (D.blocks dev.old) count head) (blocks_back (D.blocks dev.old) other_count other)) }
     ensures device { ReadsOnly D.BlockDevice dev.old dev.new }
-    ensures tells { TellsIo D.BlockDevice dev.old dev.new result }
+    ensures reports { ReportsIo D.BlockDevice dev.old dev.new result }
     ensures few { IfOk result (λ n. reads (D.history dev.new) ≤ reads (D.history dev.old)
         + apart_count (blocks_back (D.blocks dev.old) count head) (blocks_back (D.blocks dev.old) other_count other) n) }
 {

@@ -5,13 +5,13 @@ ghost use Rattle.lfs_device.specs.Calls.{ReadsOnly};
 ghost use Rattle.lfs_model.specs.BlockSets.{used_count};
 ghost use Rattle.lfs_model.specs.SkipLists.{blocks_for};
 ghost use Rattle.lfs_model.specs.Writers.{zeros_to};
-ghost use Rattle.lfs_ctz.specs.Calls.{TellsMemory};
+ghost use Rattle.lfs_ctz.specs.Calls.{ReportsMemory};
 ghost use Rattle.lfs_ctz.specs.Growing.{end_of};
 ghost use Rattle.lfs_writer.specs.Calls.{LeavesUsed};
 ghost use Rattle.lfs_writer.specs.Contents.{CanTruncateContents, HasContents, IsQuiet, bytes_in, form_of, held_bytes, truncate_room};
 ghost use Rattle.lfs_writer.specs.Form as form;
 ghost use Rattle.lfs_writer.specs.Form.{form_size, truncated};
-ghost use Rattle.lfs_writer.specs.Hand.{IsStored, KeepsUsed, stored_bytes};
+ghost use Rattle.lfs_writer.specs.Hand.{IsListStored, KeepsUsed, stored_bytes};
 ghost use Rattle.lfs_writer.specs.Roomy.{base_blocks};
 ghost use Rattle.lfs_writer.specs.Written.{HasWritten, IsGoing, TurnsOver, bytes_over, length_in};
 ghost use Rattle.lfs_writer.specs.Owned.{AreOwned, KeepsList, blocks_held};
@@ -22,8 +22,8 @@ use crate::cutting::cut_list;
 use crate::ending::end_hand;
 use crate::finishing::abandon;
 use crate::memory::{load, over_none};
+use crate::other_places::turn_to;
 use crate::stored::Stored;
-use crate::turning::turn_to;
 use crate::writing::Hand;
 use crate::zeroing::write_zeros;
 use lfs_alloc::BlockMap;
@@ -47,7 +47,7 @@ fn fill_out<D: BlockDevice>(
     ensures base { IfOk result (λ h. (h.base.size ≡ 0) × (h.base.in_flight ≡ false)) }
     ensures map { KeepsUsed map.old map.new }
     ensures device { LeavesUsed D.BlockDevice map.old dev.old dev.new }
-    ensures tells { TellsMemory D.BlockDevice dev.old dev.new result }
+    ensures reports { ReportsMemory D.BlockDevice dev.old dev.new result }
 {
     let gap = size - list.size();
     let mut hand = over_none(list);
@@ -74,7 +74,7 @@ fn truncate_held<D: BlockDevice>(
     ensures owned { IfOk result (λ c. AreOwned map.new (blocks_held (D.blocks dev.old) (D.geometry dev.old).block_size (Contents.InMemory list)) (blocks_held (D.blocks dev.new) (D.geometry dev.old).block_size c)) }
     ensures map { KeepsUsed map.old map.new }
     ensures device { LeavesUsed D.BlockDevice map.old dev.old dev.new }
-    ensures tells { TellsMemory D.BlockDevice dev.old dev.new result }
+    ensures reports { ReportsMemory D.BlockDevice dev.old dev.new result }
 {
     if size > limit {
         let hand = fill_out(alloc, dev, map, list, size)?;
@@ -94,13 +94,13 @@ fn take_back<D: BlockDevice>(
     stored: Stored,
     size: u32,
 ) -> Result<Extender, Error>
-    requires stored { IsStored map.old (D.blocks dev.old) (D.geometry dev.old).block_size stored }
+    requires stored { IsListStored map.old (D.blocks dev.old) (D.geometry dev.old).block_size stored }
     requires short { size < (D.geometry dev.old).block_size }
     ensures quiet { IfOk result (IsQuiet map.new (D.blocks dev.new) (D.geometry dev.old)) }
     ensures bytes { IfOk result (λ list. held_bytes list ≡ take size (zeros_to size (stored_bytes (D.blocks dev.old) (D.geometry dev.old).block_size stored))) }
     ensures map { KeepsUsed map.old map.new }
     ensures device { ReadsOnly D.BlockDevice dev.old dev.new }
-    ensures tells { TellsMemory D.BlockDevice dev.old dev.new result }
+    ensures reports { ReportsMemory D.BlockDevice dev.old dev.new result }
 {
     let mut list = load(alloc, dev, stored, stored.size.min(size))?;
     list.put(size, &[]);
@@ -116,7 +116,7 @@ fn fill_over<D: BlockDevice>(
     stored: Stored,
     size: u32,
 ) -> Result<Hand, Error>
-    requires stored { IsStored map.old (D.blocks dev.old) (D.geometry dev.old).block_size stored }
+    requires stored { IsListStored map.old (D.blocks dev.old) (D.geometry dev.old).block_size stored }
     requires longer { stored.size < size }
     requires small { size < 2 ^ 31 }
     requires room { used_count map.old + blocks_for (D.geometry dev.old).block_size size + base_blocks (D.geometry dev.old).block_size stored ≤ length map.old }
@@ -125,7 +125,7 @@ fn fill_over<D: BlockDevice>(
     ensures base { IfOk result (λ h. KeepsList (D.geometry dev.old).block_size (D.blocks dev.old) stored (D.blocks dev.new) h.base) }
     ensures map { KeepsUsed map.old map.new }
     ensures device { LeavesUsed D.BlockDevice map.old dev.old dev.new }
-    ensures tells { TellsMemory D.BlockDevice dev.old dev.new result }
+    ensures reports { ReportsMemory D.BlockDevice dev.old dev.new result }
 {
     let begun = begin_over(alloc, dev, stored, stored.size)?;
     let mut hand = begun;
@@ -142,7 +142,7 @@ fn truncate_stored<D: BlockDevice>(
     limit: u32,
     size: u32,
 ) -> Result<Contents, Error>
-    requires stored { IsStored map.old (D.blocks dev.old) (D.geometry dev.old).block_size stored }
+    requires stored { IsListStored map.old (D.blocks dev.old) (D.geometry dev.old).block_size stored }
     requires short { limit < (D.geometry dev.old).block_size }
     requires small { size < 2 ^ 31 }
     requires room { limit < size → stored.size < size → used_count map.old + blocks_for (D.geometry dev.old).block_size size + base_blocks (D.geometry dev.old).block_size stored ≤ length map.old }
@@ -151,7 +151,7 @@ fn truncate_stored<D: BlockDevice>(
     ensures owned { IfOk result (λ c. AreOwned map.new (blocks_held (D.blocks dev.old) (D.geometry dev.old).block_size (Contents.Finished stored)) (blocks_held (D.blocks dev.new) (D.geometry dev.old).block_size c)) }
     ensures map { KeepsUsed map.old map.new }
     ensures device { LeavesUsed D.BlockDevice map.old dev.old dev.new }
-    ensures tells { TellsMemory D.BlockDevice dev.old dev.new result }
+    ensures reports { ReportsMemory D.BlockDevice dev.old dev.new result }
 {
     if size == stored.size {
         return Ok(Contents::Finished(stored));
@@ -188,7 +188,7 @@ fn lengthen_hand<D: BlockDevice>(
     ensures over { IfOk result (TurnsOver map.new (D.geometry dev.old).block_size (D.blocks dev.old) hand (length_in hand) (D.blocks dev.new)) }
     ensures map { KeepsUsed map.old map.new }
     ensures device { LeavesUsed D.BlockDevice map.old dev.old dev.new }
-    ensures tells { TellsMemory D.BlockDevice dev.old dev.new result }
+    ensures reports { ReportsMemory D.BlockDevice dev.old dev.new result }
 {
     let length = hand.list.size().max(hand.base.size);
     let turned = turn_to(alloc, dev, map, hand, length)?;
@@ -216,7 +216,7 @@ fn shorten_hand<D: BlockDevice>(
     ensures owned { IfOk result (λ c. AreOwned map.new (blocks_held (D.blocks dev.old) (D.geometry dev.old).block_size (Contents.InHand hand)) (blocks_held (D.blocks dev.new) (D.geometry dev.old).block_size c)) }
     ensures map { KeepsUsed map.old map.new }
     ensures device { LeavesUsed D.BlockDevice map.old dev.old dev.new }
-    ensures tells { TellsMemory D.BlockDevice dev.old dev.new result }
+    ensures reports { ReportsMemory D.BlockDevice dev.old dev.new result }
 {
     let stored = end_hand(alloc, dev, map, hand)?;
     let cut = truncate_stored(alloc, dev, map, stored, limit, size)?;
@@ -242,7 +242,7 @@ fn truncate_hand<D: BlockDevice>(
     ensures owned { IfOk result (λ c. AreOwned map.new (blocks_held (D.blocks dev.old) (D.geometry dev.old).block_size (Contents.InHand hand)) (blocks_held (D.blocks dev.new) (D.geometry dev.old).block_size c)) }
     ensures map { KeepsUsed map.old map.new }
     ensures device { LeavesUsed D.BlockDevice map.old dev.old dev.new }
-    ensures tells { TellsMemory D.BlockDevice dev.old dev.new result }
+    ensures reports { ReportsMemory D.BlockDevice dev.old dev.new result }
 {
     let length = hand.list.size().max(hand.base.size);
     if size == length {
@@ -275,7 +275,7 @@ pub fn truncate_contents<D: BlockDevice>(
     ensures owned { IfOk result (λ c. AreOwned map.new (blocks_held (D.blocks dev.old) (D.geometry dev.old).block_size contents) (blocks_held (D.blocks dev.new) (D.geometry dev.old).block_size c)) }
     ensures map { KeepsUsed map.old map.new }
     ensures device { LeavesUsed D.BlockDevice map.old dev.old dev.new }
-    ensures tells { TellsMemory D.BlockDevice dev.old dev.new result }
+    ensures reports { ReportsMemory D.BlockDevice dev.old dev.new result }
 {
     match contents {
         Contents::InMemory(list) => truncate_held(alloc, dev, map, list, limit, size),

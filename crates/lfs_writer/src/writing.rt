@@ -4,7 +4,7 @@ ghost use Rattle.std.specs.Prelude.{◌≡◌, ◌≤◌, ◌<◌, ◌+◌, ◌^
 ghost use Rattle.lfs_model.specs.BlockSets.{used_count};
 ghost use Rattle.lfs_model.specs.SkipLists.{blocks_for};
 ghost use Rattle.lfs_model.specs.Writers.{written_into};
-ghost use Rattle.lfs_ctz.specs.Calls.{TellsMemory};
+ghost use Rattle.lfs_ctz.specs.Calls.{ReportsMemory};
 ghost use Rattle.lfs_ctz.specs.Growing.{end_of};
 ghost use Rattle.lfs_writer.specs.Calls.{LeavesUsed};
 ghost use Rattle.lfs_writer.specs.Hand.{KeepsUsed};
@@ -51,7 +51,7 @@ pub(crate) fn write_on<D: BlockDevice>(
     ensures base { KeepsList (D.geometry dev.old).block_size (D.blocks dev.old) hand.old.base (D.blocks dev.new) hand.new.base }
     ensures map { KeepsUsed map.old map.new }
     ensures device { LeavesUsed D.BlockDevice map.old dev.old dev.new }
-    ensures tells { TellsMemory D.BlockDevice dev.old dev.new result }
+    ensures reports { ReportsMemory D.BlockDevice dev.old dev.new result }
 {
     extend(alloc, dev, map, &mut hand.list, bytes)?;
     Ok(())
@@ -80,7 +80,7 @@ pub(crate) fn write_from<D: BlockDevice>(
     ensures base { KeepsList (D.geometry dev.old).block_size (D.blocks dev.old) hand.old.base (D.blocks dev.new) hand.new.base }
     ensures map { KeepsUsed map.old map.new }
     ensures device { LeavesUsed D.BlockDevice map.old dev.old dev.new }
-    ensures tells { TellsMemory D.BlockDevice dev.old dev.new result }
+    ensures reports { ReportsMemory D.BlockDevice dev.old dev.new result }
 {
     let gap = place - hand.list.size();
     write_zeros(alloc, dev, map, hand, gap)?;

@@ -5,7 +5,7 @@ use Rattle.std.specs.Prelude.{Err, IfOk, MatchResult, Ok, Result}
 use Rattle.lfs_device.specs.declared.error.Error.{Error}
 use Rattle.lfs_device.specs.declared.error.Error.TheVariants.{Corrupt, Io, NoMemory}
 use Rattle.lfs_device.specs.declared.geometry.Geometry.{Geometry}
-use Rattle.lfs_device.specs.RamDevice.{blocks_of, bytes_of, geometry_of, history_of}
+use Rattle.lfs_device.specs.RamDevice.{ram_blocks, bytes_of, geometry_of, history_of}
 use Rattle.lfs_device.specs.Shown as device
 use Rattle.lfs_device.specs.declared.ram.RamDevice.{RamDevice}
 use Rattle.lfs_model.specs.Blocks.{SameButThese, cut}
@@ -14,7 +14,7 @@ use Rattle.lfs_model.specs.Fresh.{IsFresh}
 use Rattle.lfs_model.specs.Geometry.{IsGeometry}
 use Rattle.lfs_model.specs.History.{Event, faults}
 use Rattle.lfs_model.specs.Operations.{Operation, Reply}
-use Rattle.lfs_model.specs.Run.{AreTurns, Moment}
+use Rattle.lfs_model.specs.Run.{AreSessionSteps, SystemState}
 use Rattle.lfs_model.specs.Session.{Files}
 use Rattle.lfs_model.specs.Shown.{tree_in}
 use Rattle.lfs_model.specs.State.{HasFailed, Healthy, mounted}
@@ -23,7 +23,7 @@ use Rattle.lfs_model.specs.View.{IsAccepted}
 use Rattle.lfs_model.specs.declared.order.NameOrder.{NameOrder}
 use Rattle.lfs_model.specs.declared.order.NameOrder.TheVariants.{LongerFirst, ShorterFirst}
 use Rattle.lfs_model.proofs.Cuts.{length-cut}
-use Rattle.lfs_fs.specs.Held.{Held, IsBegun, moment_of, session_of}
+use Rattle.lfs_fs.specs.Held.{Held, IsFreshSession, system_state_of, session_of}
 use Rattle.littlefs_c.specs.Calls.{IsMounted, IsOf, Leaves, Prevents, RunsThese}
 use Rattle.littlefs_c.specs.Starts.{IsFormatted}
 
@@ -68,7 +68,7 @@ pub made_so : (items : List ℕ) (g : Geometry) (erased : RamDevice → Type 0) 
 made_so items g erased bad (Err e) h = tt
 made_so items g erased bad (Ok d) h = (h.0, h.1)
 
-pub disk_shown : (block_size page : ℕ) (image : List ℕ) (d : RamDevice) (order : NameOrder) → IsOf block_size page image d → device.ordered order (device.disk_of (geometry_of d) (blocks_of d)) ≡ disk_of block_size page order image
+pub disk_shown : (block_size page : ℕ) (image : List ℕ) (d : RamDevice) (order : NameOrder) → IsOf block_size page image d → device.ordered order (device.disk_of (geometry_of d) (ram_blocks d)) ≡ disk_of block_size page order image
 disk_shown block_size page image d order is =
     let least : 1024 ≤ (geometry_of d).block_size = (geometry_of d).valid.no_smaller in
     let count : (geometry_of d).block_count ≡ length image / block_size =
@@ -77,7 +77,7 @@ disk_shown block_size page image d order is =
 
 -- what stands in a device whose disk has the geometry of an image's
 pub kept : (block_size page : ℕ) (order : NameOrder) (old : List ℕ) (to : Disk) (d : RamDevice) → IsImage block_size page old → SameGeometry (disk_of block_size page order old) to
-    → device.ordered to.order (device.disk_of (geometry_of d) (blocks_of d)) ≡ to
+    → device.ordered to.order (device.disk_of (geometry_of d) (ram_blocks d)) ≡ to
     → (length old ≡ length (bytes_of d)) × (to ≡ disk_of block_size page to.order (bytes_of d))
 kept block_size page order old to d whole same shown =
     let size : (geometry_of d).block_size ≡ block_size = ap (λ (k : Disk). k.block_size) shown ∙ same.block_size in
@@ -88,36 +88,36 @@ kept block_size page order old to d whole same shown =
     let blocks : (geometry_of d).block_count ≡ length (bytes_of d) / block_size = count ∙ ap (λ n. n / block_size) (sym len) in
     (sym len, sym shown ∙ (λ j. record { block_size = size j; page = its_page j; order = to.order; blocks = cut (size j) (blocks j) (bytes_of d) }))
 
-turns_geometry : (operations : List Operation) (replies : List Reply) (a b : Moment) → AreTurns a operations replies b → SameGeometry a.disk b.disk
-turns_geometry [] [] a b e = subst (λ (m : Moment). SameGeometry a.disk m.disk) e (record { block_size = refl; page = refl; order = refl; count = refl })
-turns_geometry [] (reply ∷ replies) a b e = absurd e
-turns_geometry (op ∷ operations) [] a b e = absurd e
-turns_geometry (op ∷ operations) (reply ∷ replies) a b (next, (turn, rest)) =
-    let s = turns_geometry operations replies next b rest in
+session_steps_geometry : (operations : List Operation) (replies : List Reply) (a b : SystemState) → AreSessionSteps a operations replies b → SameGeometry a.disk b.disk
+session_steps_geometry [] [] a b e = subst (λ (m : SystemState). SameGeometry a.disk m.disk) e (record { block_size = refl; page = refl; order = refl; count = refl })
+session_steps_geometry [] (reply ∷ replies) a b e = absurd e
+session_steps_geometry (op ∷ operations) [] a b e = absurd e
+session_steps_geometry (op ∷ operations) (reply ∷ replies) a b (next, (turn, rest)) =
+    let s = session_steps_geometry operations replies next b rest in
     let t = turn.geometry in
     record { block_size = s.block_size ∙ t.block_size; page = s.page ∙ t.page; order = s.order ∙ t.order; count = s.count ∙ t.count }
 
-pub run_kept : (block_size page : ℕ) (old : List ℕ) (operations : List Operation) (to : Moment) (d : RamDevice) → RunsThese block_size page old operations to
-    → device.ordered to.disk.order (device.disk_of (geometry_of d) (blocks_of d)) ≡ to.disk
+pub run_kept : (block_size page : ℕ) (old : List ℕ) (operations : List Operation) (to : SystemState) (d : RamDevice) → RunsThese block_size page old operations to
+    → device.ordered to.disk.order (device.disk_of (geometry_of d) (ram_blocks d)) ≡ to.disk
     → (length old ≡ length (bytes_of d)) × (to.disk ≡ disk_of block_size page to.disk.order (bytes_of d))
 run_kept block_size page old operations to d (replies, r) shown =
-    kept block_size page r.from.disk.order old to.disk d r.mounts.whole (subst (λ k. SameGeometry k to.disk) r.mounts.disk (turns_geometry operations replies r.from to r.turns)) shown
+    kept block_size page r.from.disk.order old to.disk d r.mounts.whole (subst (λ k. SameGeometry k to.disk) r.mounts.disk (session_steps_geometry operations replies r.from to r.session_steps)) shown
 
-pub leaves : (block_size page : ℕ) (old : List ℕ) (operations : List Operation) (to : Moment) (d : RamDevice) (new : List ℕ) → RunsThese block_size page old operations to
-    → device.ordered to.disk.order (device.disk_of (geometry_of d) (blocks_of d)) ≡ to.disk → new ≡ bytes_of d → Leaves block_size page old operations new
+pub leaves : (block_size page : ℕ) (old : List ℕ) (operations : List Operation) (to : SystemState) (d : RamDevice) (new : List ℕ) → RunsThese block_size page old operations to
+    → device.ordered to.disk.order (device.disk_of (geometry_of d) (ram_blocks d)) ≡ to.disk → new ≡ bytes_of d → Leaves block_size page old operations new
 leaves block_size page old operations to d new r shown is =
     let k = run_kept block_size page old operations to d r shown in
     record { to = to; runs = r; len = ap length is ∙ sym k.0; disk = k.1 ∙ ap (disk_of block_size page to.disk.order) (sym is) }
 
 -- ---- a mount
 
-healthy : (h : Held) → h.tree.failed ≡ false → h.files ≡ [] → (moment_of h).state ≡ Healthy (mounted (tree_in h.tree.disk h.tree.pairs))
+healthy : (h : Held) → h.tree.failed ≡ false → h.files ≡ [] → (system_state_of h).state ≡ Healthy (mounted (tree_in h.tree.disk h.tree.pairs))
 healthy h works none = ap (λ b. cond b HasFailed (Healthy (session_of h))) works ∙ ap (λ (files : Files). Healthy (record { tree = tree_in h.tree.disk h.tree.pairs; files = files })) none
 
 pub mounts : (block_size page : ℕ) (image : List ℕ) (d : RamDevice) (history : List Event) (h : Held) → IsOf block_size page image d
-    → IsBegun (device.ordered h.tree.disk.order (device.disk_of (geometry_of d) (blocks_of d))) history h
-    → (h.tree.disk.order ≡ ShorterFirst → (ps : List Pair) → ¬ IsAccepted (device.ordered LongerFirst (device.disk_of (geometry_of d) (blocks_of d))) ps)
-    → IsMounted block_size page image (moment_of h)
+    → IsFreshSession (device.ordered h.tree.disk.order (device.disk_of (geometry_of d) (ram_blocks d))) history h
+    → (h.tree.disk.order ≡ ShorterFirst → (ps : List Pair) → ¬ IsAccepted (device.ordered LongerFirst (device.disk_of (geometry_of d) (ram_blocks d))) ps)
+    → IsMounted block_size page image (system_state_of h)
 mounts block_size page image d history h is b longer = record {
   whole = is.whole;
   disk = b.disk_is ∙ disk_shown block_size page image d h.tree.disk.order is;
@@ -128,7 +128,7 @@ mounts block_size page image d history h is b longer = record {
 }
 
 pub prevented : (block_size page : ℕ) (image : List ℕ) (d : RamDevice) (e : Error) → IsOf block_size page image d → (e ≡ Io) ⊎ ((e ≡ Corrupt) ⊎ (e ≡ NoMemory)) → (e ≡ Io → ⊥)
-    → (e ≡ Corrupt → (order : NameOrder) (ps : List Pair) → ¬ IsAccepted (device.ordered order (device.disk_of (geometry_of d) (blocks_of d))) ps)
+    → (e ≡ Corrupt → (order : NameOrder) (ps : List Pair) → ¬ IsAccepted (device.ordered order (device.disk_of (geometry_of d) (ram_blocks d))) ps)
     → Prevents block_size page image e
 prevented block_size page image d e is (inl io) no_fault corrupt = absurd (no_fault io)
 prevented block_size page image d e is (inr (inl bad)) no_fault corrupt =
@@ -141,12 +141,12 @@ none_below n m l none = omega (arith, l, none)
 -- ---- a fresh one
 
 pub fits : (block_size page : ℕ) (order : NameOrder) (old : List ℕ) (d e : RamDevice) (to : Disk) → IsOf block_size page old d
-    → SameGeometry (device.ordered order (device.disk_of (geometry_of d) (blocks_of d))) to → device.ordered to.order (device.disk_of (geometry_of e) (blocks_of e)) ≡ to → length old ≡ length (bytes_of e)
+    → SameGeometry (device.ordered order (device.disk_of (geometry_of d) (ram_blocks d))) to → device.ordered to.order (device.disk_of (geometry_of e) (ram_blocks e)) ≡ to → length old ≡ length (bytes_of e)
 fits block_size page order old d e to is same shown = (kept block_size page order old to e is.whole (subst (λ z. SameGeometry z to) (disk_shown block_size page old d order is) same) shown).0
 
 pub formatted : (block_size page : ℕ) (order : NameOrder) (old : List ℕ) (d e : RamDevice) (to : Disk) (new : List ℕ) → IsOf block_size page old d → IsFresh to
-    → SameGeometry (device.ordered order (device.disk_of (geometry_of d) (blocks_of d))) to → SameButThese (0 ∷ 1 ∷ []) (blocks_of d) to.blocks
-    → device.ordered to.order (device.disk_of (geometry_of e) (blocks_of e)) ≡ to → new ≡ bytes_of e → IsFormatted block_size page order old new
+    → SameGeometry (device.ordered order (device.disk_of (geometry_of d) (ram_blocks d))) to → SameButThese (0 ∷ 1 ∷ []) (ram_blocks d) to.blocks
+    → device.ordered to.order (device.disk_of (geometry_of e) (ram_blocks e)) ≡ to → new ≡ bytes_of e → IsFormatted block_size page order old new
 formatted block_size page order old d e to new is fresh same others shown are =
     let begun = disk_shown block_size page old d order is in
     let k = kept block_size page order old to e is.whole (subst (λ z. SameGeometry z to) begun same) shown in
@@ -155,5 +155,5 @@ formatted block_size page order old d e to new is fresh same others shown are =
       whole = is.whole;
       len = ap length are ∙ sym k.0;
       fresh = subst IsFresh disk fresh;
-      others = subst (λ (z : Disk). SameButThese (0 ∷ 1 ∷ []) z.blocks (disk_of block_size page order new).blocks) begun (subst (λ (z : Disk). SameButThese (0 ∷ 1 ∷ []) (blocks_of d) z.blocks) disk others);
+      others = subst (λ (z : Disk). SameButThese (0 ∷ 1 ∷ []) z.blocks (disk_of block_size page order new).blocks) begun (subst (λ (z : Disk). SameButThese (0 ∷ 1 ∷ []) (ram_blocks d) z.blocks) disk others);
     }

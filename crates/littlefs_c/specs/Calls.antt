@@ -3,7 +3,7 @@ use Rattle.std.specs.Prelude.{ℕ, ◌≡◌, ◌⊎◌, ◌*◌, true, false, L
 use Rattle.lfs_model.specs.Disk.{Disk, IsImage, disk_of}
 use Rattle.lfs_model.specs.Operations as ops
 use Rattle.lfs_model.specs.Operations.{Operation, Reply}
-use Rattle.lfs_model.specs.Run.{AreTurns, IsTurn, Moment}
+use Rattle.lfs_model.specs.Run.{AreSessionSteps, IsSessionStep, SystemState}
 use Rattle.lfs_model.specs.Run as run
 use Rattle.lfs_model.specs.Shown.{tree_in}
 use Rattle.lfs_model.specs.State.{Healthy, mounted}
@@ -29,7 +29,7 @@ pub record IsOf (block_size page : ℕ) (image : List ℕ) (d : RamDevice) : Typ
 
 -- A session as a mount of the image begins it. The image is accepted, in the order with the longer names first where both orders
 -- fit.
-pub record IsMounted (block_size page : ℕ) (image : List ℕ) (from : Moment) : Type 0 where
+pub record IsMounted (block_size page : ℕ) (image : List ℕ) (from : SystemState) : Type 0 where
   pub whole : IsImage block_size page image
   pub disk : from.disk ≡ disk_of block_size page from.disk.order image
   pub longer : from.disk.order ≡ ShorterFirst → (ps : List Pair) → ¬ IsAccepted (disk_of block_size page LongerFirst image) ps
@@ -38,8 +38,8 @@ pub record IsMounted (block_size page : ℕ) (image : List ℕ) (from : Moment) 
   pub mounts : from.state ≡ Healthy (mounted (tree_in from.disk pairs))
 
 -- the image is accepted, and a session begins with it
-abbrev pub IsBegun : ℕ → ℕ → List ℕ → Type 0
-IsBegun block_size page image = (from : Moment) × IsMounted block_size page image from
+abbrev pub IsImageBegun : ℕ → ℕ → List ℕ → Type 0
+IsImageBegun block_size page image = (from : SystemState) × IsMounted block_size page image from
 
 -- What keeps a call from running an operation: the bytes are no image of that geometry, the image isn't accepted, or memory
 -- wasn't granted.
@@ -51,19 +51,19 @@ Prevents block_size page image other = ⊥
 
 -- the image is accepted, or the error says why it isn't
 abbrev pub Checks : {X : Type 0} → ℕ → ℕ → List ℕ → Result X Error → Type 0
-Checks block_size page image (Ok x) = IsBegun block_size page image
+Checks block_size page image (Ok x) = IsImageBegun block_size page image
 Checks block_size page image (Err e) = Prevents block_size page image e
 
 -- ---- operations
 
 -- Operations of a session that begins with a mount of the image, and their replies. None of them refuses.
-pub record Runs (block_size page : ℕ) (image : List ℕ) (operations : List Operation) (replies : List Reply) (to : Moment) : Type 0 where
-  pub from : Moment
+pub record Runs (block_size page : ℕ) (image : List ℕ) (operations : List Operation) (replies : List Reply) (to : SystemState) : Type 0 where
+  pub from : SystemState
   pub mounts : IsMounted block_size page image from
-  pub turns : AreTurns from operations replies to
+  pub session_steps : AreSessionSteps from operations replies to
   pub accepted : All (λ r. run.is_refusal r ≡ false) replies
 
-abbrev pub RunsThese : ℕ → ℕ → List ℕ → List Operation → Moment → Type 0
+abbrev pub RunsThese : ℕ → ℕ → List ℕ → List Operation → SystemState → Type 0
 RunsThese block_size page image operations to = (replies : List Reply) × Runs block_size page image operations replies to
 
 -- One of the operations is refused by that error, after others that were accepted.
@@ -73,10 +73,10 @@ pub record HasRefusal (block_size page : ℕ) (image : List ℕ) (operations : L
   pub others : List Operation
   pub are : operations ≡ done ++ next ∷ others
   pub replies : List Reply
-  pub at : Moment
+  pub at : SystemState
   pub runs : Runs block_size page image done replies at
-  pub to : Moment
-  pub refused : IsTurn at next (ops.Refused (refusal_in e)) to
+  pub to : SystemState
+  pub refused : IsSessionStep at next (ops.Refused (refusal_in e)) to
   pub refusal : is_refusal e ≡ true
 
 abbrev pub Refuses : ℕ → ℕ → List ℕ → List Operation → Error → Type 0
@@ -87,12 +87,12 @@ Refuses block_size page image operations e = Prevents block_size page image e �
 -- the reply to the last operation, or the error that says why there is none
 abbrev pub Asks : {X : Type 0} → ℕ → ℕ → List ℕ → List Operation → (X → Reply) → Result X Error → Type 0
 Asks block_size page image operations reply (Ok x) =
-    (replies : List Reply) × ((to : Moment) × Runs block_size page image operations (replies ++ reply x ∷ []) to)
+    (replies : List Reply) × ((to : SystemState) × Runs block_size page image operations (replies ++ reply x ∷ []) to)
 Asks block_size page image operations reply (Err e) = Refuses block_size page image operations e
 
 -- The new image is the disk that the operations leave.
 pub record Leaves (block_size page : ℕ) (old : List ℕ) (operations : List Operation) (new : List ℕ) : Type 0 where
-  pub to : Moment
+  pub to : SystemState
   pub runs : RunsThese block_size page old operations to
   pub len : length new ≡ length old
   pub disk : to.disk ≡ disk_of block_size page to.disk.order new

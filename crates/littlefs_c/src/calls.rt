@@ -2,8 +2,8 @@
 
 ghost use Rattle.std.specs.Prelude.{◌≡◌, ◌∷◌, ◌<◌, ◌^◌, ◌-◌, [], min, length, IfOk};
 ghost use Rattle.lfs_model.specs.Operations as ops;
-ghost use Rattle.lfs_fs.specs.FlagsSeen.{flags_seen};
-ghost use Rattle.littlefs_c.specs.Buffers.{Tells, put_in};
+ghost use Rattle.lfs_fs.specs.FlagsView.{flags_view};
+ghost use Rattle.littlefs_c.specs.Buffers.{FillsBuffer, put_in};
 ghost use Rattle.littlefs_c.specs.Codes.{order_of};
 ghost use Rattle.littlefs_c.specs.Calls.{Changes, Checks};
 ghost use Rattle.littlefs_c.specs.Files.{reading, replacing_flags, writing};
@@ -81,7 +81,7 @@ pub(crate) fn list(
     path: &[u8],
     buffer: &mut [u8],
 ) -> Result<usize, Error>
-    ensures told { Tells block_size page image.now (ops.ListAll path.now ∷ []) result buffer.old buffer.new }
+    ensures reported { FillsBuffer block_size page image.now (ops.ListAll path.now ∷ []) result buffer.old buffer.new }
     ensures small { IfOk result (λ n. n < 2 ^ 63) }
 {
     let items = items_at(alloc, image, block_size, page, path)?;
@@ -99,7 +99,7 @@ pub(crate) fn read(
     position: u32,
     buffer: &mut [u8],
 ) -> Result<usize, Error>
-    ensures told { Tells block_size page image.now (reading path.now position (min (length buffer.old) (2 ^ 32 - 1))) result buffer.old buffer.new }
+    ensures reported { FillsBuffer block_size page image.now (reading path.now position (min (length buffer.old) (2 ^ 32 - 1))) result buffer.old buffer.new }
     ensures small { IfOk result (λ n. n < 2 ^ 63) }
 {
     let count = buffer.len().min(4_294_967_295) as u32;
@@ -117,7 +117,7 @@ pub(crate) fn get_attr(
     kind: u8,
     buffer: &mut [u8],
 ) -> Result<usize, Error>
-    ensures told { Tells block_size page image.now (ops.GetAttr path.now kind ∷ []) result buffer.old buffer.new }
+    ensures reported { FillsBuffer block_size page image.now (ops.GetAttr path.now kind ∷ []) result buffer.old buffer.new }
     ensures small { IfOk result (λ n. n < 2 ^ 63) }
 {
     let bytes = attribute_at(alloc, image, block_size, page, path, kind)?;
@@ -126,7 +126,7 @@ pub(crate) fn get_attr(
 
 // Returns the flags of an open that makes a file, or makes it empty.
 fn replacing() -> OpenFlags
-    ensures { flags_seen result ≡ replacing_flags }
+    ensures { flags_view result ≡ replacing_flags }
 {
     let mut flags = OpenFlags::WRITE;
     flags.insert(OpenFlags::CREATE);

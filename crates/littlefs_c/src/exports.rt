@@ -3,7 +3,7 @@
 
 ghost use Rattle.std.specs.Prelude.{◌∷◌, ◌-◌, ◌^◌, [], min, length};
 ghost use Rattle.lfs_model.specs.Operations as ops;
-ghost use Rattle.littlefs_c.specs.Buffers.{Tells};
+ghost use Rattle.littlefs_c.specs.Buffers.{FillsBuffer};
 ghost use Rattle.littlefs_c.specs.Calls.{Asks, Changes, Checks};
 ghost use Rattle.littlefs_c.specs.Codes.{SaysCount, SaysDone, SaysSize};
 ghost use Rattle.littlefs_c.specs.Files.{reading, writing};
@@ -67,7 +67,7 @@ pub extern "C" fn lfs_c_list(
     path: &[u8],
     buffer: &mut [u8],
 ) -> i64
-    ensures { SaysCount result (λ r. Tells block_size page image.now (ops.ListAll path.now ∷ []) r buffer.old buffer.new) }
+    ensures { SaysCount result (λ r. FillsBuffer block_size page image.now (ops.ListAll path.now ∷ []) r buffer.old buffer.new) }
 {
     room_code(calls::list(alloc, image, block_size, page, path, buffer))
 }
@@ -107,7 +107,7 @@ pub extern "C" fn lfs_c_read(
     position: u32,
     buffer: &mut [u8],
 ) -> i64
-    ensures { SaysCount result (λ r. Tells block_size page image.now (reading path.now position (min (length buffer.old) (2 ^ 32 - 1))) r buffer.old buffer.new) }
+    ensures { SaysCount result (λ r. FillsBuffer block_size page image.now (reading path.now position (min (length buffer.old) (2 ^ 32 - 1))) r buffer.old buffer.new) }
 {
     room_code(calls::read(alloc, image, block_size, page, path, position, buffer))
 }
@@ -208,7 +208,7 @@ pub extern "C" fn lfs_c_get_attr(
     kind: u8,
     buffer: &mut [u8],
 ) -> i64
-    ensures { SaysCount result (λ r. Tells block_size page image.now (ops.GetAttr path.now kind ∷ []) r buffer.old buffer.new) }
+    ensures { SaysCount result (λ r. FillsBuffer block_size page image.now (ops.GetAttr path.now kind ∷ []) r buffer.old buffer.new) }
 {
     room_code(calls::get_attr(alloc, image, block_size, page, path, kind, buffer))
 }

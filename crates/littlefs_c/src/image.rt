@@ -2,7 +2,7 @@
 
 ghost use Rattle.std.specs.Prelude.{◌≡◌, ◌*◌, length, IfErr, IfOk};
 ghost use Rattle.lfs_model.specs.Disk.{IsImage};
-ghost use Rattle.lfs_fs.specs.Held.{moment_of};
+ghost use Rattle.lfs_fs.specs.Held.{system_state_of};
 ghost use Rattle.littlefs_c.specs.Calls.{IsMounted, IsOf, Prevents};
 
 use lfs_device::{Error, Geometry, RamDevice};
@@ -42,7 +42,7 @@ pub(crate) fn begin(
     block_size: u32,
     page: u32,
 ) -> Result<Session<RamDevice>, Error>
-    ensures ok { IfOk result (λ s. IsMounted block_size page image.now (moment_of s)) }
+    ensures ok { IfOk result (λ s. IsMounted block_size page image.now (system_state_of s)) }
     ensures err { IfErr result (λ e. Prevents block_size page image.now e) }
 {
     let device = device(alloc, image, block_size, page)?;

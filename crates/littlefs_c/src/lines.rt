@@ -2,7 +2,7 @@
 
 ghost use Rattle.std.specs.Prelude.{◌≡◌, ◌++◌, ◌<◌, map, IfOk, OnOk};
 ghost use Rattle.lfs_model.specs.Listing.{escaped, escaped_text, hex_digit};
-ghost use Rattle.lfs_lookup.specs.Finds.{list_item_seen};
+ghost use Rattle.lfs_lookup.specs.Finds.{list_item_view};
 ghost use Rattle.littlefs_c.specs.Buffers.{head_of, line_of, lines_of};
 
 use lfs_lookup::ListItem;
@@ -59,7 +59,7 @@ fn push_head(text: &mut Vec<u8>, size: Option<u32>) -> Result<(), AllocError>
 
 // Adds the line of an entry.
 fn push_line(text: &mut Vec<u8>, item: &ListItem) -> Result<(), AllocError>
-    ensures { OnOk result (text.new.items ≡ text.old.items ++ line_of (list_item_seen item.now)) }
+    ensures { OnOk result (text.new.items ≡ text.old.items ++ line_of (list_item_view item.now)) }
 {
     push_head(text, item.size)?;
     push_name(text, &item.name)?;
@@ -69,7 +69,7 @@ fn push_line(text: &mut Vec<u8>, item: &ListItem) -> Result<(), AllocError>
 
 // Returns the lines of a directory's entries, in their order.
 pub(crate) fn lines_of(alloc: Global, items: &[ListItem]) -> Result<Vec<u8>, AllocError>
-    ensures { IfOk result (λ text. text.items ≡ lines_of (map list_item_seen items.now)) }
+    ensures { IfOk result (λ text. text.items ≡ lines_of (map list_item_view items.now)) }
 {
     let mut text = Vec::new(alloc);
     for item in items {

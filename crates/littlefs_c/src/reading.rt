@@ -2,10 +2,10 @@
 
 ghost use Rattle.std.specs.Prelude.{◌∷◌, [], map};
 ghost use Rattle.lfs_model.specs.Operations as ops;
-ghost use Rattle.lfs_fs.specs.Held.{moment_of};
-ghost use Rattle.lfs_lookup.specs.Finds.{list_item_seen};
+ghost use Rattle.lfs_fs.specs.Held.{system_state_of};
+ghost use Rattle.lfs_lookup.specs.Finds.{list_item_view};
 ghost use Rattle.littlefs_c.specs.Calls.{Asks};
-ghost use Rattle.littlefs_c.specs.Files.{Carries, reading};
+ghost use Rattle.littlefs_c.specs.Files.{AppliesWithReply, reading};
 
 use crate::image::begin;
 use lfs_device::{Error, RamDevice};
@@ -53,7 +53,7 @@ pub(crate) fn items_at(
     page: u32,
     path: &[u8],
 ) -> Result<Vec<ListItem>, Error>
-    ensures { Asks block_size page image.now (ops.ListAll path.now ∷ []) (λ items. ops.Items (map list_item_seen items.items)) result }
+    ensures { Asks block_size page image.now (ops.ListAll path.now ∷ []) (λ items. ops.Items (map list_item_view items.items)) result }
 {
     let mut session = begin(alloc, image, block_size, page)?;
     let answer = session.list(alloc, path);
@@ -86,7 +86,7 @@ fn read_at(
     position: u32,
     count: u32,
 ) -> Result<Vec<u8>, Error>
-    ensures { Carries (moment_of session.old) (reading path.now position count) (λ v. ops.Bytes v.items) result (moment_of session.new) }
+    ensures { AppliesWithReply (system_state_of session.old) (reading path.now position count) (λ v. ops.Bytes v.items) result (system_state_of session.new) }
 {
     session.open(alloc, path, OpenFlags::READ)?;
     session.seek(0, position)?;

@@ -3,8 +3,8 @@
 ghost use Rattle.std.specs.Prelude.{◌≡◌, false, map, All, IfNone, IfOk, IfErr, IfSome};
 ghost use Rattle.lfs_model.specs.Run.{is_refusal};
 ghost use Rattle.lfs_model.specs.State.{is_remount};
-ghost use Rattle.lfs_fs.specs.Held.{moment_of};
-ghost use Rattle.lfs_fs.specs.OpSeen.{IsNamed, op_seen, reply_seen};
+ghost use Rattle.lfs_fs.specs.Held.{system_state_of};
+ghost use Rattle.lfs_fs.specs.OpView.{IsNamed, op_view, reply_view};
 ghost use Rattle.littlefs_c.specs.Calls.{Changes, Refuses, RunsThese};
 ghost use Rattle.littlefs_c.specs.FirstRefused.{IsFirstRefused};
 
@@ -16,8 +16,8 @@ use std::alloc::Global;
 // Returns the error of the first reply that refuses.
 fn first_refusal(replies: &[Reply]) -> Option<Error>
     requires { All IsNamed replies.now }
-    ensures none { IfNone result (All (λ r. is_refusal (reply_seen r) ≡ false) replies.now) }
-    ensures some { IfSome result (IsFirstRefused (map reply_seen replies.now)) }
+    ensures none { IfNone result (All (λ r. is_refusal (reply_view r) ≡ false) replies.now) }
+    ensures some { IfSome result (IsFirstRefused (map reply_view replies.now)) }
 {
     for reply in replies {
         if let Reply::Refused(error) = reply {
@@ -36,9 +36,9 @@ fn carry_out(
     page: u32,
     ops: &[Op<'_>],
 ) -> Result<Session<RamDevice>, Error>
-    requires { All (λ op. is_remount (op_seen op) ≡ false) ops.now }
-    ensures ok { IfOk result (λ s. RunsThese block_size page image.now (map op_seen ops.now) (moment_of s)) }
-    ensures err { IfErr result (Refuses block_size page image.now (map op_seen ops.now)) }
+    requires { All (λ op. is_remount (op_view op) ≡ false) ops.now }
+    ensures ok { IfOk result (λ s. RunsThese block_size page image.now (map op_view ops.now) (system_state_of s)) }
+    ensures err { IfErr result (Refuses block_size page image.now (map op_view ops.now)) }
 {
     let mut session = begin(alloc, image, block_size, page)?;
     let answer = session.run(alloc, ops);
@@ -59,8 +59,8 @@ pub(crate) fn change(
     page: u32,
     ops: &[Op<'_>],
 ) -> Result<(), Error>
-    requires { All (λ op. is_remount (op_seen op) ≡ false) ops.now }
-    ensures { Changes block_size page image.old (map op_seen ops.now) result image.new }
+    requires { All (λ op. is_remount (op_view op) ≡ false) ops.now }
+    ensures { Changes block_size page image.old (map op_view ops.now) result image.new }
 {
     let session = carry_out(alloc, image, block_size, page, ops)?;
     image.copy_from_slice(session.device().bytes());

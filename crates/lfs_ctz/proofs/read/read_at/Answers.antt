@@ -6,9 +6,9 @@ use Rattle.lfs_device.specs.declared.geometry.Geometry.{Geometry}
 use Rattle.lfs_model.specs.Blocks.{Blocks, IsDivided, block_in}
 use Rattle.lfs_model.specs.SkipLists.{IsBytePlace, pointers_of, blocks_for, blocks_back, bytes_of, word_at}
 use Rattle.lfs_ctz.proofs.Sizes.{blocks_for-last, place-lt, place_unique, place-mono}
-use Rattle.lfs_ctz.proofs.Gathered.{IsPart, IsTurn, filled, turn_bytes, turn_rest, turn_before, turn_in_range, turn_index}
+use Rattle.lfs_ctz.proofs.Gathered.{IsPart, IsReadPass, filled, turn_bytes, turn_rest, turn_before, turn_in_range, turn_index}
 use Rattle.lfs_ctz.proofs.Geometries.{last_is, chain, sized, shaped}
-use Rattle.lfs_ctz.proofs.Called.{list_as, list_io, list_ok, list_on, read_on, quiet, told_on}
+use Rattle.lfs_ctz.proofs.Called.{list_as, list_io, list_ok, list_on, read_on, quiet, reported_on}
 use Rattle.lfs_ctz.proofs.read.read_at.Goals as goal
 
 pub overflow_sub-blocks_for : goal.overflow_sub-blocks_for
@@ -68,7 +68,7 @@ returns-in_err-read_part-clause-reading g c =
     let inv = c.blocks-2.invariant in
     let read = c.in_err-read_part.ensures in
     let p = err_from_is_err_and c.from_residual-in_err-read_part.result c.from_residual-in_err-read_part.ensures.1 in
-    rw (p.1, p.2) (list_io g.D.BlockDevice (read_on g.D.BlockDevice inv.device c.read_part.ensures.device) (told_on g.D.BlockDevice inv.quiet read.faults) read.errors)
+    rw (p.1, p.2) (list_io g.D.BlockDevice (read_on g.D.BlockDevice inv.device c.read_part.ensures.device) (reported_on g.D.BlockDevice inv.quiet read.faults) read.errors)
 
 -- what is read at an iteration
 is_part : (block_size pos left n i off k : ℕ) → IsBytePlace block_size (pos + left - 1) i off → k ≡ pointers_of i → n ≡ min left (off + 1 - 4 * k) → IsPart block_size pos left n i off
@@ -89,7 +89,7 @@ turn_of : (d same : Blocks) (geometry made : Geometry) (size pos len left n i of
     → made ≡ geometry → IsDivided geometry.block_size geometry.block_count d → IsBytePlace made.block_size (pos + left - 1) i off → k ≡ pointers_of i → n ≡ min left (off + 1 - 4 * k)
     → 1 ≤ left → left ≤ len → len ≡ min (length old) (size - pos) → pos < size → length buf ≡ length old → block < geometry.block_count → same ≡ d
     → new ≡ take (left - n) buf ++ (take n (drop (off + 1 - n) (block_in same block)) ++ drop (left - n + n) buf)
-    → IsTurn d made.block_size geometry.block_count size pos len left n i off block buf new
+    → IsReadPass d made.block_size geometry.block_count size pos len left n i off block buf new
 turn_of d same geometry made size pos len left n i off k block buf new old e shape there many is some le len_is lt room in_range s bytes = record {
   large = made.valid.no_smaller;
   shape = shaped d geometry made e shape;

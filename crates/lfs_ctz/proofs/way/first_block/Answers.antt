@@ -9,7 +9,7 @@ use Rattle.lfs_model.specs.Blocks.{Blocks, block_in}
 use Rattle.lfs_model.specs.SkipLists.{AreListBlocks, blocks_back, word_at}
 use Rattle.lfs_ctz.specs.declared.way.Way.{Way}
 use Rattle.lfs_ctz.specs.Way.{IsOnWay, IsWay}
-use Rattle.lfs_ctz.proofs.Called.{list_corrupt, list_io, list_ok, not_read, quiet, read_on, told_on}
+use Rattle.lfs_ctz.proofs.Called.{list_corrupt, list_io, list_ok, not_read, quiet, read_on, reported_on}
 use Rattle.lfs_ctz.proofs.Chains.{head_of_back, in_range_at, pointer_at}
 use Rattle.lfs_ctz.proofs.Walked.{power_small}
 use Rattle.lfs_ctz.proofs.Ways.{goes_on, note_more, nothing_noted, on_way-le, one_on}
@@ -50,7 +50,7 @@ returns-in_err-read_part-clause-reading g c =
     let inv = c.loop-at.invariant in
     let read = c.in_err-read_part.ensures in
     let p = err_from_is_err_and c.from_residual.result c.from_residual.ensures.1 in
-    rw (p.1, p.2) (list_io g.D.BlockDevice (read_on g.D.BlockDevice inv.device c.read_part.ensures.device) (told_on g.D.BlockDevice inv.quiet read.faults) read.errors)
+    rw (p.1, p.2) (list_io g.D.BlockDevice (read_on g.D.BlockDevice inv.device c.read_part.ensures.device) (reported_on g.D.BlockDevice inv.quiet read.faults) read.errors)
 
 -- the step
 stride : (g : _) (c : goal.After-word-block g) → 1 * 2 ^ trailing_zeros w32 c.loop-at.at % 4294967296 ≡ 2 ^ trailing_zeros w32 c.loop-at.at

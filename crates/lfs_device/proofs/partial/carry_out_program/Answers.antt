@@ -3,7 +3,7 @@ use Rattle.lfs_model.specs.Blocks.{programmed}
 use Rattle.lfs_model.proofs.Overwrites.{programmed_none}
 use Rattle.lfs_device.specs.declared.fault.Extent.{Extent}
 use Rattle.lfs_device.specs.declared.fault.Extent.TheVariants.{Nothing}
-use Rattle.lfs_device.specs.Carried.{stored}
+use Rattle.lfs_device.specs.CallsBelow.{stored}
 use Rattle.lfs_device.proofs.partial.carry_out_program.Goals as goal
 
 pub returns-in-Some-Nothing-clause-stored : goal.returns-in-Some-Nothing-clause-stored

@@ -7,7 +7,7 @@ use Rattle.lfs_fs.proofs.EntryChecks.{get_checked, got, none_from_some}
 use Rattle.lfs_fs.proofs.EntryPaths.{is_entry}
 use Rattle.lfs_fs.proofs.FewReads.{few_given}
 use Rattle.lfs_fs.proofs.KeptLookUps.{none_given}
-use Rattle.lfs_model.specs.Discipline.{parents}
+use Rattle.lfs_model.specs.Frame.{parents}
 use Rattle.std.proofs.Common.{sym}
 use Rattle.lfs_fs.proofs.checks.check_get_attr.Goals as goal
 

@@ -6,14 +6,14 @@ use Rattle.lfs_fs.proofs.Checked.{lookup_failed}
 use Rattle.lfs_fs.proofs.EntryChecks.{list_checked}
 use Rattle.lfs_fs.proofs.FewReads.{few_given}
 use Rattle.lfs_fs.proofs.KeptLookUps.{none_given}
-use Rattle.lfs_lookup.specs.Finds.{list_item_seen}
-use Rattle.lfs_model.specs.Discipline.{parents}
+use Rattle.lfs_lookup.specs.Finds.{list_item_view}
+use Rattle.lfs_model.specs.Frame.{parents}
 use Rattle.std.proofs.Common.{[], ◌∷◌, ◌++◌, map}
 use Rattle.lfs_fs.proofs.checks.check_list.Goals as goal
 
 pub returns-clause-checks : goal.returns-clause-checks
 returns-clause-checks g c =
-    list_checked (λ v. map list_item_seen v.items) (held_of c.args.tree.now c.args.files.now) c.args.bytes.now c.in-Some.path c.in_ok-listing.listing.finding _ c.is_nothing.result c.is_file.result c.refuse_if.result c.refuse_if-2.result c.in_ok-listing.listing.items c.passed.result
+    list_checked (λ v. map list_item_view v.items) (held_of c.args.tree.now c.args.files.now) c.args.bytes.now c.in-Some.path c.in_ok-listing.listing.finding _ c.is_nothing.result c.is_file.result c.refuse_if.result c.refuse_if-2.result c.in_ok-listing.listing.items c.passed.result
     c.if-has_failed.ensures c.in-Some.ensures c.in_ok-listing.ensures.asks.asked c.in_ok-listing.ensures.found c.in_ok-listing.ensures.items
     c.is_nothing.ensures c.refuse_if.ensures c.is_file.ensures c.refuse_if-2.ensures c.passed.ensures
 

@@ -1,8 +1,8 @@
 use Rattle.lfs_fs.proofs.OpenFiles.{lacks_is}
 use Rattle.std.proofs.Common.{◌∙◌, ap, sym}
 use Rattle.lfs_model.specs.Session.{lacks}
-use Rattle.lfs_tree.specs.Seen.{around_of}
-use Rattle.lfs_fs.specs.FileSeen.{files_seen}
+use Rattle.lfs_tree.specs.TreeState.{around_of}
+use Rattle.lfs_fs.specs.FileView.{files_view}
 use Rattle.lfs_fs.proofs.Answered.{ready_later}
 use Rattle.lfs_fs.specs.Held.{held_of}
 use Rattle.lfs_model.specs.Operations as ops
@@ -17,7 +17,7 @@ returns g c =
     c.refuse_if.result c.refuse_if-2.result c.refuse_if-3.result c.refuse_if-4.result c.passed.result
     c.if-has_failed.ensures c.if-not-is_writable.ensures c.in-Some.ensures c.in_ok-found.ensures.asks.asked c.in_ok-found.ensures.found
     c.name_len.ensures.len c.refuse_if.ensures c.is_nothing.ensures c.refuse_if-2.ensures c.name_len-2.ensures.len c.is_overcharged.ensures c.refuse_if-3.ensures
-    (c.lacks.ensures ∙ lacks_is c.look_up.new.self c.args.files.now 4 (ready_later _ _ c.args.files.now (c.requires (sym c.if-has_failed.ensures)) c.in_ok-found.ensures.asks.asked) ∙ ap (λ z. lacks (around_of c.look_up.new.self) (files_seen z c.args.files.now) 4) c.in_ok-found.ensures.asks.asked.same) c.refuse_if-4.ensures c.passed.ensures
+    (c.lacks.ensures ∙ lacks_is c.look_up.new.self c.args.files.now 4 (ready_later _ _ c.args.files.now (c.requires (sym c.if-has_failed.ensures)) c.in_ok-found.ensures.asks.asked) ∙ ap (λ z. lacks (around_of c.look_up.new.self) (files_view z c.args.files.now) 4) c.in_ok-found.ensures.asks.asked.same) c.refuse_if-4.ensures c.passed.ensures
 
 pub returns-in_err-found : goal.returns-in_err-found
 returns-in_err-found g c =

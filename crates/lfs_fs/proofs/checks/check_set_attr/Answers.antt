@@ -3,8 +3,8 @@ use Rattle.lfs_model.specs.TreeEdits.{attributes_of}
 use Rattle.lfs_model.specs.Operations as ops
 use Rattle.lfs_model.specs.Session.{lacks}
 use Rattle.lfs_lookup.specs.AttributeAt.{IsAttributesSize}
-use Rattle.lfs_tree.specs.Seen.{Seen, around_of, tree_seen}
-use Rattle.lfs_fs.specs.FileSeen.{files_seen}
+use Rattle.lfs_tree.specs.TreeState.{TreeState, around_of, tree_view}
+use Rattle.lfs_fs.specs.FileView.{files_view}
 use Rattle.lfs_fs.specs.Held.{held_of}
 use Rattle.lfs_fs.proofs.Answered.{ready_later}
 use Rattle.lfs_fs.proofs.Checked.{lookup_failed}
@@ -17,8 +17,8 @@ use Rattle.lfs_fs.proofs.checks.check_set_attr.Goals as goal
 
 pub size_with-size-requires : goal.size_with-size-requires
 size_with-size-requires g c =
-    can_replace (attributes_of (tree_seen c.args.tree.now c.in-Some.path)) c.in_ok-taken.taken c.args.kind c.in_ok-found.found.bytes c.args.value.now (omega arith)
-    (subst (λ (s : Seen). IsAttributesSize (attributes_of (tree_seen s c.in-Some.path)) c.in_ok-taken.taken) c.in_ok-found.ensures.asks.asked.same c.in_ok-taken.ensures.size) c.in_ok-found.ensures.bytes.0
+    can_replace (attributes_of (tree_view c.args.tree.now c.in-Some.path)) c.in_ok-taken.taken c.args.kind c.in_ok-found.found.bytes c.args.value.now (omega arith)
+    (subst (λ (s : TreeState). IsAttributesSize (attributes_of (tree_view s c.in-Some.path)) c.in_ok-taken.taken) c.in_ok-found.ensures.asks.asked.same c.in_ok-taken.ensures.size) c.in_ok-found.ensures.bytes.0
 
 pub returns : goal.returns
 returns g c =
@@ -29,7 +29,7 @@ returns g c =
     c.if-has_failed.ensures c.if-not-is_writable.ensures c.in-Some.ensures c.in_ok-found.ensures.asks.asked asked c.in_ok-found.ensures.found
     c.in_ok-found.ensures.bytes.0 c.in_ok-taken.ensures.size c.size_with-size.ensures
     c.is_nothing.ensures c.refuse_if.ensures c.refuse_if-2.ensures c.name_len.ensures.len c.is_overcharged_with.ensures c.refuse_if-3.ensures
-    (c.lacks.ensures ∙ lacks_is c.attributes_size.new.self c.args.files.now 2 (ready_later _ _ c.args.files.now (c.requires (sym c.if-has_failed.ensures)) asked) ∙ ap (λ z. lacks (around_of c.attributes_size.new.self) (files_seen z c.args.files.now) 2) asked.same) c.refuse_if-4.ensures c.passed.ensures
+    (c.lacks.ensures ∙ lacks_is c.attributes_size.new.self c.args.files.now 2 (ready_later _ _ c.args.files.now (c.requires (sym c.if-has_failed.ensures)) asked) ∙ ap (λ z. lacks (around_of c.attributes_size.new.self) (files_view z c.args.files.now) 2) asked.same) c.refuse_if-4.ensures c.passed.ensures
 
 pub returns-in_err-found : goal.returns-in_err-found
 returns-in_err-found g c =

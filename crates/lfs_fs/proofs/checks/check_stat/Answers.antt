@@ -5,8 +5,8 @@ use Rattle.lfs_fs.proofs.Late.{stat_late}
 use Rattle.lfs_fs.proofs.Checked.{lookup_failed, stat_checked}
 use Rattle.lfs_fs.proofs.FewReads.{few_given}
 use Rattle.lfs_fs.proofs.KeptLookUps.{hand_failed, hand_given, none_given}
-use Rattle.lfs_model.specs.Discipline.{parents, searched}
-use Rattle.lfs_tree.specs.Reads.{HasOnHand}
+use Rattle.lfs_model.specs.Frame.{parents, searched}
+use Rattle.lfs_tree.specs.Reads.{HasCached}
 use Rattle.std.proofs.Common.{[], ◌∷◌}
 use Rattle.lfs_fs.proofs.checks.check_stat.Goals as goal
 
@@ -36,4 +36,4 @@ pub returns-clause-hand : goal.returns-clause-hand
 returns-clause-hand g c = hand_given c.args.tree.now c.look_up.new.self parents c.args.bytes.now c.in-Some.path c.in_ok-found.found.fault (c.refuse_if.result ∷ []) c.size.result c.passed.result c.in-Some.ensures c.passed.ensures c.in_ok-found.ensures.hand
 
 pub returns-in_err-found-clause-hand : goal.returns-in_err-found-clause-hand
-returns-in_err-found-clause-hand g c small = hand_failed c.from_residual.result _ (HasOnHand c.look_up.new.self (searched (ops.Stat c.args.bytes.now))) (given_on _ c.from_residual.result c.from_residual.ensures.1)
+returns-in_err-found-clause-hand g c small = hand_failed c.from_residual.result _ (HasCached c.look_up.new.self (searched (ops.Stat c.args.bytes.now))) (given_on _ c.from_residual.result c.from_residual.ensures.1)

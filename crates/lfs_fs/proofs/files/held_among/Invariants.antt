@@ -1,5 +1,5 @@
 use Rattle.std.proofs.Common.{◌≡◌, drop}
-use Rattle.lfs_fs.specs.FileSeen.{writers_in}
+use Rattle.lfs_fs.specs.FileView.{writers_in}
 use Rattle.lfs_fs.proofs.files.held_among.Given as goal
 
 abbrev pub invariant-loop-entry : goal.invariant-loop-entry

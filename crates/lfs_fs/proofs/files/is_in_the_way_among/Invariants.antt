@@ -1,7 +1,7 @@
 use Rattle.std.proofs.Common.{◌≡◌, drop}
 use Rattle.std.specs.List.{list_any}
 use Rattle.lfs_model.specs.Refusals.{as_path}
-use Rattle.lfs_fs.specs.FileSeen.{is_entry_at}
+use Rattle.lfs_fs.specs.FileView.{is_entry_at}
 use Rattle.lfs_fs.specs.RenamePaths.{is_in_the_way}
 use Rattle.lfs_fs.proofs.files.is_in_the_way_among.Given as goal
 

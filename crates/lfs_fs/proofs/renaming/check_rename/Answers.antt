@@ -1,8 +1,8 @@
 use Rattle.std.proofs.Common.{◌∙◌, ap, refl, sym}
 use Rattle.lfs_model.specs.Operations as ops
 use Rattle.lfs_model.specs.Session.{lacks}
-use Rattle.lfs_tree.specs.Seen.{around_of}
-use Rattle.lfs_fs.specs.FileSeen.{files_seen}
+use Rattle.lfs_tree.specs.TreeState.{around_of}
+use Rattle.lfs_fs.specs.FileView.{files_view}
 use Rattle.lfs_fs.specs.Held.{held_of}
 use Rattle.lfs_fs.proofs.Answered.{ready_later}
 use Rattle.lfs_fs.proofs.Checked.{lookup_failed}
@@ -27,7 +27,7 @@ returns g c =
     (three_of _ _ _ _ _ _ _ refl c.both-puts_directory.ensures c.is_directory.ensures c.is_file.ensures) c.refuse_replacing.ensures (three_of _ _ _ _ _ _ _ refl c.both-puts_file.ensures c.is_file-2.ensures c.is_directory-2.ensures) c.refuse_replacing-2.ensures
     c.in_ok-inside.ensures.has refl c.refuse_replacing-3.ensures (c.is_in_the_way.ensures c.args.tree.now) c.refuse_if-3.ensures
     c.name_len-name_len.ensures.len c.is_overcharged_with-overfills.ensures refl c.refuse_replacing-4.ensures
-    (c.lacks.ensures ∙ lacks_is c.attributes_size.new.self c.args.files.now 2 (ready_later _ _ c.args.files.now (c.requires (sym c.if-has_failed.ensures)) asked) ∙ ap (λ z. lacks (around_of c.attributes_size.new.self) (files_seen z c.args.files.now) 2) asked.same) c.refuse_if-4.ensures
+    (c.lacks.ensures ∙ lacks_is c.attributes_size.new.self c.args.files.now 2 (ready_later _ _ c.args.files.now (c.requires (sym c.if-has_failed.ensures)) asked) ∙ ap (λ z. lacks (around_of c.attributes_size.new.self) (files_view z c.args.files.now) 2) asked.same) c.refuse_if-4.ensures
     (renaming_is c.args.old.now c.args.new.now c.in-Some.from c.in-Some-parse_entry.to _ c.in-Some.ensures c.in-Some-parse_entry.ensures refl refl c.is_same_path-is_same.ensures)
     c.passed.ensures
 

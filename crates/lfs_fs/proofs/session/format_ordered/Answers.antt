@@ -5,7 +5,7 @@ use Rattle.lfs_device.specs.declared.ordered.Ordered.{Ordered}
 use Rattle.lfs_model.specs.Thread.{anchor}
 use Rattle.lfs_thread.specs.Device.{two_of}
 use Rattle.lfs_tree.specs.Formatting.{DeviceComesBack}
-use Rattle.lfs_fs.specs.FileSeen.{files_seen}
+use Rattle.lfs_fs.specs.FileView.{files_view}
 use Rattle.lfs_fs.proofs.FreshBegun.{fresh_state}
 use Rattle.lfs_fs.proofs.Remounting.{fresh_ready}
 use Rattle.lfs_fs.proofs.session.format_ordered.Goals as goal
@@ -13,11 +13,11 @@ use Rattle.lfs_fs.proofs.session.format_ordered.Goals as goal
 pub invariant_of-result : goal.invariant_of-result
 invariant_of-result g c = record {
   ready = λ works. fresh_ready _ c.in-Ok.tree c.none.result c.none.ensures c.in-Ok.ensures.sound c.in-Ok.ensures.formatted c.in-Ok.ensures.calls.calls;
-  told = λ works. c.device_tells.ensures;
+  reported = λ works. c.device_meets_laws.ensures;
 }
 
 pub returns-in-Ok-clause-state : goal.returns-in-Ok-clause-state
-returns-in-Ok-clause-state g c = fresh_state (held_of c.in-Ok.tree c.none.result) c.in-Ok.ensures.works.0 (ap (files_seen c.in-Ok.tree) c.none.ensures) c.in-Ok.ensures.sound.accepted c.in-Ok.ensures.formatted.fresh
+returns-in-Ok-clause-state g c = fresh_state (held_of c.in-Ok.tree c.none.result) c.in-Ok.ensures.works.0 (ap (files_view c.in-Ok.tree) c.none.ensures) c.in-Ok.ensures.sound.accepted c.in-Ok.ensures.formatted.fresh
 
 pub returns-in-Err-clause-back : goal.returns-in-Err-clause-back
 returns-in-Err-clause-back g c =

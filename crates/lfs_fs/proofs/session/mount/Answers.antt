@@ -2,7 +2,7 @@ use Rattle.std.proofs.Common.{ap, subst, sym}
 use Rattle.lfs_model.specs.Disk.{Disk}
 use Rattle.lfs_fs.proofs.FreshBegun.{mount_state}
 use Rattle.lfs_model.specs.View.{IsAccepted}
-use Rattle.lfs_fs.specs.FileSeen.{files_seen}
+use Rattle.lfs_fs.specs.FileView.{files_view}
 use Rattle.lfs_fs.specs.Held.{IsReady}
 use Rattle.lfs_fs.proofs.Remounting.{mounted_ready}
 use Rattle.lfs_fs.proofs.session.mount.Goals as goal
@@ -10,7 +10,7 @@ use Rattle.lfs_fs.proofs.session.mount.Goals as goal
 pub invariant_of-result : goal.invariant_of-result
 invariant_of-result g c = record {
   ready = λ works. subst (IsReady c.in-Ok.tree) (sym c.none.ensures) (mounted_ready _ _ c.in-Ok.tree c.in-Ok.ensures.mounted);
-  told = λ works. c.device_tells.ensures;
+  reported = λ works. c.device_meets_laws.ensures;
 }
 
 pub returns-in-Ok-clause-begun : goal.returns-in-Ok-clause-begun
@@ -22,7 +22,7 @@ returns-in-Ok-clause-begun g c =
       accepted = subst (λ (d : Disk). IsAccepted d c.in-Ok.tree.pairs) m.disk_is m.sound.accepted;
       reads = m.reads;
       no_fault = m.no_fault;
-      no_files = ap (files_seen c.in-Ok.tree) c.none.ensures;
+      no_files = ap (files_view c.in-Ok.tree) c.none.ensures;
     }
 
 pub returns-in-Ok-clause-state : goal.returns-in-Ok-clause-state

@@ -5,7 +5,7 @@ use Rattle.lfs_model.specs.Thread.{Pair}
 use Rattle.lfs_lookup.specs.AttributeAt.{IsAttributesSize}
 use Rattle.lfs_thread.specs.Kept.{Kept}
 use Rattle.lfs_thread.specs.Steps.{no_pair}
-use Rattle.lfs_lookup.proofs.AttributeAtSlots.{no_slot, slot_at_hand, slot_for}
+use Rattle.lfs_lookup.proofs.AttributeAtSlots.{no_slot, slot_is_cached, slot_for}
 use Rattle.lfs_lookup.proofs.AttributesPut.{none_sized}
 use Rattle.lfs_lookup.proofs.Reading.{answered, further}
 use Rattle.lfs_lookup.proofs.attribute_sizes.attributes_size_at.Goals as goal
@@ -16,9 +16,9 @@ size_of_slot-requires-clause-below g c =
     let f = slot_for t c.args.path.now c.in_ok-shown.shown c.in-Some.slot c.in_ok-shown.ensures.shown (sym c.slot_of.ensures ∙ c.in-Some.is) in
     subst (λ (ps : List Pair). c.in-Some.slot.pair < length ps) (sym c.shown_at.ensures.reading.only.pairs) f.below
 
-pub size_of_slot-requires-clause-at_hand : goal.size_of_slot-requires-clause-at_hand
-size_of_slot-requires-clause-at_hand g c =
-    slot_at_hand c.shown_at.new.thread c.in_ok-shown.shown (Some c.in-Some.slot) c.in_ok-shown.ensures.at_hand (sym (sym c.slot_of.ensures ∙ c.in-Some.is))
+pub size_of_slot-requires-clause-cached_log : goal.size_of_slot-requires-clause-cached_log
+size_of_slot-requires-clause-cached_log g c =
+    slot_is_cached c.shown_at.new.thread c.in_ok-shown.shown (Some c.in-Some.slot) c.in_ok-shown.ensures.cached_log (sym (sym c.slot_of.ensures ∙ c.in-Some.is))
 
 pub returns-clause-is : goal.returns-clause-is
 returns-clause-is g c =
@@ -43,10 +43,10 @@ returns-clause-few g c =
     omega (arith, f, e)
 
 pub returns-in_err-shown-clause-kept : goal.returns-in_err-shown-clause-kept
-returns-in_err-shown-clause-kept g c = c.shown_at.ensures.brings.none
+returns-in_err-shown-clause-kept g c = c.shown_at.ensures.loads.none
 
 pub returns-in_default-clause-kept : goal.returns-in_default-clause-kept
-returns-in_default-clause-kept g c = c.shown_at.ensures.brings.none
+returns-in_default-clause-kept g c = c.shown_at.ensures.loads.none
 
 pub returns-clause-kept : goal.returns-clause-kept
-returns-clause-kept g c = λ there. ap (λ (t : Kept). reads t.history) c.size_of_slot.ensures.no_call ∙ c.shown_at.ensures.brings.none there
+returns-clause-kept g c = λ there. ap (λ (t : Kept). reads t.history) c.size_of_slot.ensures.no_call ∙ c.shown_at.ensures.loads.none there

@@ -1,10 +1,10 @@
 use Rattle.std.proofs.Common.{map, subst, sym}
 use Rattle.lfs_model.specs.LoggedContent.{Ascend}
-use Rattle.lfs_tag.specs.ContentSeen.{attribute_seen, slot_seen}
+use Rattle.lfs_tag.specs.ContentView.{attribute_view, slot_view}
 use Rattle.lfs_lookup.proofs.ItemsShown.{parts_at}
 use Rattle.lfs_lookup.proofs.attribute_sizes.size_in_slot.Goals as goal
 
 pub size_of_all-requires : goal.size_of_all-requires
 size_of_all-requires c =
     let there = c.in-Some.ensures.lookup in
-    subst (λ xs. Ascend 0 (map attribute_seen xs)) (sym c.deref.ensures.value) (parts_at slot_seen c.args.slots.now c.from.result c.in-Some.slot.now c.requires there.3.0 there.1).attributes
+    subst (λ xs. Ascend 0 (map attribute_view xs)) (sym c.deref.ensures.value) (parts_at slot_view c.args.slots.now c.from.result c.in-Some.slot.now c.requires there.3.0 there.1).attributes

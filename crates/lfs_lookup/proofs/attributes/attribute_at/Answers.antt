@@ -5,7 +5,7 @@ use Rattle.lfs_model.specs.TreeEdits.{attributes_of}
 use Rattle.lfs_model.specs.Shown.{tree_in}
 use Rattle.lfs_thread.specs.Kept.{Kept}
 use Rattle.lfs_lookup.proofs.AtPaths.{sized_on}
-use Rattle.lfs_lookup.proofs.AttributeAtSlots.{are_held, held_later, slot_at_hand, slot_within}
+use Rattle.lfs_lookup.proofs.AttributeAtSlots.{are_held, held_later, slot_is_cached, slot_within}
 use Rattle.lfs_lookup.proofs.Reading.{answered, answers, both, further, passed}
 use Rattle.lfs_lookup.proofs.ShownFindings.{found_shown, in_entry}
 use Rattle.lfs_lookup.proofs.attributes.attribute_at.Goals as goal
@@ -14,8 +14,8 @@ pub attribute_held-requires-clause-below : goal.attribute_held-requires-clause-b
 attribute_held-requires-clause-below g c =
     slot_within c.args.thread.now.kept c.args.path.now c.in_ok-shown.shown c.slot_of.result c.shown_at.new.thread.kept.pairs c.in_ok-shown.ensures.shown c.slot_of.ensures c.shown_at.ensures.reading.only.pairs
 
-pub attribute_held-requires-clause-at_hand : goal.attribute_held-requires-clause-at_hand
-attribute_held-requires-clause-at_hand g c = slot_at_hand c.shown_at.new.thread c.in_ok-shown.shown c.slot_of.result c.in_ok-shown.ensures.at_hand c.slot_of.ensures
+pub attribute_held-requires-clause-cached_log : goal.attribute_held-requires-clause-cached_log
+attribute_held-requires-clause-cached_log g c = slot_is_cached c.shown_at.new.thread c.in_ok-shown.shown c.slot_of.result c.in_ok-shown.ensures.cached_log c.slot_of.ensures
 
 pub returns-in_err-bytes-clause-reading : goal.returns-in_err-bytes-clause-reading
 returns-in_err-bytes-clause-reading g c =
@@ -59,10 +59,10 @@ returns-clause-reading g c =
     (answered _ _ c.attribute_held.result c.in_ok-bytes.bytes c.in_ok-bytes.was c.attribute_held.ensures.reading))
 
 pub returns-in_err-shown-clause-kept : goal.returns-in_err-shown-clause-kept
-returns-in_err-shown-clause-kept g c = c.shown_at.ensures.brings.none
+returns-in_err-shown-clause-kept g c = c.shown_at.ensures.loads.none
 
 pub returns-in_err-bytes-clause-kept : goal.returns-in_err-bytes-clause-kept
-returns-in_err-bytes-clause-kept g c = λ there. ap (λ (t : Kept). reads t.history) c.attribute_held.ensures.no_call ∙ c.shown_at.ensures.brings.none there
+returns-in_err-bytes-clause-kept g c = λ there. ap (λ (t : Kept). reads t.history) c.attribute_held.ensures.no_call ∙ c.shown_at.ensures.loads.none there
 
 pub returns-clause-kept : goal.returns-clause-kept
-returns-clause-kept g c = λ there. ap (λ (t : Kept). reads t.history) c.attribute_held.ensures.no_call ∙ c.shown_at.ensures.brings.none there
+returns-clause-kept g c = λ there. ap (λ (t : Kept). reads t.history) c.attribute_held.ensures.no_call ∙ c.shown_at.ensures.loads.none there

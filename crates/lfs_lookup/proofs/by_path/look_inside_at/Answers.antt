@@ -1,6 +1,6 @@
 use Rattle.std.proofs.Common.{◌∙◌, arith, refl}
 use Rattle.std.proofs.lemmas.Result.{err_from_is_err_and}
-use Rattle.lfs_model.specs.Discipline.{pairs_of_path}
+use Rattle.lfs_model.specs.Frame.{pairs_of_path}
 use Rattle.lfs_lookup.proofs.AtPaths.{sized_on}
 use Rattle.lfs_lookup.proofs.Reading.{answered, answers, both, further, passed}
 use Rattle.lfs_lookup.proofs.ShownFindings.{few_from, few_own, first_at, first_within, found_shown, has_beneath, in_entry}

@@ -3,7 +3,7 @@ use Rattle.std.proofs.lemmas.List.{map-append}
 use Rattle.std.proofs.lemmas.Result.{err_from_is_err_and}
 use Rattle.lfs_model.specs.Thread.{Pair, is_hard}
 use Rattle.lfs_thread.specs.Steps.{no_pair, pair_in}
-use Rattle.lfs_lookup.specs.Items.{item_seen, items_seen}
+use Rattle.lfs_lookup.specs.Items.{item_view, items_view}
 use Rattle.lfs_lookup.proofs.Directories.{length_on, length_some, list_on, run_next}
 use Rattle.lfs_lookup.proofs.Reading.{answered, both, further, lacks_memory, passed}
 use Rattle.lfs_lookup.proofs.RecentBlocks.{keeps_on, none_on}
@@ -21,7 +21,7 @@ returns-in_err-more-clause-kept g c =
     let next = cond (is_hard (slice_index_or c.loop-pair.thread.kept.pairs c.in-Some.index no_pair).content.tail) (Some (c.in-Some.index + 1)) None in
     let within = subst (λ o. IfSome o (λ pair. pair < length ps)) c.in-Some.is inv.below in
     let run = run_next ps c.loop-pair.thread.kept.pairs c.in-Some.index no_pair c.loop-pair.pair next inv.read.only.pairs c.in-Some.is within refl in
-    none_on _ _ _ (pair_in c.loop-pair.thread.kept c.in-Some.index) c.args.thread.now c.loop-pair.thread c.items_under.new.thread c.items_under.result inv.along run c.items_under.ensures.brings
+    none_on _ _ _ (pair_in c.loop-pair.thread.kept c.in-Some.index) c.args.thread.now c.loop-pair.thread c.items_under.new.thread c.items_under.result inv.along run c.items_under.ensures.loads
 
 pub returns-in_err-more-clause-few : goal.returns-in_err-more-clause-few
 returns-in_err-more-clause-few g c =
@@ -38,7 +38,7 @@ returns-in_err-append-clause-kept g c =
     let next = cond (is_hard (slice_index_or c.loop-pair.thread.kept.pairs c.in-Some.index no_pair).content.tail) (Some (c.in-Some.index + 1)) None in
     let within = subst (λ o. IfSome o (λ pair. pair < length ps)) c.in-Some.is inv.below in
     let run = run_next ps c.loop-pair.thread.kept.pairs c.in-Some.index no_pair c.loop-pair.pair next inv.read.only.pairs c.in-Some.is within refl in
-    none_on _ _ _ (pair_in c.loop-pair.thread.kept c.in-Some.index) c.args.thread.now c.loop-pair.thread c.items_under.new.thread c.items_under.result inv.along run c.items_under.ensures.brings
+    none_on _ _ _ (pair_in c.loop-pair.thread.kept c.in-Some.index) c.args.thread.now c.loop-pair.thread c.items_under.new.thread c.items_under.result inv.along run c.items_under.ensures.loads
 
 pub returns-in_err-append-clause-few : goal.returns-in_err-append-clause-few
 returns-in_err-append-clause-few g c =
@@ -68,12 +68,12 @@ loop-pair-preserved g c =
       read = read;
       few = omega (arith, f, n, one);
       along = keeps_on _ _ _ (pair_in c.loop-pair.thread.kept c.in-Some.index) c.args.thread.now c.loop-pair.thread c.items_under.new.thread c.items_under.result inv.along
-          (run_next ps c.loop-pair.thread.kept.pairs c.in-Some.index no_pair c.loop-pair.pair c.next-pair.result inv.read.only.pairs c.in-Some.is within next) c.items_under.ensures.brings
+          (run_next ps c.loop-pair.thread.kept.pairs c.in-Some.index no_pair c.loop-pair.pair c.next-pair.result inv.read.only.pairs c.in-Some.is within next) c.items_under.ensures.loads
           c.in_ok-more.more c.in_ok-more.was c.items_under.ensures.reading.only.disk;
       below = subst (λ (ps : List Pair). IfSome c.next-pair.result (λ pair. pair < length ps)) read.only.pairs c.next-pair.ensures.below;
       items =
           list_on c.args.thread.now.kept.pairs c.loop-pair.thread.kept.pairs c.args.first c.in-Some.index no_pair c.loop-pair.pair c.next-pair.result
-          (items_seen c.loop-pair.items.items) (items_seen c.in_ok-more.more.items) (items_seen c.append.new.self.items) inv.read.only.pairs c.in-Some.is
+          (items_view c.loop-pair.items.items) (items_view c.in_ok-more.more.items) (items_view c.append.new.self.items) inv.read.only.pairs c.in-Some.is
           within c.in_ok-more.ensures.items next
-          (ap items_seen c.in_ok-append.ensures.items ∙ map-append item_seen c.loop-pair.items.items c.in_ok-more.more.items) inv.items;
+          (ap items_view c.in_ok-append.ensures.items ∙ map-append item_view c.loop-pair.items.items c.in_ok-more.more.items) inv.items;
     }

@@ -1,7 +1,7 @@
 use Rattle.std.proofs.Common.{◌≡◌, ◌<◌, ◌≤◌, ◌+◌, ◌-◌, ◌++◌, IfSome, Some, drop, length}
 use Rattle.std.specs.Option.{option_map_or}
 use Rattle.lfs_model.specs.History.{reads}
-use Rattle.lfs_lookup.specs.Items.{items_seen}
+use Rattle.lfs_lookup.specs.Items.{items_view}
 use Rattle.lfs_lookup.specs.Listed.{joined_run, length_from, run_from, shapes_from}
 use Rattle.lfs_lookup.proofs.Reading.{HasRead}
 use Rattle.lfs_lookup.proofs.RecentBlocks.{HasKept}
@@ -13,7 +13,7 @@ invariant-loop-pair g l = record {
   few : reads l.thread.kept.history + length_from l.fn.thread.kept.pairs l.pair ≤ reads l.fn.thread.kept.history + length_from l.fn.thread.kept.pairs (Some l.first);
   along : HasKept (joined_run (drop l.first l.fn.thread.kept.pairs)) (run_from l.fn.thread.kept.pairs l.pair) l.fn.thread l.thread;
   below : IfSome l.pair (λ pair. pair < length l.fn.thread.kept.pairs);
-  items : items_seen l.items.items ++ shapes_from l.fn.thread.kept.pairs l.pair ≡ shapes_from l.fn.thread.kept.pairs (Some l.first);
+  items : items_view l.items.items ++ shapes_from l.fn.thread.kept.pairs l.pair ≡ shapes_from l.fn.thread.kept.pairs (Some l.first);
 }
 
 abbrev pub decreases-loop-pair : goal.decreases-loop-pair

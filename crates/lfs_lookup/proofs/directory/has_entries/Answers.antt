@@ -2,14 +2,14 @@ use Rattle.std.proofs.Common.{ℕ, ◌≡◌, ◌<◌, ◌≤◌, ◌+◌, ◌�
 use Rattle.std.proofs.lemmas.Result.{err_from_is_err_and}
 use Rattle.lfs_model.specs.Thread.{Pair, gstate_of, is_hard, visible}
 use Rattle.lfs_thread.specs.Steps.{no_pair}
-use Rattle.lfs_lookup.specs.Items.{Shape, items_seen, shape_of}
+use Rattle.lfs_lookup.specs.Items.{Shape, items_view, shape_of}
 use Rattle.lfs_lookup.specs.declared.items.Item.{Item}
 use Rattle.lfs_lookup.specs.Listed.{shapes_from}
 use Rattle.lfs_lookup.proofs.Directories.{length_on, length_some, shapes_on}
 use Rattle.lfs_lookup.proofs.Reading.{answered, answers, both, further, passed}
 use Rattle.lfs_lookup.proofs.directory.has_entries.Goals as goal
 
-none_seen : (items : List Item) → length items ≤ 0 → items_seen items ≡ []
+none_seen : (items : List Item) → length items ≤ 0 → items_view items ≡ []
 none_seen [] l = refl
 none_seen (i ∷ items) l = absurd (omega arith)
 
@@ -50,7 +50,7 @@ loop-pair-preserved g c =
       few = omega (arith, f, n, one);
       below = subst (λ (ps : List Pair). IfSome c.next-pair.result (λ pair. pair < length ps)) read.only.pairs c.next-pair.ensures.below;
       none_before =
-          none_on ps c.loop-pair.thread.kept.pairs c.in-Some.index no_pair c.loop-pair.pair c.next-pair.result c.args.from (items_seen c.in_ok-items.items.items) inv.read.only.pairs c.in-Some.is within c.in_ok-items.ensures.items next
+          none_on ps c.loop-pair.thread.kept.pairs c.in-Some.index no_pair c.loop-pair.pair c.next-pair.result c.args.from (items_view c.in_ok-items.items.items) inv.read.only.pairs c.in-Some.is within c.in_ok-items.ensures.items next
           inv.none_before (none_seen c.in_ok-items.items.items (omega arith));
     }
 

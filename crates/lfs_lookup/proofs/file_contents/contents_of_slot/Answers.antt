@@ -15,7 +15,7 @@ returns-in-List-clause-is g c held is =
     record { struct = sym (subst (λ z. ShowsContents z held.struct) c.in-List.is is.shows); fits = tt }
 
 pub returns-in_ok-bytes-in-Inline-clause-no_call : goal.returns-in_ok-bytes-in-Inline-clause-no_call
-returns-in_ok-bytes-in-Inline-clause-no_call g c = c.inline_at.ensures.no_call c.requires.at_hand
+returns-in_ok-bytes-in-Inline-clause-no_call g c = c.inline_at.ensures.no_call c.requires.cached_log
 
 pub returns-in_err-bytes-in-Inline-clause-no_call : goal.returns-in_err-bytes-in-Inline-clause-no_call
-returns-in_err-bytes-in-Inline-clause-no_call g c = c.inline_at.ensures.no_call c.requires.at_hand
+returns-in_err-bytes-in-Inline-clause-no_call g c = c.inline_at.ensures.no_call c.requires.cached_log

@@ -18,9 +18,9 @@ contents_of_slot-requires-clause-file g c =
     let f = file_of_path t c.args.path.now c.in_ok-shown.shown c.in-Some.slot c.in-Some.contents c.requires.accepted c.in_ok-shown.ensures.shown (sym c.file_of.ensures ∙ c.in-Some.is) in
     (f.held, file_since t c.shown_at.new.thread.kept c.in-Some.slot c.in-Some.contents f.held c.shown_at.ensures.reading.only.pairs c.shown_at.ensures.reading.only.disk f.file)
 
-pub contents_of_slot-requires-clause-at_hand : goal.contents_of_slot-requires-clause-at_hand
-contents_of_slot-requires-clause-at_hand g c =
-    file_at_hand c.shown_at.new.thread c.in_ok-shown.shown c.in-Some.slot c.in-Some.contents c.in_ok-shown.ensures.at_hand (sym c.file_of.ensures ∙ c.in-Some.is)
+pub contents_of_slot-requires-clause-cached_log : goal.contents_of_slot-requires-clause-cached_log
+contents_of_slot-requires-clause-cached_log g c =
+    file_at_hand c.shown_at.new.thread c.in_ok-shown.shown c.in-Some.slot c.in-Some.contents c.in_ok-shown.ensures.cached_log (sym c.file_of.ensures ∙ c.in-Some.is)
 
 pub returns-clause-contents : goal.returns-clause-contents
 returns-clause-contents g c =
@@ -65,16 +65,16 @@ returns-in_err-contents-clause-few g c =
     omega (arith, f, e)
 
 pub returns-clause-kept : goal.returns-clause-kept
-returns-clause-kept g c = λ there. ap (λ (t : Kept). reads t.history) c.contents_of_slot.ensures.no_call ∙ c.shown_at.ensures.brings.none there
+returns-clause-kept g c = λ there. ap (λ (t : Kept). reads t.history) c.contents_of_slot.ensures.no_call ∙ c.shown_at.ensures.loads.none there
 
 pub returns-in_default-clause-kept : goal.returns-in_default-clause-kept
-returns-in_default-clause-kept g c = c.shown_at.ensures.brings.none
+returns-in_default-clause-kept g c = c.shown_at.ensures.loads.none
 
 pub returns-in_err-shown-clause-kept : goal.returns-in_err-shown-clause-kept
-returns-in_err-shown-clause-kept g c = c.shown_at.ensures.brings.none
+returns-in_err-shown-clause-kept g c = c.shown_at.ensures.loads.none
 
 pub returns-in_err-contents-clause-kept : goal.returns-in_err-contents-clause-kept
-returns-in_err-contents-clause-kept g c = λ there. ap (λ (t : Kept). reads t.history) c.contents_of_slot.ensures.no_call ∙ c.shown_at.ensures.brings.none there
+returns-in_err-contents-clause-kept g c = λ there. ap (λ (t : Kept). reads t.history) c.contents_of_slot.ensures.no_call ∙ c.shown_at.ensures.loads.none there
 
 pub returns-clause-reading : goal.returns-clause-reading
 returns-clause-reading g c =

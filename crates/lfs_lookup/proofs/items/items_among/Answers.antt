@@ -1,6 +1,6 @@
-use Rattle.lfs_tag.specs.ContentSeen.{slot_seen}
+use Rattle.lfs_tag.specs.ContentView.{slot_view}
 use Rattle.lfs_lookup.proofs.ItemsShown.{parts_at}
 use Rattle.lfs_lookup.proofs.items.items_among.Goals as goal
 
 pub push_shown-requires : goal.push_shown-requires
-push_shown-requires c = parts_at slot_seen c.args.slots.now c.loop-slot.slot-index c.slot-item.result c.requires c.loop-slot-test.true c.slot-item.is
+push_shown-requires c = parts_at slot_view c.args.slots.now c.loop-slot.slot-index c.slot-item.result c.requires c.loop-slot-test.true c.slot-item.is

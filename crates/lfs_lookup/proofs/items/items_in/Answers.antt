@@ -5,7 +5,7 @@ use Rattle.lfs_model.specs.Content.{RawContent, content_after_all, no_content}
 use Rattle.lfs_model.specs.LoggedContent.{HaveParts}
 use Rattle.lfs_model.proofs.Logged.{logged}
 use Rattle.lfs_model.proofs.Completed.{completed_parts}
-use Rattle.lfs_tag.specs.ContentSeen.{content_seen, slot_seen}
+use Rattle.lfs_tag.specs.ContentView.{content_view, slot_view}
 use Rattle.lfs_lookup.specs.Items.{shown_among, without}
 use Rattle.lfs_lookup.proofs.ItemsShown.{parts_without, shown_shapes}
 use Rattle.lfs_lookup.proofs.items.items_in.Goals as goal
@@ -14,15 +14,15 @@ pub items_among-requires : goal.items_among-requires
 items_among-requires c =
     let (content, is) = c.requires in
     let read = c.in_ok-content.ensures.content in
-    let sound = logged c.args.log.now (content_seen c.in_ok-content.content) is.bytes read in
-    let are = ap (map slot_seen) c.deref.ensures.value ∙ c.remove_moved.ensures in
-    subst HaveParts (sym are) (parts_without c.args.moved (content_seen c.in_ok-content.content).slots sound.slots)
+    let sound = logged c.args.log.now (content_view c.in_ok-content.content) is.bytes read in
+    let are = ap (map slot_view) c.deref.ensures.value ∙ c.remove_moved.ensures in
+    subst HaveParts (sym are) (parts_without c.args.moved (content_view c.in_ok-content.content).slots sound.slots)
 
 pub returns-clause-items : goal.returns-clause-items
 returns-clause-items c content is =
     let read = c.in_ok-content.ensures.content in
-    let same = same_Some (content_seen c.in_ok-content.content) is.raw (sym read ∙ is.log) in
+    let same = same_Some (content_view c.in_ok-content.content) is.raw (sym read ∙ is.log) in
     let slots = ap (λ (r : RawContent). r.slots) same in
-    let are = ap (map slot_seen) c.deref.ensures.value ∙ c.remove_moved.ensures in
+    let are = ap (map slot_view) c.deref.ensures.value ∙ c.remove_moved.ensures in
     c.in_ok-items.ensures ∙ ap shown_among (are ∙ ap (without c.args.moved) slots)
     ∙ shown_shapes c.args.moved is.raw.slots content.slots (completed_parts is.raw content is.complete).slots

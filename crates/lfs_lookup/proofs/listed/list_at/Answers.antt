@@ -1,12 +1,12 @@
 use Rattle.std.proofs.Common.{Err, ap, map, refl, ◌∙◌, arith}
 use Rattle.std.proofs.lemmas.Result.{err_from_is_err_and}
-use Rattle.lfs_model.specs.Discipline.{pairs_of_path}
-use Rattle.lfs_lookup.specs.Finds.{list_item_seen}
-use Rattle.lfs_lookup.specs.Items.{items_seen}
+use Rattle.lfs_model.specs.Frame.{pairs_of_path}
+use Rattle.lfs_lookup.specs.Finds.{list_item_view}
+use Rattle.lfs_lookup.specs.Items.{items_view}
 use Rattle.lfs_lookup.proofs.AtPaths.{sized_on}
 use Rattle.lfs_lookup.proofs.ListAtItems.{bytes_on}
 use Rattle.lfs_lookup.proofs.Reading.{answered, answers, both, further, lacks_memory, passed}
-use Rattle.lfs_lookup.proofs.BroughtDown.{first_on_hand, on_hand_above}
+use Rattle.lfs_lookup.proofs.LoadedDown.{first_on_hand, on_hand_above}
 use Rattle.lfs_lookup.proofs.RecentBlocks.{on_ok}
 use Rattle.lfs_lookup.proofs.ShownFindings.{few_from, few_own, first_at, first_within, found_shown, in_entry, listed_from, short_from}
 use Rattle.lfs_lookup.proofs.listed.list_at.Goals as goal
@@ -43,7 +43,7 @@ pub listed_items-requires : goal.listed_items-requires
 listed_items-requires g c =
     let t = c.args.thread.now.kept in
     let device = c.device-device.result.now in
-    short_from t c.args.path.now c.requires.accepted c.shown_at.new.thread.kept.pairs c.first_of.result (items_seen c.in_ok-items.items.items) (items_seen c.sort_by_name.new.items.items) c.shown_at.ensures.reading.only.pairs
+    short_from t c.args.path.now c.requires.accepted c.shown_at.new.thread.kept.pairs c.first_of.result (items_view c.in_ok-items.items.items) (items_view c.sort_by_name.new.items.items) c.shown_at.ensures.reading.only.pairs
     (first_at t c.args.path.now c.requires.accepted c.args.root c.in_ok-shown.shown c.first_of.result c.requires.root c.in_ok-shown.ensures.shown c.first_of.ensures) c.in_ok-items.ensures.items c.sort_by_name.ensures
     (bytes_on g.D.BlockDevice device t.disk (c.device-device.ensures.disk ∙ c.entries_from.ensures.reading.only.disk ∙ c.shown_at.ensures.reading.only.disk) (g.met.D.BlockDevice.bytes device))
 
@@ -79,7 +79,7 @@ pub returns-clause-items : goal.returns-clause-items
 returns-clause-items g c =
     let t = c.args.thread.now.kept in
     let device = c.device-device.result.now in
-    listed_from t c.args.path.now c.requires.accepted c.shown_at.new.thread.kept.pairs c.first_of.result (items_seen c.in_ok-items.items.items) (items_seen c.sort_by_name.new.items.items) (map list_item_seen c.in_ok-listed.listed.items) c.shown_at.ensures.reading.only.pairs
+    listed_from t c.args.path.now c.requires.accepted c.shown_at.new.thread.kept.pairs c.first_of.result (items_view c.in_ok-items.items.items) (items_view c.sort_by_name.new.items.items) (map list_item_view c.in_ok-listed.listed.items) c.shown_at.ensures.reading.only.pairs
     (first_at t c.args.path.now c.requires.accepted c.args.root c.in_ok-shown.shown c.first_of.result c.requires.root c.in_ok-shown.ensures.shown c.first_of.ensures) c.in_ok-items.ensures.items c.sort_by_name.ensures
     (sized_on g.D.BlockDevice device t.disk (g.D.BlockDevice.geometry device).block_count (c.device-device.ensures.disk ∙ c.entries_from.ensures.reading.only.disk ∙ c.shown_at.ensures.reading.only.disk)
     (g.D.BlockDevice.geometry device).valid.no_smaller (g.met.D.BlockDevice.shape device))
@@ -101,31 +101,31 @@ returns-clause-reading g c =
     (answered _ _ c.entries_from.result c.in_ok-items.items c.in_ok-items.was c.entries_from.ensures.reading))
 
 pub returns-in_err-shown-clause-kept : goal.returns-in_err-shown-clause-kept
-returns-in_err-shown-clause-kept g c = λ there. c.shown_at.ensures.brings.none (on_hand_above c.args.thread.now c.args.path.now there)
+returns-in_err-shown-clause-kept g c = λ there. c.shown_at.ensures.loads.none (on_hand_above c.args.thread.now c.args.path.now there)
 
 pub returns-in_err-items-clause-kept : goal.returns-in_err-items-clause-kept
 returns-in_err-items-clause-kept g c = λ there.
     let t = c.args.thread.now.kept in
     let only = c.shown_at.ensures.reading.only in
-    let stay = on_ok c.shown_at.result c.in_ok-shown.shown _ c.in_ok-shown.was (c.shown_at.ensures.brings.stay (on_hand_above c.args.thread.now c.args.path.now there)) in
+    let stay = on_ok c.shown_at.result c.in_ok-shown.shown _ c.in_ok-shown.was (c.shown_at.ensures.loads.stay (on_hand_above c.args.thread.now c.args.path.now there)) in
     let at = first_at t c.args.path.now c.requires.accepted c.args.root c.in_ok-shown.shown c.first_of.result c.requires.root c.in_ok-shown.ensures.shown c.first_of.ensures in
     c.entries_from.ensures.kept (first_on_hand c.args.thread.now c.shown_at.new.thread c.args.path.now c.requires.accepted only c.first_of.result at stay there)
-    ∙ c.shown_at.ensures.brings.none (on_hand_above c.args.thread.now c.args.path.now there)
+    ∙ c.shown_at.ensures.loads.none (on_hand_above c.args.thread.now c.args.path.now there)
 
 pub returns-in_err-listed-clause-kept : goal.returns-in_err-listed-clause-kept
 returns-in_err-listed-clause-kept g c = λ there.
     let t = c.args.thread.now.kept in
     let only = c.shown_at.ensures.reading.only in
-    let stay = on_ok c.shown_at.result c.in_ok-shown.shown _ c.in_ok-shown.was (c.shown_at.ensures.brings.stay (on_hand_above c.args.thread.now c.args.path.now there)) in
+    let stay = on_ok c.shown_at.result c.in_ok-shown.shown _ c.in_ok-shown.was (c.shown_at.ensures.loads.stay (on_hand_above c.args.thread.now c.args.path.now there)) in
     let at = first_at t c.args.path.now c.requires.accepted c.args.root c.in_ok-shown.shown c.first_of.result c.requires.root c.in_ok-shown.ensures.shown c.first_of.ensures in
     c.entries_from.ensures.kept (first_on_hand c.args.thread.now c.shown_at.new.thread c.args.path.now c.requires.accepted only c.first_of.result at stay there)
-    ∙ c.shown_at.ensures.brings.none (on_hand_above c.args.thread.now c.args.path.now there)
+    ∙ c.shown_at.ensures.loads.none (on_hand_above c.args.thread.now c.args.path.now there)
 
 pub returns-clause-kept : goal.returns-clause-kept
 returns-clause-kept g c = λ there.
     let t = c.args.thread.now.kept in
     let only = c.shown_at.ensures.reading.only in
-    let stay = on_ok c.shown_at.result c.in_ok-shown.shown _ c.in_ok-shown.was (c.shown_at.ensures.brings.stay (on_hand_above c.args.thread.now c.args.path.now there)) in
+    let stay = on_ok c.shown_at.result c.in_ok-shown.shown _ c.in_ok-shown.was (c.shown_at.ensures.loads.stay (on_hand_above c.args.thread.now c.args.path.now there)) in
     let at = first_at t c.args.path.now c.requires.accepted c.args.root c.in_ok-shown.shown c.first_of.result c.requires.root c.in_ok-shown.ensures.shown c.first_of.ensures in
     c.entries_from.ensures.kept (first_on_hand c.args.thread.now c.shown_at.new.thread c.args.path.now c.requires.accepted only c.first_of.result at stay there)
-    ∙ c.shown_at.ensures.brings.none (on_hand_above c.args.thread.now c.args.path.now there)
+    ∙ c.shown_at.ensures.loads.none (on_hand_above c.args.thread.now c.args.path.now there)

@@ -3,7 +3,7 @@ use Rattle.std.specs.Prelude.{IfSome}
 use Rattle.std.specs.List.{AllByRecursion}
 use Rattle.lfs_model.specs.InDirectory.{BeginsAt}
 use Rattle.lfs_model.specs.Slots.{address_of, same_pair}
-use Rattle.lfs_lookup.specs.Entry.{Shows}
+use Rattle.lfs_lookup.specs.Entry.{EntryShows}
 use Rattle.lfs_lookup.specs.Search.{AnswersShown}
 use Rattle.lfs_lookup.proofs.Entered.{leads_by, file_by, nothing_by, shown_slot, no_slot, is_somewhere, some_there}
 use Rattle.std.proofs.lemmas.Result.{err_from_is_err_and}
@@ -14,7 +14,7 @@ pub unwrap-next-requires : goal.unwrap-next-requires
 unwrap-next-requires g c =
     let t = c.args.thread.now.kept in
     let a = subst (AnswersShown t.pairs c.args.moved c.args.first c.args.name.now) c.in-Some-default-Directory.is c.in_ok-at.ensures.answer in
-    let shows = subst (λ e. Shows e a.stands.stands.slot.struct) c.in-Some-default-Directory.field-0-1-is a.shows in
+    let shows = subst (λ e. EntryShows e a.stands.stands.slot.struct) c.in-Some-default-Directory.field-0-1-is a.shows in
     let path = c.requires.reached.0 in
     let slot = shown_slot t c.args.moved c.requires.hiding path c.args.first c.requires.reached.1 c.args.name.now _ _ a in
     let leads = leads_by t (path ++ c.args.name.now ∷ []) a.stands.stands.slot slot (address_of c.in-Some-default-Directory.at) shows in
@@ -26,7 +26,7 @@ pub returns-in-Some-default-Directory-clause-answer : goal.returns-in-Some-defau
 returns-in-Some-default-Directory-clause-answer g c path on =
     let t = c.args.thread.now.kept in
     let a = subst (AnswersShown t.pairs c.args.moved c.args.first c.args.name.now) c.in-Some-default-Directory.is c.in_ok-at.ensures.answer in
-    let shows = subst (λ e. Shows e a.stands.stands.slot.struct) c.in-Some-default-Directory.field-0-1-is a.shows in
+    let shows = subst (λ e. EntryShows e a.stands.stands.slot.struct) c.in-Some-default-Directory.field-0-1-is a.shows in
     let slot = shown_slot t c.args.moved c.requires.hiding path c.args.first on c.args.name.now _ _ a in
     record {
       at = address_of c.in-Some-default-Directory.at;
@@ -39,7 +39,7 @@ pub returns-in-Some-default-File-clause-answer : goal.returns-in-Some-default-Fi
 returns-in-Some-default-File-clause-answer g c path on =
     let t = c.args.thread.now.kept in
     let a = subst (AnswersShown t.pairs c.args.moved c.args.first c.args.name.now) c.in-Some-default-File.is c.in_ok-at.ensures.answer in
-    let shows = subst (λ e. Shows e a.stands.stands.slot.struct) c.in-Some-default-File.field-0-1-is a.shows in
+    let shows = subst (λ e. EntryShows e a.stands.stands.slot.struct) c.in-Some-default-File.field-0-1-is a.shows in
     let slot = shown_slot t c.args.moved c.requires.hiding path c.args.first on c.args.name.now _ _ a in
     file_by t (path ++ c.args.name.now ∷ []) a.stands.stands.slot slot _ shows
 
@@ -49,16 +49,16 @@ returns-in-None-clause-answer g c path on =
     let absent = subst (AnswersShown t.pairs c.args.moved c.args.first c.args.name.now) c.in-None.is c.in_ok-at.ensures.answer in
     nothing_by t (path ++ c.args.name.now ∷ []) (no_slot t c.args.moved c.requires.hiding path c.args.first on c.args.name.now absent)
 
-pub returns-in_err-at-clause-brings : goal.returns-in_err-at-clause-brings
-returns-in_err-at-clause-brings g c =
+pub returns-in_err-at-clause-loads : goal.returns-in_err-at-clause-loads
+returns-in_err-at-clause-loads g c =
     let p = err_from_is_err_and c.from_residual.result c.from_residual.ensures.1 in
-    along_as _ _ _ c.find_shown.result c.from_residual.result (passes_none c.find_shown.result c.from_residual.result p.0 p.1) c.find_shown.ensures.brings
+    along_as _ _ _ c.find_shown.result c.from_residual.result (passes_none c.find_shown.result c.from_residual.result p.0 p.1) c.find_shown.ensures.loads
 
-pub returns-in-Some-default-Directory-clause-brings : goal.returns-in-Some-default-Directory-clause-brings
-returns-in-Some-default-Directory-clause-brings g c = along_as _ _ _ c.find_shown.result _ (λ P h. on_ok c.find_shown.result c.in_ok-at.field-0 P c.in_ok-at.was h) c.find_shown.ensures.brings
+pub returns-in-Some-default-Directory-clause-loads : goal.returns-in-Some-default-Directory-clause-loads
+returns-in-Some-default-Directory-clause-loads g c = along_as _ _ _ c.find_shown.result _ (λ P h. on_ok c.find_shown.result c.in_ok-at.field-0 P c.in_ok-at.was h) c.find_shown.ensures.loads
 
-pub returns-in-Some-default-File-clause-brings : goal.returns-in-Some-default-File-clause-brings
-returns-in-Some-default-File-clause-brings g c = along_as _ _ _ c.find_shown.result _ (λ P h. on_ok c.find_shown.result c.in_ok-at.field-0 P c.in_ok-at.was h) c.find_shown.ensures.brings
+pub returns-in-Some-default-File-clause-loads : goal.returns-in-Some-default-File-clause-loads
+returns-in-Some-default-File-clause-loads g c = along_as _ _ _ c.find_shown.result _ (λ P h. on_ok c.find_shown.result c.in_ok-at.field-0 P c.in_ok-at.was h) c.find_shown.ensures.loads
 
-pub returns-in-None-clause-brings : goal.returns-in-None-clause-brings
-returns-in-None-clause-brings g c = along_as _ _ _ c.find_shown.result _ (λ P h. on_ok c.find_shown.result c.in_ok-at.field-0 P c.in_ok-at.was h) c.find_shown.ensures.brings
+pub returns-in-None-clause-loads : goal.returns-in-None-clause-loads
+returns-in-None-clause-loads g c = along_as _ _ _ c.find_shown.result _ (λ P h. on_ok c.find_shown.result c.in_ok-at.field-0 P c.in_ok-at.was h) c.find_shown.ensures.loads

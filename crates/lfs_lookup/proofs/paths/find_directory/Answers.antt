@@ -4,8 +4,8 @@ use Rattle.std.proofs.lemmas.List.{length-map}
 use Rattle.lfs_model.specs.Operations.{NoEnt, NotDir}
 use Rattle.lfs_lookup.specs.Paths.{Enters, fault_of}
 use Rattle.lfs_lookup.specs.declared.paths.Parent.TheVariants as parent
-use Rattle.lfs_lookup.proofs.ReadOnly.{only_read, told_on}
-use Rattle.lfs_lookup.proofs.BroughtDown.{run_same, searched_all, searched_on, searched_to_here, stops_none}
+use Rattle.lfs_lookup.proofs.ReadOnly.{only_read, reported_on}
+use Rattle.lfs_lookup.proofs.LoadedDown.{run_same, searched_all, searched_on, searched_to_here, stops_none}
 use Rattle.lfs_lookup.proofs.RecentBlocks.{on_ok, passes_none}
 use Rattle.lfs_lookup.proofs.Descended.{name_at, some_at, begins_same, enters_same, few_same, few_whole, stops_at, descends_on, has_descended}
 use Rattle.lfs_lookup.proofs.paths.find_directory.Goals as goal
@@ -26,7 +26,7 @@ returns-in_err-next-clause-only g c = only_read _ _ _ c.loop-name.invariant.only
 pub returns-in_err-next-clause-errors : goal.returns-in_err-next-clause-errors
 returns-in_err-next-clause-errors g c =
     let p = err_from_is_err_and c.from_residual.result c.from_residual.ensures.1 in
-    told_on _ _ _ c.enter.result c.from_residual.result _ p.0 (only_read _ _ _ c.loop-name.invariant.only c.enter.ensures.only) c.loop-name.invariant.no_fault c.enter.ensures.errors c.in_err-next.was p.1 p.2
+    reported_on _ _ _ c.enter.result c.from_residual.result _ p.0 (only_read _ _ _ c.loop-name.invariant.only c.enter.ensures.only) c.loop-name.invariant.no_fault c.enter.ensures.errors c.in_err-next.was p.1 p.2
 
 pub returns-in-File-clause-answer : goal.returns-in-File-clause-answer
 returns-in-File-clause-answer g c =
@@ -95,7 +95,7 @@ loop-name-preserved g c =
       no_fault = c.in_ok-next.ensures.errors.no_fault (λ e. absurd (let k : _ = e in cc)) ∙ inv.no_fault;
       works = c.in_ok-next.ensures.works;
       searched = searched_on c.args.thread.now c.loop-name.thread names c.loop-name.name-index name.0 name.1 inv.searched _
-          (run_same t c.loop-name.thread.kept (take c.loop-name.name-index names) c.loop-name.first c.requires.hiding.accepted inv.only d.begins) c.enter.new.thread c.in_ok-next.field-0 c.in_ok-next.ensures.brings c.enter.ensures.only.disk (omega (arith, below, l));
+          (run_same t c.loop-name.thread.kept (take c.loop-name.name-index names) c.loop-name.first c.requires.hiding.accepted inv.only d.begins) c.enter.new.thread c.in_ok-next.field-0 c.in_ok-next.ensures.loads c.enter.ensures.only.disk (omega (arith, below, l));
       end = refl;
       within = omega (arith, below);
       descended = descends_on t c.loop-name.thread.kept c.enter.new.thread.kept names c.loop-name.name-index c.loop-name.first _ d at (omega (arith, few, same)) c.in-Directory.next e;
@@ -108,8 +108,8 @@ returns-clause-answer g c =
     let l = length-map c.args.path.now (λ name. name.now) in
     has_descended c.args.thread.now.kept c.loop-name.thread.kept (map (λ name. name.now) c.args.path.now) c.loop-name.name-index c.loop-name.first inv.descended (omega (arith, past, l))
 
-pub returns-in_err-next-clause-brings : goal.returns-in_err-next-clause-brings
-returns-in_err-next-clause-brings g c =
+pub returns-in_err-next-clause-loads : goal.returns-in_err-next-clause-loads
+returns-in_err-next-clause-loads g c =
     let inv = c.loop-name.invariant in
     let d = inv.descended in
     let t = c.args.thread.now.kept in
@@ -118,10 +118,10 @@ returns-in_err-next-clause-brings g c =
     let run = run_same t c.loop-name.thread.kept (take c.loop-name.name-index names) c.loop-name.first c.requires.hiding.accepted inv.only d.begins in
     let p = err_from_is_err_and c.from_residual.result c.from_residual.ensures.1 in
     searched_to_here c.args.thread.now c.loop-name.thread names c.loop-name.name-index at.0 at.1 inv.searched _ run c.enter.new.thread c.enter.result c.from_residual.result (λ q. fault_of q ≡ None)
-    c.enter.ensures.brings (passes_none c.enter.result c.from_residual.result p.0 p.1) (stops_none (λ q. fault_of q ≡ None) c.from_residual.result p.0 p.1)
+    c.enter.ensures.loads (passes_none c.enter.result c.from_residual.result p.0 p.1) (stops_none (λ q. fault_of q ≡ None) c.from_residual.result p.0 p.1)
 
-pub returns-in-File-clause-brings : goal.returns-in-File-clause-brings
-returns-in-File-clause-brings g c =
+pub returns-in-File-clause-loads : goal.returns-in-File-clause-loads
+returns-in-File-clause-loads g c =
     let inv = c.loop-name.invariant in
     let d = inv.descended in
     let t = c.args.thread.now.kept in
@@ -129,10 +129,10 @@ returns-in-File-clause-brings g c =
     let at = some_at (λ name. name.now) c.args.path.now c.loop-name.name-index c.loop-name-test.true in
     let run = run_same t c.loop-name.thread.kept (take c.loop-name.name-index names) c.loop-name.first c.requires.hiding.accepted inv.only d.begins in
     searched_to_here c.args.thread.now c.loop-name.thread names c.loop-name.name-index at.0 at.1 inv.searched _ run c.enter.new.thread c.enter.result _ (λ q. fault_of q ≡ None)
-    c.enter.ensures.brings (λ P h. on_ok c.enter.result c.in_ok-next.field-0 P c.in_ok-next.was h) (λ Q e. absurd (let k : _ = e in cc))
+    c.enter.ensures.loads (λ P h. on_ok c.enter.result c.in_ok-next.field-0 P c.in_ok-next.was h) (λ Q e. absurd (let k : _ = e in cc))
 
-pub returns-in-Nothing-clause-brings : goal.returns-in-Nothing-clause-brings
-returns-in-Nothing-clause-brings g c =
+pub returns-in-Nothing-clause-loads : goal.returns-in-Nothing-clause-loads
+returns-in-Nothing-clause-loads g c =
     let inv = c.loop-name.invariant in
     let d = inv.descended in
     let t = c.args.thread.now.kept in
@@ -140,10 +140,10 @@ returns-in-Nothing-clause-brings g c =
     let at = some_at (λ name. name.now) c.args.path.now c.loop-name.name-index c.loop-name-test.true in
     let run = run_same t c.loop-name.thread.kept (take c.loop-name.name-index names) c.loop-name.first c.requires.hiding.accepted inv.only d.begins in
     searched_to_here c.args.thread.now c.loop-name.thread names c.loop-name.name-index at.0 at.1 inv.searched _ run c.enter.new.thread c.enter.result _ (λ q. fault_of q ≡ None)
-    c.enter.ensures.brings (λ P h. on_ok c.enter.result c.in_ok-next.field-0 P c.in_ok-next.was h) (λ Q e. absurd (let k : _ = e in cc))
+    c.enter.ensures.loads (λ P h. on_ok c.enter.result c.in_ok-next.field-0 P c.in_ok-next.was h) (λ Q e. absurd (let k : _ = e in cc))
 
-pub returns-clause-brings : goal.returns-clause-brings
-returns-clause-brings g c =
+pub returns-clause-loads : goal.returns-clause-loads
+returns-clause-loads g c =
     let inv = c.loop-name.invariant in
     let past = c.loop-name-test.false in
     let within = inv.within in

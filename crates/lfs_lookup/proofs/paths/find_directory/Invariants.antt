@@ -1,7 +1,7 @@
 use Rattle.std.proofs.Common.{◌≡◌, ◌≤◌, false, length, map}
 use Rattle.lfs_model.specs.History.{faults}
 use Rattle.lfs_thread.specs.Steps.{IsOnlyRead}
-use Rattle.lfs_lookup.proofs.BroughtDown.{HasSearched}
+use Rattle.lfs_lookup.proofs.LoadedDown.{HasSearched}
 use Rattle.lfs_lookup.proofs.Descended.{HasDescended}
 use Rattle.lfs_lookup.proofs.paths.find_directory.Given as goal
 

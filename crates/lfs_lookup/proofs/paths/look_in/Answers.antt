@@ -3,8 +3,8 @@ use Rattle.std.specs.Prelude.{IfSome}
 use Rattle.std.specs.List.{AllByRecursion}
 use Rattle.lfs_model.specs.InDirectory.{BeginsAt, Stands}
 use Rattle.lfs_model.specs.Slots.{address_of, same_pair}
-use Rattle.lfs_lookup.specs.Entry.{Shows}
-use Rattle.lfs_lookup.specs.Search.{Answers}
+use Rattle.lfs_lookup.specs.Entry.{EntryShows}
+use Rattle.lfs_lookup.specs.Search.{SearchFinds}
 use Rattle.lfs_lookup.proofs.Entered.{plain_on, slot_is, leads_to, absent_is, is_somewhere, some_there}
 use Rattle.lfs_lookup.proofs.paths.look_in.Goals as goal
 
@@ -15,8 +15,8 @@ pub unwrap-first-requires : goal.unwrap-first-requires
 unwrap-first-requires g c =
     let t = c.args.thread.now.kept in
     let spot = c.in-Found-default-Directory.slot in
-    let a = subst (Answers t.disk.order t.pairs c.args.parent c.args.name.now) c.in-Found-default-Directory.is c.in_ok-slot.ensures.answer in
-    let (s, shows) = subst (λ e. (s : Stands t.pairs c.args.parent c.args.name.now spot.pair spot.id) × Shows e s.stands.slot.struct) c.in-Found-default-Directory.field-1-is a in
+    let a = subst (SearchFinds t.disk.order t.pairs c.args.parent c.args.name.now) c.in-Found-default-Directory.is c.in_ok-slot.ensures.answer in
+    let (s, shows) = subst (λ e. (s : Stands t.pairs c.args.parent c.args.name.now spot.pair spot.id) × EntryShows e s.stands.slot.struct) c.in-Found-default-Directory.field-1-is a in
     let leads = leads_to t c.requires.settled c.requires.reached.0 c.args.parent c.requires.reached.1 c.args.name.now spot.pair spot.id s (address_of c.in-Found-default-Directory.at) shows in
     some_there c.number_of.result _ (c.number_of.ensures.nowhere)
     (λ none. is_somewhere t c.requires.settled.accepted (c.requires.reached.0 ++ c.args.name.now ∷ []) (address_of c.in-Found-default-Directory.at) leads
@@ -26,8 +26,8 @@ pub returns-in-Found-default-Directory-clause-answer : goal.returns-in-Found-def
 returns-in-Found-default-Directory-clause-answer g c above on =
     let t = c.args.thread.now.kept in
     let spot = c.in-Found-default-Directory.slot in
-    let a = subst (Answers t.disk.order t.pairs c.args.parent c.args.name.now) c.in-Found-default-Directory.is c.in_ok-slot.ensures.answer in
-    let (s, shows) = subst (λ e. (s : Stands t.pairs c.args.parent c.args.name.now spot.pair spot.id) × Shows e s.stands.slot.struct) c.in-Found-default-Directory.field-1-is a in (
+    let a = subst (SearchFinds t.disk.order t.pairs c.args.parent c.args.name.now) c.in-Found-default-Directory.is c.in_ok-slot.ensures.answer in
+    let (s, shows) = subst (λ e. (s : Stands t.pairs c.args.parent c.args.name.now spot.pair spot.id) × EntryShows e s.stands.slot.struct) c.in-Found-default-Directory.field-1-is a in (
       record { on = on; stands = s; slot = slot_is t c.requires.settled above c.args.parent on c.args.name.now spot.pair spot.id s },
       record {
         at = address_of c.in-Found-default-Directory.at;
@@ -41,13 +41,13 @@ pub returns-in-Found-default-File-clause-answer : goal.returns-in-Found-default-
 returns-in-Found-default-File-clause-answer g c above on =
     let t = c.args.thread.now.kept in
     let spot = c.in-Found-default-File.slot in
-    let a = subst (Answers t.disk.order t.pairs c.args.parent c.args.name.now) c.in-Found-default-File.is c.in_ok-slot.ensures.answer in
-    let (s, shows) = subst (λ e. (s : Stands t.pairs c.args.parent c.args.name.now spot.pair spot.id) × Shows e s.stands.slot.struct) c.in-Found-default-File.field-1-is a in
+    let a = subst (SearchFinds t.disk.order t.pairs c.args.parent c.args.name.now) c.in-Found-default-File.is c.in_ok-slot.ensures.answer in
+    let (s, shows) = subst (λ e. (s : Stands t.pairs c.args.parent c.args.name.now spot.pair spot.id) × EntryShows e s.stands.slot.struct) c.in-Found-default-File.field-1-is a in
     (record { on = on; stands = s; slot = slot_is t c.requires.settled above c.args.parent on c.args.name.now spot.pair spot.id s }, shows)
 
 pub returns-in-Place-clause-answer : goal.returns-in-Place-clause-answer
 returns-in-Place-clause-answer g c above on =
     let t = c.args.thread.now.kept in
     let place = c.in-Place.place in
-    let b = subst (Answers t.disk.order t.pairs c.args.parent c.args.name.now) c.in-Place.is c.in_ok-slot.ensures.answer in
+    let b = subst (SearchFinds t.disk.order t.pairs c.args.parent c.args.name.now) c.in-Place.is c.in_ok-slot.ensures.answer in
     record { on = on; belongs = b; nothing = absent_is t c.requires.settled above c.args.parent on c.args.name.now place.pair place.id b }

@@ -1,7 +1,7 @@
 use Rattle.std.proofs.Common.{subst, arith}
-use Rattle.lfs_model.specs.Discipline.{pairs_of_path}
+use Rattle.lfs_model.specs.Frame.{pairs_of_path}
 use Rattle.lfs_lookup.specs.Paths.{Descends}
-use Rattle.lfs_lookup.proofs.ReadOnly.{only_read, told_behind}
+use Rattle.lfs_lookup.proofs.ReadOnly.{only_read, reported_behind}
 use Rattle.lfs_lookup.proofs.Descended.{names_are, sum_is, looked_in, leads_past_file, leads_past_nothing, few_same}
 use Rattle.lfs_lookup.proofs.Entered.{hiding_none}
 use Rattle.lfs_lookup.proofs.paths.look_up.Goals as goal
@@ -36,7 +36,7 @@ returns-in-Directory-clause-only g c = only_read _ _ _ c.find_directory.ensures.
 
 pub returns-in-Directory-clause-errors : goal.returns-in-Directory-clause-errors
 returns-in-Directory-clause-errors g c =
-    told_behind _ _ _ c.look_in.result c.find_directory.ensures.only (c.in_ok-parent.ensures.errors.no_fault (λ e. absurd (let k : _ = e in cc))) c.look_in.ensures.only c.look_in.ensures.errors
+    reported_behind _ _ _ c.look_in.result c.find_directory.ensures.only (c.in_ok-parent.ensures.errors.no_fault (λ e. absurd (let k : _ = e in cc))) c.look_in.ensures.only c.look_in.ensures.errors
 
 pub returns-in-File-clause-answer : goal.returns-in-File-clause-answer
 returns-in-File-clause-answer g c =

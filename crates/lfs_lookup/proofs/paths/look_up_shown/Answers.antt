@@ -1,10 +1,10 @@
 use Rattle.std.proofs.Common.{◌≡◌, None, ap, subst, ◌∙◌, [], arith}
-use Rattle.lfs_model.specs.Discipline.{pairs_of_path}
+use Rattle.lfs_model.specs.Frame.{pairs_of_path}
 use Rattle.lfs_lookup.specs.AtPath.{IsThrough}
 use Rattle.lfs_lookup.specs.Paths.{Descends, fault_of}
-use Rattle.lfs_lookup.proofs.ReadOnly.{only_read, told_behind}
+use Rattle.lfs_lookup.proofs.ReadOnly.{only_read, reported_behind}
 use Rattle.std.proofs.lemmas.Result.{err_from_is_err_and}
-use Rattle.lfs_lookup.proofs.BroughtDown.{down_last, down_short, run_same, stops_none}
+use Rattle.lfs_lookup.proofs.LoadedDown.{down_last, down_short, run_same, stops_none}
 use Rattle.lfs_lookup.proofs.RecentBlocks.{on_ok, passes_none}
 use Rattle.lfs_lookup.proofs.Descended.{hiding_same, names_are, sum_is, showed_in, few_same}
 use Rattle.lfs_model.specs.Session.{parent_fault}
@@ -36,14 +36,14 @@ returns-in-Directory-clause-few g c =
     let same = few_same t c.find_directory.new.thread.kept c.requires.hiding.accepted c.find_directory.ensures.only _ c.in-Directory.parent d.begins in
     omega (arith, s, few, more, same)
 
-pub returns-in-Directory-clause-brings : goal.returns-in-Directory-clause-brings
-returns-in-Directory-clause-brings g c =
+pub returns-in-Directory-clause-loads : goal.returns-in-Directory-clause-loads
+returns-in-Directory-clause-loads g c =
     let t = c.args.thread.now.kept in
     let is = names_are (λ name. name.now) c.args.path.now _ _ c.in-Some.ensures.cases.0 in
     let d = subst (Descends t _) c.in-Directory.is c.in_ok-parent.ensures.answer in
-    down_last (λ q. fault_of q ≡ None) IsThrough c.args.thread.now c.find_directory.new.thread c.show_in.new.thread _ _ _ c.in_ok-parent.field-0 c.show_in.result _ is c.in_ok-parent.ensures.brings
+    down_last (λ q. fault_of q ≡ None) IsThrough c.args.thread.now c.find_directory.new.thread c.show_in.new.thread _ _ _ c.in_ok-parent.field-0 c.show_in.result _ is c.in_ok-parent.ensures.loads
     (ap fault_of c.in-Directory.is) c.find_directory.ensures.only.disk
-    (run_same t c.find_directory.new.thread.kept _ c.in-Directory.parent c.requires.hiding.accepted c.find_directory.ensures.only d.begins) c.show_in.ensures.brings
+    (run_same t c.find_directory.new.thread.kept _ c.in-Directory.parent c.requires.hiding.accepted c.find_directory.ensures.only d.begins) c.show_in.ensures.loads
 
 pub returns-in-Directory-clause-reading : goal.returns-in-Directory-clause-reading
 returns-in-Directory-clause-reading g c =
@@ -51,7 +51,7 @@ returns-in-Directory-clause-reading g c =
     record {
       only = only_read _ _ _ c.find_directory.ensures.only r.only;
       works = r.works;
-      told = told_behind _ _ _ c.show_in.result c.find_directory.ensures.only (c.in_ok-parent.ensures.errors.no_fault (λ e. absurd (let k : _ = e in cc))) r.only r.told;
+      reported = reported_behind _ _ _ c.show_in.result c.find_directory.ensures.only (c.in_ok-parent.ensures.errors.no_fault (λ e. absurd (let k : _ = e in cc))) r.only r.reported;
     }
 
 pub returns-in-File-clause-answer : goal.returns-in-File-clause-answer
@@ -85,21 +85,21 @@ returns-in-Nothing-clause-few g c =
 pub show_in-requires-clause-hiding : goal.show_in-requires-clause-hiding
 show_in-requires-clause-hiding g c = hiding_same c.args.thread.now.kept c.find_directory.new.thread.kept c.args.moved c.find_directory.ensures.only c.requires.hiding
 
-pub returns-in_err-parent-clause-brings : goal.returns-in_err-parent-clause-brings
-returns-in_err-parent-clause-brings g c =
+pub returns-in_err-parent-clause-loads : goal.returns-in_err-parent-clause-loads
+returns-in_err-parent-clause-loads g c =
     let is = names_are (λ name. name.now) c.args.path.now _ _ c.in-Some.ensures.cases.0 in
     let p = err_from_is_err_and c.from_residual.result c.from_residual.ensures.1 in
     down_short (λ q. fault_of q ≡ None) IsThrough c.args.thread.now c.find_directory.new.thread _ _ _ c.find_directory.result c.from_residual.result is
-    (passes_none c.find_directory.result c.from_residual.result p.0 p.1) (stops_none IsThrough c.from_residual.result p.0 p.1) c.find_directory.ensures.brings
+    (passes_none c.find_directory.result c.from_residual.result p.0 p.1) (stops_none IsThrough c.from_residual.result p.0 p.1) c.find_directory.ensures.loads
 
-pub returns-in-File-clause-brings : goal.returns-in-File-clause-brings
-returns-in-File-clause-brings g c =
+pub returns-in-File-clause-loads : goal.returns-in-File-clause-loads
+returns-in-File-clause-loads g c =
     let is = names_are (λ name. name.now) c.args.path.now _ _ c.in-Some.ensures.cases.0 in
     down_short (λ q. fault_of q ≡ None) IsThrough c.args.thread.now c.find_directory.new.thread _ _ _ c.find_directory.result _ is
-    (λ P h. on_ok c.find_directory.result c.in_ok-parent.field-0 P c.in_ok-parent.was h) (λ Q e. absurd (let k : _ = e in cc)) c.find_directory.ensures.brings
+    (λ P h. on_ok c.find_directory.result c.in_ok-parent.field-0 P c.in_ok-parent.was h) (λ Q e. absurd (let k : _ = e in cc)) c.find_directory.ensures.loads
 
-pub returns-in-Nothing-clause-brings : goal.returns-in-Nothing-clause-brings
-returns-in-Nothing-clause-brings g c =
+pub returns-in-Nothing-clause-loads : goal.returns-in-Nothing-clause-loads
+returns-in-Nothing-clause-loads g c =
     let is = names_are (λ name. name.now) c.args.path.now _ _ c.in-Some.ensures.cases.0 in
     down_short (λ q. fault_of q ≡ None) IsThrough c.args.thread.now c.find_directory.new.thread _ _ _ c.find_directory.result _ is
-    (λ P h. on_ok c.find_directory.result c.in_ok-parent.field-0 P c.in_ok-parent.was h) (λ Q e. absurd (let k : _ = e in cc)) c.find_directory.ensures.brings
+    (λ P h. on_ok c.find_directory.result c.in_ok-parent.field-0 P c.in_ok-parent.was h) (λ Q e. absurd (let k : _ = e in cc)) c.find_directory.ensures.loads

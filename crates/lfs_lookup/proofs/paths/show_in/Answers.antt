@@ -3,7 +3,7 @@ use Rattle.std.specs.Prelude.{IfSome}
 use Rattle.std.specs.List.{AllByRecursion}
 use Rattle.lfs_model.specs.InDirectory.{BeginsAt}
 use Rattle.lfs_model.specs.Slots.{address_of, same_pair}
-use Rattle.lfs_lookup.specs.Entry.{Shows}
+use Rattle.lfs_lookup.specs.Entry.{EntryShows}
 use Rattle.lfs_lookup.specs.Search.{AnswersShown}
 use Rattle.lfs_lookup.proofs.Entered.{leads_by, shown_slot, no_slot, is_somewhere, some_there}
 use Rattle.std.proofs.lemmas.Result.{err_from_is_err_and}
@@ -14,7 +14,7 @@ pub unwrap-first-requires : goal.unwrap-first-requires
 unwrap-first-requires g c =
     let t = c.args.thread.now.kept in
     let a = subst (AnswersShown t.pairs c.args.moved c.args.parent c.args.name.now) c.in-Some-default-Directory.is c.in_ok-slot.ensures.answer in
-    let shows = subst (λ e. Shows e a.stands.stands.slot.struct) c.in-Some-default-Directory.field-0-1-is a.shows in
+    let shows = subst (λ e. EntryShows e a.stands.stands.slot.struct) c.in-Some-default-Directory.field-0-1-is a.shows in
     let path = c.requires.reached.0 in
     let slot = shown_slot t c.args.moved c.requires.hiding path c.args.parent c.requires.reached.1 c.args.name.now _ _ a in
     let leads = leads_by t (path ++ c.args.name.now ∷ []) a.stands.stands.slot slot (address_of c.in-Some-default-Directory.at) shows in
@@ -26,7 +26,7 @@ pub returns-in-Some-default-Directory-clause-answer : goal.returns-in-Some-defau
 returns-in-Some-default-Directory-clause-answer g c above on =
     let t = c.args.thread.now.kept in
     let a = subst (AnswersShown t.pairs c.args.moved c.args.parent c.args.name.now) c.in-Some-default-Directory.is c.in_ok-slot.ensures.answer in
-    let shows = subst (λ e. Shows e a.stands.stands.slot.struct) c.in-Some-default-Directory.field-0-1-is a.shows in
+    let shows = subst (λ e. EntryShows e a.stands.stands.slot.struct) c.in-Some-default-Directory.field-0-1-is a.shows in
     let slot = shown_slot t c.args.moved c.requires.hiding above c.args.parent on c.args.name.now _ _ a in (
       record { above = above; name = c.args.name.now; is = refl; first = c.args.parent; on = on; stands = a.stands; kept = a.kept; slot = slot },
       record {
@@ -41,7 +41,7 @@ pub returns-in-Some-default-File-clause-answer : goal.returns-in-Some-default-Fi
 returns-in-Some-default-File-clause-answer g c above on =
     let t = c.args.thread.now.kept in
     let a = subst (AnswersShown t.pairs c.args.moved c.args.parent c.args.name.now) c.in-Some-default-File.is c.in_ok-slot.ensures.answer in
-    let shows = subst (λ e. Shows e a.stands.stands.slot.struct) c.in-Some-default-File.field-0-1-is a.shows in
+    let shows = subst (λ e. EntryShows e a.stands.stands.slot.struct) c.in-Some-default-File.field-0-1-is a.shows in
     (record { above = above; name = c.args.name.now; is = refl; first = c.args.parent; on = on; stands = a.stands; kept = a.kept; slot = shown_slot t c.args.moved c.requires.hiding above c.args.parent on c.args.name.now _ _ a }, shows)
 
 pub returns-in-None-clause-answer : goal.returns-in-None-clause-answer
@@ -50,16 +50,16 @@ returns-in-None-clause-answer g c above on =
     let absent = subst (AnswersShown t.pairs c.args.moved c.args.parent c.args.name.now) c.in-None.is c.in_ok-slot.ensures.answer in
     no_slot t c.args.moved c.requires.hiding above c.args.parent on c.args.name.now absent
 
-pub returns-in_err-slot-clause-brings : goal.returns-in_err-slot-clause-brings
-returns-in_err-slot-clause-brings g c =
+pub returns-in_err-slot-clause-loads : goal.returns-in_err-slot-clause-loads
+returns-in_err-slot-clause-loads g c =
     let p = err_from_is_err_and c.from_residual.result c.from_residual.ensures.1 in
-    along_as _ _ _ c.find_shown.result c.from_residual.result (passes_none c.find_shown.result c.from_residual.result p.0 p.1) c.find_shown.ensures.brings
+    along_as _ _ _ c.find_shown.result c.from_residual.result (passes_none c.find_shown.result c.from_residual.result p.0 p.1) c.find_shown.ensures.loads
 
-pub returns-in-Some-default-Directory-clause-brings : goal.returns-in-Some-default-Directory-clause-brings
-returns-in-Some-default-Directory-clause-brings g c = along_as _ _ _ c.find_shown.result _ (λ P h. on_ok c.find_shown.result c.in_ok-slot.field-0 P c.in_ok-slot.was h) c.find_shown.ensures.brings
+pub returns-in-Some-default-Directory-clause-loads : goal.returns-in-Some-default-Directory-clause-loads
+returns-in-Some-default-Directory-clause-loads g c = along_as _ _ _ c.find_shown.result _ (λ P h. on_ok c.find_shown.result c.in_ok-slot.field-0 P c.in_ok-slot.was h) c.find_shown.ensures.loads
 
-pub returns-in-Some-default-File-clause-brings : goal.returns-in-Some-default-File-clause-brings
-returns-in-Some-default-File-clause-brings g c = along_as _ _ _ c.find_shown.result _ (λ P h. on_ok c.find_shown.result c.in_ok-slot.field-0 P c.in_ok-slot.was h) c.find_shown.ensures.brings
+pub returns-in-Some-default-File-clause-loads : goal.returns-in-Some-default-File-clause-loads
+returns-in-Some-default-File-clause-loads g c = along_as _ _ _ c.find_shown.result _ (λ P h. on_ok c.find_shown.result c.in_ok-slot.field-0 P c.in_ok-slot.was h) c.find_shown.ensures.loads
 
-pub returns-in-None-clause-brings : goal.returns-in-None-clause-brings
-returns-in-None-clause-brings g c = along_as _ _ _ c.find_shown.result _ (λ P h. on_ok c.find_shown.result c.in_ok-slot.field-0 P c.in_ok-slot.was h) c.find_shown.ensures.brings
+pub returns-in-None-clause-loads : goal.returns-in-None-clause-loads
+returns-in-None-clause-loads g c = along_as _ _ _ c.find_shown.result _ (λ P h. on_ok c.find_shown.result c.in_ok-slot.field-0 P c.in_ok-slot.was h) c.find_shown.ensures.loads

@@ -8,24 +8,24 @@ use Rattle.lfs_model.specs.LoggedContent.{IsLogged}
 use Rattle.lfs_model.specs.WrittenContent.{FitsRaw}
 use Rattle.lfs_model.proofs.Logged.{logged}
 use Rattle.lfs_model.proofs.Completed.{complete_length, completed_parts, fits_pair, fits_raw}
-use Rattle.lfs_tag.specs.ContentSeen.{content_seen, slot_seen}
+use Rattle.lfs_tag.specs.ContentView.{content_view, slot_view}
 use Rattle.lfs_lookup.proofs.profile.fits_in_log.Goals as goal
 
 pub fit_all-fit-requires : goal.fit_all-fit-requires
 fit_all-fit-requires c =
     let is = c.requires.1.0 in
     let read = c.in_ok-content.ensures.content in
-    let same = same_Some (content_seen c.in_ok-content.content) is.raw (sym read ∙ is.log) in
-    let slots = ap (map slot_seen) c.deref-2.ensures.value ∙ ap (λ (r : RawContent). r.slots) same in
+    let same = same_Some (content_view c.in_ok-content.content) is.raw (sym read ∙ is.log) in
+    let slots = ap (map slot_view) c.deref-2.ensures.value ∙ ap (λ (r : RawContent). r.slots) same in
     (c.requires.0.slots, (ap complete_all slots ∙ (completed_parts is.raw c.requires.0 is.complete).slots, c.requires.1.1))
 
 pub returns-then-not-is_filled-clause-is : goal.returns-then-not-is_filled-clause-is
 returns-then-not-is_filled-clause-is c content is shaped =
     let read = c.in_ok-content.ensures.content in
-    let same = same_Some (content_seen c.in_ok-content.content) is.raw (sym read ∙ is.log) in
-    let slots = ap (map slot_seen) c.deref.ensures.value ∙ ap (λ (r : RawContent). r.slots) same in
+    let same = same_Some (content_view c.in_ok-content.content) is.raw (sym read ∙ is.log) in
+    let slots = ap (map slot_view) c.deref.ensures.value ∙ ap (λ (r : RawContent). r.slots) same in
     let count = complete_length is.raw.slots content.slots (completed_parts is.raw content is.complete).slots in
-    let long = sym (length-map c.deref.result.now slot_seen) ∙ ap length slots in (
+    let long = sym (length-map c.deref.result.now slot_view) ∙ ap length slots in (
       λ e. absurd (cc),
       λ w.
           let filled = c.is_filled.ensures.1 (λ f none. w.filled f (empty content.slots (count ∙ sym long ∙ none))) in
@@ -39,8 +39,8 @@ returns-then-not-is_filled-clause-is c content is shaped =
 pub returns-then-not-fits-clause-is : goal.returns-then-not-fits-clause-is
 returns-then-not-fits-clause-is c content is shaped =
     let read = c.in_ok-content.ensures.content in
-    let same = same_Some (content_seen c.in_ok-content.content) is.raw (sym read ∙ is.log) in
-    let sound = logged c.args.log.now (content_seen c.in_ok-content.content) is.bytes read in (
+    let same = same_Some (content_view c.in_ok-content.content) is.raw (sym read ∙ is.log) in
+    let sound = logged c.args.log.now (content_view c.in_ok-content.content) is.bytes read in (
       λ e. absurd (cc),
       λ w.
           let raw = fits_raw c.args.geometry.now.block_size c.args.geometry.now.page is.raw content (subst IsLogged same sound) is.complete w.pair in
@@ -51,14 +51,14 @@ returns-then-not-fits-clause-is c content is shaped =
 pub returns-clause-is : goal.returns-clause-is
 returns-clause-is c content is shaped =
     let read = c.in_ok-content.ensures.content in
-    let same = same_Some (content_seen c.in_ok-content.content) is.raw (sym read ∙ is.log) in
-    let sound = logged c.args.log.now (content_seen c.in_ok-content.content) is.bytes read in
-    let slots = ap (map slot_seen) c.deref-2.ensures.value ∙ ap (λ (r : RawContent). r.slots) same in
+    let same = same_Some (content_view c.in_ok-content.content) is.raw (sym read ∙ is.log) in
+    let sound = logged c.args.log.now (content_view c.in_ok-content.content) is.bytes read in
+    let slots = ap (map slot_view) c.deref-2.ensures.value ∙ ap (λ (r : RawContent). r.slots) same in
     let all = ap complete_all slots ∙ (completed_parts is.raw content is.complete).slots in
     let each = c.fit_all-fit.ensures content.slots all shaped in
-    let seen = ap (map slot_seen) c.deref.ensures.value ∙ ap (λ (r : RawContent). r.slots) same in
+    let seen = ap (map slot_view) c.deref.ensures.value ∙ ap (λ (r : RawContent). r.slots) same in
     let count = complete_length is.raw.slots content.slots (completed_parts is.raw content is.complete).slots in
-    let long = sym (length-map c.deref.result.now slot_seen) ∙ ap length seen in (
+    let long = sym (length-map c.deref.result.now slot_view) ∙ ap length seen in (
       λ e. record {
         pair = fits_pair c.args.geometry.now.block_size c.args.geometry.now.page is.raw content (subst IsLogged same sound) is.complete
             (subst (FitsRaw c.args.geometry.now.block_size c.args.geometry.now.page) same (c.fits.ensures.0 c.if-not-fits.false));

@@ -4,9 +4,9 @@ use Rattle.lfs_model.specs.Disk.{Disk}
 use Rattle.lfs_model.specs.Thread.{Pair, is_hard}
 use Rattle.lfs_model.specs.InDirectory.{StandsAt, PlaceAt, run_length}
 use Rattle.lfs_thread.specs.Steps.{pair_in, no_pair}
-use Rattle.lfs_lookup.specs.Entry.{Shows}
+use Rattle.lfs_lookup.specs.Entry.{EntryShows}
 use Rattle.lfs_lookup.specs.Search.{AnswersIn}
-use Rattle.lfs_lookup.proofs.ReadOnly.{only_read, told_on}
+use Rattle.lfs_lookup.proofs.ReadOnly.{only_read, reported_on}
 use Rattle.lfs_lookup.proofs.Walked.{IsWalked, Moves, moves, stays, stands_here, ended, walked_on, run_on, run_some, leads_on, leads_nowhere}
 use Rattle.lfs_lookup.proofs.search.find_name.Goals as goal
 use Rattle.lfs_lookup.proofs.search.find_name.Goals.{then-pair-first, then-pair-first-via-then-pair-first, then-pair-first-via-else-pair-first+then-id-gt0, else-pair-first+else-id-gt0}
@@ -25,13 +25,13 @@ returns-in_err-id-clause-few g c =
 pub returns-in_err-id-clause-errors : goal.returns-in_err-id-clause-errors
 returns-in_err-id-clause-errors g c =
     let p = err_from_is_err_and c.from_residual.result c.from_residual.ensures.1 in
-    told_on _ _ _ c.find_in_pair.result c.from_residual.result _ p.0 (only_read _ _ _ c.loop-id.invariant.only c.find_in_pair.ensures.reading.only) c.loop-id.invariant.no_fault c.find_in_pair.ensures.reading.told c.in_err-id.was p.1 p.2
+    reported_on _ _ _ c.find_in_pair.result c.from_residual.result _ p.0 (only_read _ _ _ c.loop-id.invariant.only c.find_in_pair.ensures.reading.only) c.loop-id.invariant.no_fault c.find_in_pair.ensures.reading.reported c.in_err-id.was p.1 p.2
 
 pub returns-in-Found-clause-answer : goal.returns-in-Found-clause-answer
 returns-in-Found-clause-answer g c =
     let inv = c.loop-id.invariant in
     let a = subst (λ o. AnswersIn c.loop-id.thread.kept.disk.order None (pair_in c.loop-id.thread.kept c.loop-id.pair).content.slots c.args.name.now o) c.in-Found.is c.in_ok-id.ensures.answer in
-    let (s, shows) = subst (λ (ps : List Pair). (s : StandsAt (slice_index_or ps c.loop-id.pair no_pair).content.slots c.args.name.now c.in-Found.id) × Shows c.in-Found.entry s.slot.struct) inv.only.pairs (a.stands, a.shows) in
+    let (s, shows) = subst (λ (ps : List Pair). (s : StandsAt (slice_index_or ps c.loop-id.pair no_pair).content.slots c.args.name.now c.in-Found.id) × EntryShows c.in-Found.entry s.slot.struct) inv.only.pairs (a.stands, a.shows) in
     stands_here c.args.thread.now.kept.pairs c.args.first c.args.name.now _ _ c.loop-id.pair c.in-Found.id no_pair inv.walked inv.below c.requires.entries c.in-Found.entry s shows
 
 pub returns-in-Found-clause-only : goal.returns-in-Found-clause-only
@@ -92,7 +92,7 @@ loop-id-preserved g c =
     let from = inv.from in
     record {
       only = only_read _ _ _ inv.only c.in_ok-id.ensures.reading.only;
-      no_fault = c.in_ok-id.ensures.reading.told.no_fault (λ e. absurd (let k : _ = e in cc)) ∙ inv.no_fault;
+      no_fault = c.in_ok-id.ensures.reading.reported.no_fault (λ e. absurd (let k : _ = e in cc)) ∙ inv.no_fault;
       works = c.in_ok-id.ensures.reading.works;
       few = omega (arith, few, once, run);
       from = omega (arith, from, next);

@@ -3,13 +3,13 @@ use Rattle.std.proofs.lemmas.Result.{err_from_is_err_and}
 use Rattle.lfs_model.specs.InDirectory.{run_length}
 use Rattle.lfs_model.specs.Thread.{Pair, is_hard}
 use Rattle.lfs_thread.specs.Steps.{pair_in, no_pair}
-use Rattle.lfs_lookup.specs.AtHand.{BringsAlong}
+use Rattle.lfs_lookup.specs.CachedPairs.{LoadsAlong}
 use Rattle.lfs_lookup.specs.Listed.{joined_run}
 use Rattle.lfs_lookup.specs.Search.{AnswersIn, IsAbsentAlong, IsAbsentBut, StandsShown}
 use Rattle.lfs_lookup.proofs.Directories.{run_hard_on, run_on as run_here_on, run_some_on}
 use Rattle.lfs_lookup.proofs.Reading.{answered, answers, both}
-use Rattle.lfs_lookup.proofs.ReadOnly.{only_read, only_itself, told_on}
-use Rattle.lfs_lookup.proofs.RecentBlocks.{brings_on, brings_to_here, brought_none, on_ok, passes_none}
+use Rattle.lfs_lookup.proofs.ReadOnly.{only_read, only_itself, reported_on}
+use Rattle.lfs_lookup.proofs.RecentBlocks.{loads_on, loads_to_here, loaded_none, on_ok, passes_none}
 use Rattle.lfs_lookup.proofs.Walked.{run_on, run_some, leads_on, leads_nowhere}
 use Rattle.lfs_lookup.proofs.ShownAlong.{IsReached, reached_first, reached_next, shown_here, absent_on, absent_end}
 use Rattle.lfs_lookup.proofs.search.find_shown.Goals as goal
@@ -20,7 +20,7 @@ loop-id-init g c = record {
   no_fault = refl;
   works = c.requires.works;
   few = omega arith;
-  along = brought_none (joined_run (drop c.args.first c.args.thread.now.kept.pairs)) c.args.thread.now;
+  along = loaded_none (joined_run (drop c.args.first c.args.thread.now.kept.pairs)) c.args.thread.now;
   from = omega arith;
   below = c.requires.below;
   reached = reached_first c.args.thread.now.kept.pairs c.args.first no_pair c.requires.below;
@@ -35,13 +35,13 @@ returns-in_err-id-clause-few g c =
     let one = run_some c.args.thread.now.kept.pairs c.loop-id.pair inv.below in
     omega (arith, f, n, one)
 
-pub returns-in_err-id-clause-brings : goal.returns-in_err-id-clause-brings
-returns-in_err-id-clause-brings g c =
+pub returns-in_err-id-clause-loads : goal.returns-in_err-id-clause-loads
+returns-in_err-id-clause-loads g c =
     let inv = c.loop-id.invariant in
     let p = err_from_is_err_and c.from_residual.result c.from_residual.ensures.1 in
     let ps = c.args.thread.now.kept.pairs in
-    brings_to_here _ _ _ (slice_index_or ps c.loop-id.pair no_pair) c.args.thread.now c.loop-id.thread c.find_in_pair.new.thread c.find_in_pair.result inv.along (run_here_on ps c.loop-id.pair no_pair inv.below)
-    (subst (λ (qs : List Pair). BringsAlong (slice_index_or qs c.loop-id.pair no_pair ∷ []) c.loop-id.thread c.find_in_pair.new.thread c.find_in_pair.result) inv.only.pairs c.find_in_pair.ensures.brings)
+    loads_to_here _ _ _ (slice_index_or ps c.loop-id.pair no_pair) c.args.thread.now c.loop-id.thread c.find_in_pair.new.thread c.find_in_pair.result inv.along (run_here_on ps c.loop-id.pair no_pair inv.below)
+    (subst (λ (qs : List Pair). LoadsAlong (slice_index_or qs c.loop-id.pair no_pair ∷ []) c.loop-id.thread c.find_in_pair.new.thread c.find_in_pair.result) inv.only.pairs c.find_in_pair.ensures.loads)
     c.from_residual.result (passes_none c.find_in_pair.result c.from_residual.result p.0 p.1)
 
 pub returns-in_err-id-clause-reading : goal.returns-in_err-id-clause-reading
@@ -51,7 +51,7 @@ returns-in_err-id-clause-reading g c =
     record {
       only = only;
       works = c.find_in_pair.ensures.reading.works;
-      told = told_on _ _ _ c.find_in_pair.result c.from_residual.result _ p.0 only c.loop-id.invariant.no_fault c.find_in_pair.ensures.reading.told c.in_err-id.was p.1 p.2;
+      reported = reported_on _ _ _ c.find_in_pair.result c.from_residual.result _ p.0 only c.loop-id.invariant.no_fault c.find_in_pair.ensures.reading.reported c.in_err-id.was p.1 p.2;
     }
 
 pub returns-in-Found-clause-answer : goal.returns-in-Found-clause-answer
@@ -63,12 +63,12 @@ returns-in-Found-clause-answer g c =
     shown_here ps c.args.moved c.args.first c.args.name.now _ (slice_index_or ps c.loop-id.pair no_pair) c.in-Found.entry inv.reached
     (subst (λ k. StandsShown k (slice_index_or ps c.loop-id.pair no_pair).content.slots c.args.name.now c.in-Found.id c.in-Found.entry) c.passed_in-skip.ensures b)
 
-pub returns-in-Found-clause-brings : goal.returns-in-Found-clause-brings
-returns-in-Found-clause-brings g c =
+pub returns-in-Found-clause-loads : goal.returns-in-Found-clause-loads
+returns-in-Found-clause-loads g c =
     let inv = c.loop-id.invariant in
     let ps = c.args.thread.now.kept.pairs in
-    brings_to_here _ _ _ (slice_index_or ps c.loop-id.pair no_pair) c.args.thread.now c.loop-id.thread c.find_in_pair.new.thread c.find_in_pair.result inv.along (run_here_on ps c.loop-id.pair no_pair inv.below)
-    (subst (λ (qs : List Pair). BringsAlong (slice_index_or qs c.loop-id.pair no_pair ∷ []) c.loop-id.thread c.find_in_pair.new.thread c.find_in_pair.result) inv.only.pairs c.find_in_pair.ensures.brings)
+    loads_to_here _ _ _ (slice_index_or ps c.loop-id.pair no_pair) c.args.thread.now c.loop-id.thread c.find_in_pair.new.thread c.find_in_pair.result inv.along (run_here_on ps c.loop-id.pair no_pair inv.below)
+    (subst (λ (qs : List Pair). LoadsAlong (slice_index_or qs c.loop-id.pair no_pair ∷ []) c.loop-id.thread c.find_in_pair.new.thread c.find_in_pair.result) inv.only.pairs c.find_in_pair.ensures.loads)
     _ (λ P h. on_ok c.find_in_pair.result c.in_ok-id.field-0 P c.in_ok-id.was h)
 
 pub returns-in-Found-clause-reading : goal.returns-in-Found-clause-reading
@@ -76,12 +76,12 @@ returns-in-Found-clause-reading g c =
     let inv = c.loop-id.invariant in
     answers _ _ _ _ refl (both _ _ _ (record { only = inv.only; works = inv.works; same = inv.no_fault }) (answered _ _ c.find_in_pair.result c.in_ok-id.field-0 c.in_ok-id.was c.find_in_pair.ensures.reading))
 
-pub returns-in-None-clause-brings : goal.returns-in-None-clause-brings
-returns-in-None-clause-brings g c =
+pub returns-in-None-clause-loads : goal.returns-in-None-clause-loads
+returns-in-None-clause-loads g c =
     let inv = c.loop-id.invariant in
     let ps = c.args.thread.now.kept.pairs in
-    brings_to_here _ _ _ (slice_index_or ps c.loop-id.pair no_pair) c.args.thread.now c.loop-id.thread c.find_in_pair.new.thread c.find_in_pair.result inv.along (run_here_on ps c.loop-id.pair no_pair inv.below)
-    (subst (λ (qs : List Pair). BringsAlong (slice_index_or qs c.loop-id.pair no_pair ∷ []) c.loop-id.thread c.find_in_pair.new.thread c.find_in_pair.result) inv.only.pairs c.find_in_pair.ensures.brings)
+    loads_to_here _ _ _ (slice_index_or ps c.loop-id.pair no_pair) c.args.thread.now c.loop-id.thread c.find_in_pair.new.thread c.find_in_pair.result inv.along (run_here_on ps c.loop-id.pair no_pair inv.below)
+    (subst (λ (qs : List Pair). LoadsAlong (slice_index_or qs c.loop-id.pair no_pair ∷ []) c.loop-id.thread c.find_in_pair.new.thread c.find_in_pair.result) inv.only.pairs c.find_in_pair.ensures.loads)
     _ (λ P h. on_ok c.find_in_pair.result c.in_ok-id.field-0 P c.in_ok-id.was h)
 
 pub returns-in-None-clause-reading : goal.returns-in-None-clause-reading
@@ -119,12 +119,12 @@ loop-id-preserved g c =
     let from = inv.from in
     record {
       only = only_read _ _ _ inv.only c.in_ok-id.ensures.reading.only;
-      no_fault = c.in_ok-id.ensures.reading.told.no_fault (λ e. absurd (let k : _ = e in cc)) ∙ inv.no_fault;
+      no_fault = c.in_ok-id.ensures.reading.reported.no_fault (λ e. absurd (let k : _ = e in cc)) ∙ inv.no_fault;
       works = c.in_ok-id.ensures.reading.works;
       few = omega (arith, few, once, run);
-      along = brings_on _ _ _ (slice_index_or ps c.loop-id.pair no_pair) c.args.thread.now c.loop-id.thread c.find_in_pair.new.thread c.find_in_pair.result inv.along
+      along = loads_on _ _ _ (slice_index_or ps c.loop-id.pair no_pair) c.args.thread.now c.loop-id.thread c.find_in_pair.new.thread c.find_in_pair.result inv.along
           (run_hard_on ps c.loop-id.pair c.in-Some.next no_pair inv.below hard next)
-          (subst (λ (qs : List Pair). BringsAlong (slice_index_or qs c.loop-id.pair no_pair ∷ []) c.loop-id.thread c.find_in_pair.new.thread c.find_in_pair.result) inv.only.pairs c.find_in_pair.ensures.brings)
+          (subst (λ (qs : List Pair). LoadsAlong (slice_index_or qs c.loop-id.pair no_pair ∷ []) c.loop-id.thread c.find_in_pair.new.thread c.find_in_pair.result) inv.only.pairs c.find_in_pair.ensures.loads)
           c.in_ok-id.field-0 c.in_ok-id.was c.find_in_pair.ensures.reading.only.disk (run_some_on ps c.in-Some.next no_pair behind);
       from = omega (arith, from, next);
       below = behind;

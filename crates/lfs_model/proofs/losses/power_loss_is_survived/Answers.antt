@@ -1,9 +1,9 @@
 use Rattle.std.proofs.Common.{◌≡◌, ◌⊎◌, inl, inr, List, [], ◌∷◌, ◌++◌, refl, sym, ap, subst, ◌∙◌}
 use Rattle.lfs_model.specs.Operations.{Operation, Reply}
-use Rattle.lfs_model.specs.Outages.{tree_behind}
-use Rattle.lfs_model.specs.Run.{AreTurns, Moment}
+use Rattle.lfs_model.specs.RepeatedPowerLoss.{tree_behind}
+use Rattle.lfs_model.specs.Run.{AreSessionSteps, SystemState}
 use Rattle.lfs_model.specs.Session.{Session}
-use Rattle.lfs_model.specs.examples.Runs.{fresh_moment}
+use Rattle.lfs_model.specs.examples.Runs.{fresh_system}
 use Rattle.lfs_model.specs.Tree.{Tree}
 use Rattle.lfs_model.specs.Fresh.{empty_tree}
 use Rattle.lfs_model.specs.State.{State, HasFailed, Healthy, mounted}
@@ -34,7 +34,7 @@ none_done [] [] e = (refl, refl)
 none_done [] (op ∷ others) e = absurd (cc)
 none_done (op ∷ done) others e = absurd (cc)
 
-still_at : (from at : Moment) (replies : List Reply) → AreTurns from [] replies at → from ≡ at
+still_at : (from at : SystemState) (replies : List Reply) → AreSessionSteps from [] replies at → from ≡ at
 still_at from at [] h = h
 still_at from at (reply ∷ replies) h = absurd h
 
@@ -49,8 +49,8 @@ pub returns-clause-none_begun : goal.returns-clause-none_begun
 returns-clause-none_begun c = λ left s.
     let cut = s.cut in
     let none = none_done cut.done cut.others cut.are in
-    let at = still_at fresh_moment cut.at cut.replies (subst (λ os. AreTurns fresh_moment os cut.replies cut.at) none.0 cut.turns) in
-    let session = same_session (mounted empty_tree) cut.session (ap (λ (m : Moment). m.state) at ∙ cut.work.healthy) in
+    let at = still_at fresh_system cut.at cut.replies (subst (λ os. AreSessionSteps fresh_system os cut.replies cut.at) none.0 cut.session_steps) in
+    let session = same_session (mounted empty_tree) cut.session (ap (λ (m : SystemState). m.state) at ∙ cut.work.healthy) in
     let tree = ap (λ (z : Session). z.tree) (sym session) in
     by_either s.tree cut.session.tree (tree_behind cut.around cut.session cut.others) (ap (tree_behind cut.around cut.session) none.1) s.either ∙ tree
   where

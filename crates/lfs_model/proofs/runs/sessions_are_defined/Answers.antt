@@ -2,16 +2,16 @@ use Rattle.std.proofs.Common.{refl, sym}
 use Rattle.lfs_model.specs.Fresh.{empty_tree}
 use Rattle.lfs_model.specs.State.{mounted}
 use Rattle.lfs_model.specs.examples.Images.{small_image}
-use Rattle.lfs_model.specs.examples.Runs.{fresh_moment}
+use Rattle.lfs_model.specs.examples.Runs.{fresh_system}
 use Rattle.lfs_model.proofs.Fresh.{shows, writable}
 use Rattle.lfs_model.proofs.Example.{fresh}
 use Rattle.lfs_model.proofs.FreshSession.{pairs, are_accepted, none_accepted}
-use Rattle.lfs_model.proofs.AskedTurn.{turn}
+use Rattle.lfs_model.proofs.AskedStep.{turn}
 use Rattle.lfs_model.proofs.Kept.{session_shows}
 use Rattle.lfs_model.proofs.runs.sessions_are_defined.Goals as goal
 
 pub returns-clause-fresh : goal.returns-clause-fresh
-returns-clause-fresh c = record { from = fresh_moment; fresh = fresh; mounts = refl; turns = (fresh_moment, (turn, refl)) }
+returns-clause-fresh c = record { from = fresh_system; fresh = fresh; mounts = refl; session_steps = (fresh_system, (turn, refl)) }
 
 pub returns-clause-shown : goal.returns-clause-shown
 returns-clause-shown c = record { session = mounted empty_tree; healthy = refl; shows = (pairs, (are_accepted, sym (shows small_image))) }
@@ -20,7 +20,7 @@ pub returns-clause-failed : goal.returns-clause-failed
 returns-clause-failed c = λ h. absurd (let e = h.healthy in cc)
 
 pub returns-clause-kept : goal.returns-clause-kept
-returns-clause-kept c = session_shows fresh_moment fresh_moment _ _ (returns-clause-shown c) (fresh_moment, (turn, refl))
+returns-clause-kept c = session_shows fresh_system fresh_system _ _ (returns-clause-shown c) (fresh_system, (turn, refl))
 
 pub returns-clause-lost : goal.returns-clause-lost
 returns-clause-lost c = λ h. returns-clause-failed c h.shows

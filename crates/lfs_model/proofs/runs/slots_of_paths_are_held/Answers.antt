@@ -2,7 +2,7 @@ use Rattle.std.proofs.Common.{◌⊎◌, inl, inr, [], ◌∷◌, refl, arith}
 use Rattle.std.specs.Prelude.{codes, Any}
 use Rattle.lfs_model.specs.Slots.{Slot}
 use Rattle.lfs_model.specs.SlotEdits.{new_file}
-use Rattle.lfs_model.specs.Discipline.{IsNamed}
+use Rattle.lfs_model.specs.Frame.{IsNamed}
 use Rattle.lfs_model.specs.Fresh.{superblock_slot}
 use Rattle.lfs_model.proofs.Sites.{among_from, any_from}
 use Rattle.lfs_model.proofs.runs.slots_of_paths_are_held.Goals as goal

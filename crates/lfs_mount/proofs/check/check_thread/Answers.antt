@@ -4,8 +4,8 @@ use Rattle.std.proofs.lemmas.Result.{err_from_is_err_and}
 use Rattle.lfs_device.specs.Shown.{ordered}
 use Rattle.lfs_model.specs.Thread.{gstate_of}
 use Rattle.lfs_thread.specs.Kept.{disk_on}
-use Rattle.lfs_mount.specs.DirectorySeen.{graph_of}
-use Rattle.lfs_mount.specs.Directories.{Shows}
+use Rattle.lfs_mount.specs.DirectoryView.{graph_of}
+use Rattle.lfs_mount.specs.Directories.{GraphShows}
 use Rattle.lfs_mount.specs.declared.pass.Member.{Member}
 use Rattle.lfs_mount.specs.declared.reaching.Directory.{Directory}
 use Rattle.lfs_mount.proofs.Called.{same_error}
@@ -44,7 +44,7 @@ returns-clause-ok g c = λ order chain p rest known.
     let graph = graph_of order c.in_ok-directories.directories.items in
     let passes = c.in_ok-directories.ensures.taken order in
     let shows = known_drawn disk c.args.map.now c.args.places.now c.args.members.now c.args.sync chain p rest graph c.take_pairs.new.map known passes in
-    let right = c.in_ok-orders.ensures.right order (chain ++ p ∷ rest) (subst (λ (ds : List Directory). Shows order (graph_of order ds) c.args.sync (chain ++ p ∷ rest)) (sym c.deref.ensures.value) shows) in
+    let right = c.in_ok-orders.ensures.right order (chain ++ p ∷ rest) (subst (λ (ds : List Directory). GraphShows order (graph_of order ds) c.args.sync (chain ++ p ∷ rest)) (sym c.deref.ensures.value) shows) in
     record {
       moved = checked_moved disk c.args.map.now c.args.places.now c.args.members.now c.args.sync chain p rest graph c.take_pairs.new.map known passes;
       marked = λ bytes head. checked_blocks disk c.args.map.now c.args.places.now c.args.members.now c.args.sync chain p rest bytes graph c.take_pairs.new.map known head passes;

@@ -1,7 +1,7 @@
 use Rattle.std.proofs.Common.{sym, ap, ap₂, subst, subst₂, ◌∙◌}
 use Rattle.lfs_device.specs.Shown.{ordered}
 use Rattle.lfs_model.specs.declared.order.NameOrder.{NameOrder}
-use Rattle.lfs_thread.specs.Kept.{IsCurrent, Kept, WasKept, disk_on, seen}
+use Rattle.lfs_thread.specs.Kept.{IsCurrent, Kept, WasKept, disk_on, kept_view}
 use Rattle.lfs_mount.specs.ReadImage.{in_order}
 use Rattle.lfs_mount.proofs.InOrders.{kept_in}
 use Rattle.lfs_mount.proofs.ReadImages.{one_state, was_kept}
@@ -24,6 +24,6 @@ returns g c =
     let parts = c.into_parts-parts.result in
     one_state c.from_parts.result (in_order c.args.order c.args.thread) (c.from_parts.ensures.works ∙ sym c.requires.works)
     (c.from_parts.ensures.kept
-    ∙ ap₂ (λ inner (order : NameOrder). seen (ordered order (disk_on g.D.BlockDevice inner)) (g.D.BlockDevice.history inner) parts.pairs.items parts.map) c.new.ensures.inner c.new.ensures.order
+    ∙ ap₂ (λ inner (order : NameOrder). kept_view (ordered order (disk_on g.D.BlockDevice inner)) (g.D.BlockDevice.history inner) parts.pairs.items parts.map) c.new.ensures.inner c.new.ensures.order
     ∙ ap (λ (k : Kept). record k { disk = ordered c.args.order k.disk }) c.into_parts-parts.ensures.same)
     (c.from_parts.ensures.cache ∙ c.into_parts-parts.ensures.cache)

@@ -7,7 +7,7 @@ use Rattle.lfs_device.specs.Shown.{ordered}
 use Rattle.lfs_thread.specs.Kept.{Header, disk_on}
 use Rattle.lfs_mount.proofs.Heads.{active_within, begun, ends, fails, halts, head_is, last_is, more, passes, refused_first, refused_none, same_block, step_at, within}
 use Rattle.lfs_mount.proofs.InOrders.{has_headers_in}
-use Rattle.lfs_mount.proofs.Told.{same_error, tells_error, tells_ok, then_reads}
+use Rattle.lfs_mount.proofs.Reported.{same_error, reports_error, reports_ok, then_reads}
 use Rattle.lfs_mount.proofs.head.count_superblocks.Goals as goal
 
 pub returns-in_err-first-clause-corrupt : goal.returns-in_err-first-clause-corrupt
@@ -96,7 +96,7 @@ returns-in_err-repeats_at-clause-device g c = then_reads c.loop-index.invariant.
 pub returns-in_err-repeats_at-clause-faults : goal.returns-in_err-repeats_at-clause-faults
 returns-in_err-repeats_at-clause-faults g c =
     let e = err_from_is_err_and c.from_residual-in_err-repeats_at.result c.from_residual-in_err-repeats_at.ensures.1 in
-    tells_error e.1 e.2 c.loop-index.invariant.no_fault c.in_err-repeats_at.ensures.faults
+    reports_error e.1 e.2 c.loop-index.invariant.no_fault c.in_err-repeats_at.ensures.faults
 
 pub returns-then-not-branch-clause-head : goal.returns-then-not-branch-clause-head
 returns-then-not-branch-clause-head g c =
@@ -117,7 +117,7 @@ pub returns-then-not-branch-clause-device : goal.returns-then-not-branch-clause-
 returns-then-not-branch-clause-device g c = then_reads c.loop-index.invariant.device c.in_ok-repeats_at.ensures.device
 
 pub returns-then-not-branch-clause-faults : goal.returns-then-not-branch-clause-faults
-returns-then-not-branch-clause-faults g c = tells_ok (c.in_ok-repeats_at.ensures.faults.no_fault (λ e. absurd (cc)) ∙ c.loop-index.invariant.no_fault)
+returns-then-not-branch-clause-faults g c = reports_ok (c.in_ok-repeats_at.ensures.faults.no_fault (λ e. absurd (cc)) ∙ c.loop-index.invariant.no_fault)
 
 pub loop-index-preserved : goal.loop-index-preserved
 loop-index-preserved g c =
@@ -153,4 +153,4 @@ pub returns-clause-device : goal.returns-clause-device
 returns-clause-device g c = c.loop-index.invariant.device
 
 pub returns-clause-faults : goal.returns-clause-faults
-returns-clause-faults g c = tells_ok c.loop-index.invariant.no_fault
+returns-clause-faults g c = reports_ok c.loop-index.invariant.no_fault

@@ -8,10 +8,10 @@ use Rattle.lfs_model.specs.BlockSets.{BlockSets}
 use Rattle.lfs_model.specs.Disk.{Disk}
 use Rattle.lfs_model.specs.History.{faults, reads}
 use Rattle.lfs_thread.specs.Kept.{disk_on}
-use Rattle.lfs_mount.specs.ListsSeen.{lists_seen}
+use Rattle.lfs_mount.specs.ListsView.{lists_view}
 use Rattle.lfs_mount.specs.Marking.{MarksList, MarksLists}
 use Rattle.lfs_mount.specs.Reads.{list_reads}
-use Rattle.lfs_mount.proofs.Called.{same_error, read_on, quiet, told_on}
+use Rattle.lfs_mount.proofs.Called.{same_error, read_on, quiet, reported_on}
 use Rattle.lfs_mount.proofs.MarkedLists.{lists_stay, lists_more, lists_fail}
 use Rattle.lfs_mount.proofs.ReadCounts.{reads_more, reads_stay}
 use Rattle.lfs_mount.proofs.lists.mark_lists.Goals as goal
@@ -33,13 +33,13 @@ returns-in_err-mark_list-clause-device g c = read_on g.D.BlockDevice c.loop-slot
 pub returns-in_err-mark_list-clause-faults : goal.returns-in_err-mark_list-clause-faults
 returns-in_err-mark_list-clause-faults g c =
     let p = err_from_is_err_and c.from_residual.result c.from_residual.ensures.1 in
-    told_on g.D.BlockDevice p.1 p.2 c.loop-slot.invariant.quiet c.in_err-mark_list.ensures.faults
+    reported_on g.D.BlockDevice p.1 p.2 c.loop-slot.invariant.quiet c.in_err-mark_list.ensures.faults
 
 pub loop-slot-preserved : goal.loop-slot-preserved
 loop-slot-preserved g c =
     let at = slice_get_read c.args.slots.now _ c.loop-slot.slot-index c.slot-item.result refl c.loop-slot-test.true c.slot-item.is in
     let disk = disk_on g.D.BlockDevice c.args.device.now in
-    let lists = lists_seen (take (c.loop-slot.slot-index + 1) c.args.slots.now) in
+    let lists = lists_view (take (c.loop-slot.slot-index + 1) c.args.slots.now) in
     elim c.match-list_of.branch [
       | in-Some+in_ok-mark_list w ↦
           let same = ap₂ disk_of c.loop-slot.invariant.device.geometry c.loop-slot.invariant.device.same in

@@ -5,7 +5,7 @@ use Rattle.lfs_device.specs.Shown.{disk_of, ordered}
 use Rattle.lfs_model.specs.Disk.{Disk}
 use Rattle.lfs_model.specs.History.{reads}
 use Rattle.lfs_model.specs.Slots.{Gstate}
-use Rattle.lfs_tag.specs.FieldsSeen.{move_seen}
+use Rattle.lfs_tag.specs.FieldsView.{move_view}
 use Rattle.lfs_thread.specs.Kept.{Header, disk_on, pairs_on}
 use Rattle.lfs_mount.specs.Accepted.{HasImage}
 use Rattle.lfs_mount.specs.Members.{AreDirectories, members_in}
@@ -16,7 +16,7 @@ use Rattle.lfs_mount.proofs.KnownMoves.{directories_within}
 use Rattle.lfs_mount.proofs.KnownThread.{directories_are}
 use Rattle.lfs_mount.proofs.MountReads.{directories_read}
 use Rattle.lfs_mount.proofs.Mounts.{has_image, move_refuses, none_accepted, pairs_refuse}
-use Rattle.lfs_mount.proofs.Told.{same_error, then_reads}
+use Rattle.lfs_mount.proofs.Reported.{same_error, then_reads}
 use Rattle.lfs_mount.proofs.mounting.check_image.Goals as goal
 
 pub returns-in_err-count-clause-corrupt : goal.returns-in_err-count-clause-corrupt
@@ -35,7 +35,7 @@ pub returns-in_err-check_move-clause-corrupt : goal.returns-in_err-check_move-cl
 returns-in_err-check_move-clause-corrupt g c = λ is order.
     let disk : Disk = disk_on g.D.BlockDevice c.args.device.now in
     let history = g.D.BlockDevice.history c.args.device.now in
-    let state : Gstate = move_seen c.args.state.now in
+    let state : Gstate = move_view c.args.state.now in
     move_refuses (ordered order disk) history c.args.pairs.now c.args.map.now state c.in_ok-count.count (read_in order disk history c.args.pairs.now c.args.map.now state c.requires)
     (head_in order disk c.args.pairs.now c.in_ok-count.count c.in_ok-count.ensures.head)
     c.pairs_from-directories.result.now c.pairs_from-directories.ensures c.in_err-check_move.ensures.refused
@@ -47,7 +47,7 @@ check_directories-requires g c =
     let history = g.D.BlockDevice.history c.args.device.now in
     let read = c.in_ok-count.ensures.device in
     let same : now ≡ disk = ap₂ disk_of read.geometry read.same in
-    let state : Gstate = move_seen c.args.state.now in
+    let state : Gstate = move_view c.args.state.now in
     subst (λ d. AreDirectories d c.args.map.now state c.pairs_from-directories.result.now) (sym same)
     (subst (λ xs. AreDirectories disk c.args.map.now state xs) (sym c.pairs_from-directories.ensures)
     (directories_are disk history c.args.pairs.now c.args.map.now state c.in_ok-count.count c.requires c.in_ok-count.ensures.head))
@@ -59,7 +59,7 @@ returns-in_err-orders-clause-corrupt g c = λ is order.
     let history = g.D.BlockDevice.history c.args.device.now in
     let read = c.in_ok-count.ensures.device in
     let e = err_from_is_err_and c.from_residual-in_err-orders.result c.from_residual-in_err-orders.ensures.1 in
-    let state : Gstate = move_seen c.args.state.now in
+    let state : Gstate = move_view c.args.state.now in
     pairs_refuse (ordered order disk) history c.args.pairs.now c.args.map.now state c.in_ok-count.count (read_in order disk history c.args.pairs.now c.args.map.now state c.requires)
     (head_in order disk c.args.pairs.now c.in_ok-count.count c.in_ok-count.ensures.head)
     (ordered order now) (ap (ordered order) (ap₂ disk_of read.geometry read.same)) c.pairs_from-directories.result.now c.pairs_from-directories.ensures (c.in_err-orders.ensures.corrupt (ap Err (same_error e.1 e.2 is)) order)
@@ -73,7 +73,7 @@ returns-clause-image g c = λ order.
     let now : Disk = disk_on g.D.BlockDevice c.count_superblocks.new.dev in
     let history = g.D.BlockDevice.history c.args.device.now in
     let read = c.in_ok-count.ensures.device in
-    let state : Gstate = move_seen c.args.state.now in
+    let state : Gstate = move_view c.args.state.now in
     subst (HasImage (ordered order disk) c.args.pairs.now (has_order order c.in_ok-orders.orders) c.args.map.now) (sym c.go_on_elsewhere.ensures.same)
     (has_image (ordered order disk) history c.args.pairs.now c.args.map.now state c.in_ok-count.count (read_in order disk history c.args.pairs.now c.args.map.now state c.requires)
     (head_in order disk c.args.pairs.now c.in_ok-count.count c.in_ok-count.ensures.head)
@@ -88,7 +88,7 @@ unfolding returns-clause-image
 returns-clause-few g c = λ order fits.
     let disk : Disk = disk_on g.D.BlockDevice c.args.device.now in
     let history = g.D.BlockDevice.history c.args.device.now in
-    let state : Gstate = move_seen c.args.state.now in
+    let state : Gstate = move_view c.args.state.now in
     let image : HasImage (ordered order disk) c.args.pairs.now (has_order order c.in_ok-orders.orders) c.args.map.now c.go_on_elsewhere.new.map = returns-clause-image g c order in
     let read = c.in_ok-count.ensures.device in
     let first = c.in_ok-count.ensures.reads in

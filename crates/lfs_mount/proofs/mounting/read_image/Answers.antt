@@ -7,12 +7,12 @@ use Rattle.lfs_model.specs.Content.{content_at}
 use Rattle.lfs_model.specs.Thread.{IsThread}
 use Rattle.lfs_model.specs.View.{IsAccepted}
 use Rattle.lfs_model.proofs.Histories.{OnlyReads-trans, reads-since}
-use Rattle.lfs_tag.specs.FieldsSeen.{move_seen}
+use Rattle.lfs_tag.specs.FieldsView.{move_view}
 use Rattle.lfs_thread.specs.Kept.{IsCurrent, Kept, disk_on}
 use Rattle.lfs_mount.specs.ReadImage.{in_order}
 use Rattle.lfs_mount.specs.Reads.{mount_reads}
 use Rattle.lfs_mount.proofs.MountReads.{mount_few, some_pair}
-use Rattle.lfs_mount.proofs.Mounted.{disk_now, given_back, is_mounted, kept_again, ok_tells, read_is}
+use Rattle.lfs_mount.proofs.Mounted.{disk_now, given_back, is_mounted, kept_again, ok_reports, read_is}
 use Rattle.std.proofs.lemmas.Result.{err_from_is_err_and}
 use Rattle.lfs_mount.proofs.mounting.read_image.Goals as goal
 
@@ -23,7 +23,7 @@ check_image-requires g c =
     let old : Disk = disk_on g.D.BlockDevice c.args.device in
     let disk : Disk = disk_on g.D.BlockDevice parts.result.device in
     read_is old disk (g.D.BlockDevice.geometry c.args.device).block_count (g.D.BlockDevice.history parts.result.device) c.deref.result.now parts.result.pairs.items parts.result.map
-    (move_seen c.state-state.result) c.in_ok-thread.thread.kept parts.ensures.same c.deref.ensures.value read.disk (g.met.D.BlockDevice.shape c.args.device).count
+    (move_view c.state-state.result) c.in_ok-thread.thread.kept parts.ensures.same c.deref.ensures.value read.disk (g.met.D.BlockDevice.shape c.args.device).count
     parts.ensures.kept read.thread read.used read.none_in_flight c.state-state.ensures
 
 pub from_parts-requires-clause-kept : goal.from_parts-requires-clause-kept
@@ -51,7 +51,7 @@ returns-in-Ok-clause-read g c =
     let later = g.D.BlockDevice.history c.check_image.new.device in
     let from : disk ≡ old = ap (λ (k : Kept). k.disk) parts.ensures.same ∙ read.disk in
     let before : OnlyReads old.blocks first history = subst (λ (k : Kept). OnlyReads old.blocks first k.history) (sym parts.ensures.same) read.only in
-    let quiet : faults later ≡ faults first = ok_tells c.in-Ok.ensures.errors.faults ∙ ap (λ (k : Kept). faults k.history) parts.ensures.same ∙ read.no_fault in
+    let quiet : faults later ≡ faults first = ok_reports c.in-Ok.ensures.errors.faults ∙ ap (λ (k : Kept). faults k.history) parts.ensures.same ∙ read.no_fault in
     let kept = c.from_parts.ensures.kept in
     record {
       works = c.from_parts.ensures.works;

@@ -14,9 +14,9 @@ use Rattle.lfs_mount.proofs.ReadCounts.{takes_lists}
 use Rattle.lfs_model.specs.Content.{RawContent, RawSlot, content_after_all, no_content}
 use Rattle.lfs_model.specs.Names.{Name}
 use Rattle.lfs_model.specs.Log.{log_entries}
-use Rattle.lfs_tag.specs.ContentSeen.{content_seen, slot_seen}
-use Rattle.lfs_mount.specs.KnownSeen.{known_seen}
-use Rattle.lfs_mount.specs.ListsSeen.{lists_seen}
+use Rattle.lfs_tag.specs.ContentView.{content_view, slot_view}
+use Rattle.lfs_mount.specs.KnownView.{known_view}
+use Rattle.lfs_mount.specs.ListsView.{lists_view}
 use Rattle.lfs_mount.specs.Marking.{MarksLists, lists_in}
 use Rattle.lfs_mount.specs.Scanned.{scanned}
 use Rattle.lfs_mount.specs.Taken.{Takes, behind_superblock, kept_of}
@@ -46,10 +46,10 @@ returns-in_err-mark_lists-clause-corrupt g c = λ is order new sets t.
     let e = err_from_is_err_and c.from_residual-in_err-mark_lists.result c.from_residual-in_err-mark_lists.ensures.1 in
     let content = ap (λ b. content_after_all no_content (log_entries b)) (sym (c.read-log.ensures ∙ c.deref.ensures.value ∙ c.in_ok-bytes.ensures.bytes)) ∙ c.in_ok-slots.ensures.content in
     let kept = ap (option_and_then (behind_superblock c.args.member.now.has_superblock)) c.in_ok-take_moved.ensures.ok ∙ c.in_ok-take_superblock.ensures.ok in
-    let lists = lists_taken (ordered order disk) c.args.places.now c.args.member.now (known_seen order c.args.known.now) new c.args.map.now sets (content_seen c.in_ok-slots.field-0) (map slot_seen c.take_superblock.new.slots.items) content kept t in
+    let lists = lists_taken (ordered order disk) c.args.places.now c.args.member.now (known_view order c.args.known.now) new c.args.map.now sets (content_view c.in_ok-slots.field-0) (map slot_view c.take_superblock.new.slots.items) content kept t in
     c.in_err-mark_lists.ensures.corrupt (ap Err (same_error e.1 e.2 is)) sets
-    (subst (λ d. MarksLists d c.args.map.now (lists_seen c.deref-3.result.now) sets) (sym (ap₂ disk_of c.in_ok-bytes.ensures.device.geometry c.in_ok-bytes.ensures.device.same))
-    (subst (λ ls. MarksLists disk c.args.map.now ls sets) (sym (ap lists_seen c.deref-3.ensures.value)) (lists_without_order order disk lists)))
+    (subst (λ d. MarksLists d c.args.map.now (lists_view c.deref-3.result.now) sets) (sym (ap₂ disk_of c.in_ok-bytes.ensures.device.geometry c.in_ok-bytes.ensures.device.same))
+    (subst (λ ls. MarksLists disk c.args.map.now ls sets) (sym (ap lists_view c.deref-3.ensures.value)) (lists_without_order order disk lists)))
 
 pub returns-in_err-mark_lists-clause-device : goal.returns-in_err-mark_lists-clause-device
 returns-in_err-mark_lists-clause-device g c = read_on g.D.BlockDevice c.in_ok-bytes.ensures.device c.in_err-mark_lists.ensures.device
@@ -59,14 +59,14 @@ returns-clause-device g c = read_on g.D.BlockDevice c.in_ok-bytes.ensures.device
 
 pub returns-clause-taken : goal.returns-clause-taken
 returns-clause-taken g c = λ order. record {
-  held = content_seen c.in_ok-slots.field-0;
+  held = content_view c.in_ok-slots.field-0;
   content = ap (λ b. content_after_all no_content (log_entries b)) (sym (c.read-log.ensures ∙ c.deref.ensures.value ∙ c.in_ok-bytes.ensures.bytes)) ∙ c.in_ok-slots.ensures.content;
-  entries = map slot_seen c.take_superblock.new.slots.items;
+  entries = map slot_view c.take_superblock.new.slots.items;
   kept = ap (option_and_then (behind_superblock c.args.member.now.has_superblock)) c.in_ok-take_moved.ensures.ok ∙ c.in_ok-take_superblock.ensures.ok;
-  scan = ap (λ xs. scanned order c.args.places.now (known_seen order c.args.known.now) (map slot_seen xs)) (sym c.deref-2.ensures.value) ∙ c.in_ok-scan.ensures.ok order;
+  scan = ap (λ xs. scanned order c.args.places.now (known_view order c.args.known.now) (map slot_view xs)) (sym c.deref-2.ensures.value) ∙ c.in_ok-scan.ensures.ok order;
   lists = lists_in_order order (disk_on g.D.BlockDevice c.args.device.now) (subst (λ ls. MarksLists (disk_on g.D.BlockDevice c.args.device.now) c.args.map.now ls c.mark_lists.new.map)
-      (ap lists_seen c.deref-3.ensures.value)
-      (subst (λ d. MarksLists d c.args.map.now (lists_seen c.deref-3.result.now) c.mark_lists.new.map) (ap₂ disk_of c.in_ok-bytes.ensures.device.geometry c.in_ok-bytes.ensures.device.same) c.in_ok-mark_lists.ensures.marked));
+      (ap lists_view c.deref-3.ensures.value)
+      (subst (λ d. MarksLists d c.args.map.now (lists_view c.deref-3.result.now) c.mark_lists.new.map) (ap₂ disk_of c.in_ok-bytes.ensures.device.geometry c.in_ok-bytes.ensures.device.same) c.in_ok-mark_lists.ensures.marked));
 }
 
 pub returns-clause-few : goal.returns-clause-few
@@ -74,11 +74,11 @@ unfolding returns-clause-taken
 returns-clause-few g c =
     let disk = disk_on g.D.BlockDevice c.args.device.now in
     let t = returns-clause-taken g c disk.order in
-    let lists : lists_at disk c.args.member.now ≡ lists_seen c.take_superblock.new.slots.items = takes_lists disk c.args.places.now c.args.member.now (known_seen disk.order c.args.known.now) _ c.args.map.now c.mark_lists.new.map t in
+    let lists : lists_at disk c.args.member.now ≡ lists_view c.take_superblock.new.slots.items = takes_lists disk c.args.places.now c.args.member.now (known_view disk.order c.args.known.now) _ c.args.map.now c.mark_lists.new.map t in
     let sum = ap (sum_by (list_reads disk.block_size)) lists in
     let bytes = ap reads c.in_ok-bytes.ensures.ok in
-    let these = subst (λ n. reads (g.D.BlockDevice.history c.mark_lists.new.device) ≤ reads (g.D.BlockDevice.history c.read_block.new.device) + sum_by (list_reads n) (lists_seen c.deref-3.result.now))
+    let these = subst (λ n. reads (g.D.BlockDevice.history c.mark_lists.new.device) ≤ reads (g.D.BlockDevice.history c.read_block.new.device) + sum_by (list_reads n) (lists_view c.deref-3.result.now))
     (ap (λ (k : Geometry). k.block_size) c.in_ok-bytes.ensures.device.geometry) (c.in_ok-mark_lists.ensures.few) in
-    let same : sum_by (list_reads disk.block_size) (lists_seen c.deref-3.result.now) ≡ sum_by (list_reads disk.block_size) (lists_seen c.take_superblock.new.slots.items) =
-    ap (λ ss. sum_by (list_reads disk.block_size) (lists_seen ss)) c.deref-3.ensures.value in
+    let same : sum_by (list_reads disk.block_size) (lists_view c.deref-3.result.now) ≡ sum_by (list_reads disk.block_size) (lists_view c.take_superblock.new.slots.items) =
+    ap (λ ss. sum_by (list_reads disk.block_size) (lists_view ss)) c.deref-3.ensures.value in
     omega arith

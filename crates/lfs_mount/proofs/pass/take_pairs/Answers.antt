@@ -8,8 +8,8 @@ use Rattle.lfs_mount.specs.Reads.{pair_reads}
 use Rattle.lfs_device.specs.Shown.{disk_of, ordered}
 use Rattle.lfs_model.specs.Disk.{Disk}
 use Rattle.lfs_model.specs.declared.order.NameOrder.{NameOrder}
-use Rattle.lfs_mount.specs.DirectorySeen.{vertex_of, graph_of}
-use Rattle.lfs_mount.specs.KnownSeen.{known_seen}
+use Rattle.lfs_mount.specs.DirectoryView.{vertex_of, graph_of}
+use Rattle.lfs_mount.specs.KnownView.{known_view}
 use Rattle.lfs_mount.specs.Reaching.{Vertex, Graph}
 use Rattle.lfs_mount.specs.Taken.{Takes}
 use Rattle.lfs_mount.specs.declared.pass.Member.{Member}
@@ -40,10 +40,10 @@ pub returns-in_err-take_pair-clause-corrupt : goal.returns-in_err-take_pair-clau
 returns-in_err-take_pair-clause-corrupt g c = λ is order graph end all.
     let p = err_from_is_err_and c.from_residual.result c.from_residual.ensures.1 in
     let disk = ordered order (disk_on g.D.BlockDevice c.args.device.now) in
-    not_taken_at disk c.args.places.now c.args.map.now c.args.members.now (graph_of order c.loop-member.directories.items) (known_seen order c.loop-member.known) c.loop-member.map
+    not_taken_at disk c.args.places.now c.args.map.now c.args.members.now (graph_of order c.loop-member.directories.items) (known_view order c.loop-member.known) c.loop-member.map
     c.loop-member.member-index none c.loop-member-test.true (c.loop-member.invariant.way order)
     (λ new mid takes. c.in_err-take_pair.ensures.corrupt (ap Err (same_error p.1 p.2 is)) order new mid
-    (subst (λ (d : Disk). Takes (ordered order d) c.args.places.now (get_or c.args.members.now c.loop-member.member-index none) (known_seen order c.loop-member.known) c.loop-member.map new mid) (sym (ap₂ disk_of c.loop-member.invariant.device.geometry c.loop-member.invariant.device.same)) takes))
+    (subst (λ (d : Disk). Takes (ordered order d) c.args.places.now (get_or c.args.members.now c.loop-member.member-index none) (known_view order c.loop-member.known) c.loop-member.map new mid) (sym (ap₂ disk_of c.loop-member.invariant.device.geometry c.loop-member.invariant.device.same)) takes))
     graph end all
 
 pub returns-in_err-take_pair-clause-device : goal.returns-in_err-take_pair-clause-device
@@ -60,9 +60,9 @@ returns-in_err-push-clause-device g c = read_on g.D.BlockDevice c.loop-member.in
 pub loop-member-preserved : goal.loop-member-preserved
 loop-member-preserved g c =
     let disk = disk_on g.D.BlockDevice c.args.device.now in
-    let takes : (order : NameOrder) → Takes (ordered order disk) c.args.places.now (get_or c.args.members.now c.loop-member.member-index none) (known_seen order c.loop-member.known) c.loop-member.map (known_seen order c.take_pair.new.known) c.take_pair.new.map =
+    let takes : (order : NameOrder) → Takes (ordered order disk) c.args.places.now (get_or c.args.members.now c.loop-member.member-index none) (known_view order c.loop-member.known) c.loop-member.map (known_view order c.take_pair.new.known) c.take_pair.new.map =
     λ order.
-    subst (λ (d : Disk). Takes (ordered order d) c.args.places.now (get_or c.args.members.now c.loop-member.member-index none) (known_seen order c.loop-member.known) c.loop-member.map (known_seen order c.take_pair.new.known) c.take_pair.new.map)
+    subst (λ (d : Disk). Takes (ordered order d) c.args.places.now (get_or c.args.members.now c.loop-member.member-index none) (known_view order c.loop-member.known) c.loop-member.map (known_view order c.take_pair.new.known) c.take_pair.new.map)
     (ap₂ disk_of c.loop-member.invariant.device.geometry c.loop-member.invariant.device.same) (c.in_ok-take_pair.ensures.taken order) in
     record {
       way = λ order. elim c.if-not-member.branch [
@@ -70,15 +70,15 @@ loop-member-preserved g c =
             subst₂ (λ (done : Graph) k. IsUnderWay (ordered order disk) c.args.places.now c.args.map.now c.args.members.now done k c.take_pair.new.map (drop (c.loop-member.member-index + 1) c.args.members.now))
             (sym (ap (λ ds. graph_of order ds.items) w.directories-is ∙ ap (graph_of order) w.in_ok-push.ensures.items ∙ map-append (vertex_of order) c.loop-member.directories.items (w.end.result ∷ [])
             ∙ ap (λ (v : Vertex). graph_of order c.loop-member.directories.items ++ v ∷ []) (w.end.ensures.directory order)))
-            (sym (ap (known_seen order) w.known-is ∙ w.end.ensures.nothing order))
-            (taken_soft (ordered order disk) c.args.places.now c.args.map.now c.args.members.now (graph_of order c.loop-member.directories.items) (known_seen order c.loop-member.known) c.loop-member.map
-            c.loop-member.member-index none c.loop-member-test.true (c.loop-member.invariant.way order) (known_seen order c.take_pair.new.known) c.take_pair.new.map (takes order) w.if-not-member.true)
+            (sym (ap (known_view order) w.known-is ∙ w.end.ensures.nothing order))
+            (taken_soft (ordered order disk) c.args.places.now c.args.map.now c.args.members.now (graph_of order c.loop-member.directories.items) (known_view order c.loop-member.known) c.loop-member.map
+            c.loop-member.member-index none c.loop-member-test.true (c.loop-member.invariant.way order) (known_view order c.take_pair.new.known) c.take_pair.new.map (takes order) w.if-not-member.true)
         | else-not-member w ↦
             subst₂ (λ (done : Graph) k. IsUnderWay (ordered order disk) c.args.places.now c.args.map.now c.args.members.now done k c.take_pair.new.map (drop (c.loop-member.member-index + 1) c.args.members.now))
             (sym (ap (λ ds. graph_of order ds.items) w.directories-is))
-            (sym (ap (known_seen order) w.known-is))
-            (taken_hard (ordered order disk) c.args.places.now c.args.map.now c.args.members.now (graph_of order c.loop-member.directories.items) (known_seen order c.loop-member.known) c.loop-member.map
-            c.loop-member.member-index none c.loop-member-test.true (c.loop-member.invariant.way order) (known_seen order c.take_pair.new.known) c.take_pair.new.map (takes order) w.if-not-member.false)
+            (sym (ap (known_view order) w.known-is))
+            (taken_hard (ordered order disk) c.args.places.now c.args.map.now c.args.members.now (graph_of order c.loop-member.directories.items) (known_view order c.loop-member.known) c.loop-member.map
+            c.loop-member.member-index none c.loop-member-test.true (c.loop-member.invariant.way order) (known_view order c.take_pair.new.known) c.take_pair.new.map (takes order) w.if-not-member.false)
       ];
       device = read_on g.D.BlockDevice c.loop-member.invariant.device c.in_ok-take_pair.ensures.device;
       quiet = quiet g.D.BlockDevice c.in_ok-take_pair.ensures.errors.faults ∙ c.loop-member.invariant.quiet;
@@ -93,6 +93,6 @@ loop-member-preserved g c =
 pub returns-clause-taken : goal.returns-clause-taken
 returns-clause-taken g c = λ order.
     let disk = ordered order (disk_on g.D.BlockDevice c.args.device.now) in
-    all_taken disk c.args.places.now c.args.map.now c.args.members.now (graph_of order c.loop-member.directories.items) (known_seen order c.loop-member.known) c.loop-member.map
-    (subst (IsUnderWay disk c.args.places.now c.args.map.now c.args.members.now (graph_of order c.loop-member.directories.items) (known_seen order c.loop-member.known) c.loop-member.map)
+    all_taken disk c.args.places.now c.args.map.now c.args.members.now (graph_of order c.loop-member.directories.items) (known_view order c.loop-member.known) c.loop-member.map
+    (subst (IsUnderWay disk c.args.places.now c.args.map.now c.args.members.now (graph_of order c.loop-member.directories.items) (known_view order c.loop-member.known) c.loop-member.map)
     (drop_of_length-le c.args.members.now (omega arith)) (c.loop-member.invariant.way order))

@@ -2,7 +2,7 @@ use Rattle.std.proofs.Common.{◌≡◌, ap, sym, ◌∙◌, true, false, Err, l
 use Rattle.std.proofs.lemmas.List.{length-map}
 use Rattle.std.proofs.lemmas.Result.{err_from_is_err_and}
 use Rattle.lfs_model.specs.declared.order.NameOrder.{NameOrder}
-use Rattle.lfs_mount.specs.DirectorySeen.{vertex_of, graph_of}
+use Rattle.lfs_mount.specs.DirectoryView.{vertex_of, graph_of}
 use Rattle.lfs_mount.proofs.Called.{same_error}
 use Rattle.lfs_mount.proofs.Rooted.{all_right, never_right, fails_wrong, marked_at, unmarked_at}
 use Rattle.lfs_mount.specs.declared.reaching.Directory.{Directory}

@@ -4,7 +4,7 @@ use Rattle.std.specs.List.{IsDistinct}
 use Rattle.std.proofs.lemmas.Result.{err_from_is_err_and}
 use Rattle.std.proofs.lemmas.List.{length-set, length-replicate, length-map}
 use Rattle.std.proofs.lemmas.Option.{slice_get_read}
-use Rattle.lfs_mount.specs.DirectorySeen.{graph_of, vertex_of}
+use Rattle.lfs_mount.specs.DirectoryView.{graph_of, vertex_of}
 use Rattle.lfs_mount.specs.Reaching.{IsMarked, is_sound_at}
 use Rattle.lfs_mount.proofs.Called.{same_error}
 use Rattle.lfs_mount.proofs.Marks.{first_marked, marked_within, few_marked, sound_of, branches_found, next_sound, nothing_left, branches_within}

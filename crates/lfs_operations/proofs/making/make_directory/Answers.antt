@@ -2,16 +2,16 @@ use Rattle.std.proofs.Common.{ap, sym, subst, ◌∙◌, arith, Err}
 use Rattle.std.proofs.lemmas.Result.{err_from_is_err_and}
 use Rattle.lfs_device.specs.declared.error.Error.TheVariants as Error
 use Rattle.lfs_model.specs.Disk.{Disk}
-use Rattle.lfs_model.specs.PowerLoss.{IsLeft}
+use Rattle.lfs_model.specs.PowerLoss.{IsLeftByStop}
 use Rattle.lfs_model.specs.Slots.{address_of}
 use Rattle.lfs_model.specs.Shown.{tree_in}
 use Rattle.lfs_thread.specs.Device.{StopsLeave, four_of, two_of}
 use Rattle.lfs_thread.specs.Kept.{State}
-use Rattle.lfs_thread.specs.Steps.{CanJoin, HasToldBeside, IsJoined, IsLeftByJoin, Writes, pair_in}
+use Rattle.lfs_thread.specs.Steps.{CanJoin, HasReportedBeside, IsJoined, IsLeftByJoin, Writes, pair_in}
 use Rattle.lfs_operations.specs.Changing.{IsLeftByPut, flying}
-use Rattle.lfs_operations.specs.Making.{FitsJoined, TellsOfSteps, naming, threading, with_directory}
+use Rattle.lfs_operations.specs.Making.{FitsJoined, ReportsOfSteps, naming, threading, with_directory}
 use Rattle.lfs_operations.proofs.MakingCounts.{no_room}
-use Rattle.lfs_operations.proofs.MakingTold.{tells_first, tells_second}
+use Rattle.lfs_operations.proofs.MakingReported.{reports_first, reports_second}
 use Rattle.lfs_operations.proofs.MakingWrites.{survives_both, survives_by, writes_both, writes_first}
 use Rattle.lfs_operations.proofs.Mkdir.{at_still, can_enter, can_thread, left_by_entering, left_by_threading, left_between, left_unthreaded, made_alters, made_is, room_left, thread_fits, threaded_now}
 use Rattle.lfs_operations.proofs.Putting.{not_both, with_map}
@@ -41,9 +41,9 @@ thread_behind-requires-clause-fits g c =
 pub returns-in_err-thread_behind-clause-errors : goal.returns-in_err-thread_behind-clause-errors
 returns-in_err-thread_behind-clause-errors g c =
     let p = err_from_is_err_and c.from_residual.result c.from_residual.ensures.1 in
-    subst (λ r. TellsOfSteps c.args.thread.now c.thread_behind.new.thread r) (c.in_err-thread_behind.was ∙ ap Err (sym p.2) ∙ sym p.1)
-    (tells_first c.args.thread.now c.thread_behind.new.thread (flying c.args.thread.now.kept.map (address_of c.in-Some.fresh)) (two_of (address_of c.in-Some.fresh)) c.thread_behind.result c.thread_behind.ensures.failed
-    (subst (λ (s : State). HasToldBeside (two_of (address_of c.in-Some.fresh)) s.kept c.thread_behind.new.thread.kept c.thread_behind.result) c.in-Some.ensures.taken c.thread_behind.ensures.errors))
+    subst (λ r. ReportsOfSteps c.args.thread.now c.thread_behind.new.thread r) (c.in_err-thread_behind.was ∙ ap Err (sym p.2) ∙ sym p.1)
+    (reports_first c.args.thread.now c.thread_behind.new.thread (flying c.args.thread.now.kept.map (address_of c.in-Some.fresh)) (two_of (address_of c.in-Some.fresh)) c.thread_behind.result c.thread_behind.ensures.failed
+    (subst (λ (s : State). HasReportedBeside (two_of (address_of c.in-Some.fresh)) s.kept c.thread_behind.new.thread.kept c.thread_behind.result) c.in-Some.ensures.taken c.thread_behind.ensures.errors))
 
 pub returns-in_err-thread_behind-clause-device : goal.returns-in_err-thread_behind-clause-device
 returns-in_err-thread_behind-clause-device g c =
@@ -80,15 +80,15 @@ returns-in_err-name_directory-clause-errors g c =
     let h = threaded_now t c.args.pair c.args.id c.args.name.now c.requires.can last c.last_from-last.ensures fresh c.in-Some.ensures.were_free c.know_device.ensures.bytes c.know_device.ensures.count m
     (subst (λ (s : State). IsJoined s.kept last fresh (threading s.kept last fresh) m) c.in-Some.ensures.taken c.in_ok-thread_behind.ensures.is_joined)
     (subst (λ (s : State). Writes (four_of (pair_in s.kept last).at fresh) s.kept m) c.in-Some.ensures.taken c.thread_behind.ensures.device) in
-    let told = subst (λ (s : State). HasToldBeside (two_of fresh) s.kept m c.thread_behind.result) c.in-Some.ensures.taken c.thread_behind.ensures.errors in
+    let reported = subst (λ (s : State). HasReportedBeside (two_of fresh) s.kept m c.thread_behind.result) c.in-Some.ensures.taken c.thread_behind.ensures.errors in
     let from = c.from_residual-in_err-name_directory in
     let p = err_from_is_err_and from.result from.ensures.1 in
-    subst (λ r. TellsOfSteps c.args.thread.now c.name_directory.new.thread r) (c.in_err-name_directory.was ∙ ap Err (sym p.2) ∙ sym p.1)
-    (tells_second c.args.thread.now c.thread_behind.new.thread c.name_directory.new.thread c.name_directory.result
-    (told.no_fault (λ io. not_both c.thread_behind.result c.in_ok-thread_behind.field-0 Error.Io c.in_ok-thread_behind.was io))
+    subst (λ r. ReportsOfSteps c.args.thread.now c.name_directory.new.thread r) (c.in_err-name_directory.was ∙ ap Err (sym p.2) ∙ sym p.1)
+    (reports_second c.args.thread.now c.thread_behind.new.thread c.name_directory.new.thread c.name_directory.result
+    (reported.no_fault (λ io. not_both c.thread_behind.result c.in_ok-thread_behind.field-0 Error.Io c.in_ok-thread_behind.was io))
     (λ none. room_left t c.args.pair c.args.id c.args.name.now c.requires.can last c.last_from-last.ensures fresh c.in-Some.ensures.were_free c.know_device.ensures.bytes c.know_device.ensures.count m h
-    (c.name_directory.ensures.errors.tells.tells.no_space none))
-    c.name_directory.ensures.errors.tells)
+    (c.name_directory.ensures.errors.reports.reports.no_space none))
+    c.name_directory.ensures.errors.reports)
 
 pub returns-in_err-name_directory-clause-device : goal.returns-in_err-name_directory-clause-device
 returns-in_err-name_directory-clause-device g c =
@@ -190,10 +190,10 @@ returns-in_err-thread_behind-clause-stands g c memory can =
     let last = c.last_from-last.result in
     let fresh = address_of c.in-Some.fresh in
     let p = err_from_is_err_and c.from_residual.result c.from_residual.ensures.1 in
-    let told = subst (λ (s : State). HasToldBeside (two_of fresh) s.kept new c.thread_behind.result) c.in-Some.ensures.taken c.thread_behind.ensures.errors in
+    let reported = subst (λ (s : State). HasReportedBeside (two_of fresh) s.kept new c.thread_behind.result) c.in-Some.ensures.taken c.thread_behind.ensures.errors in
     left_unthreaded t c.args.pair c.args.id c.args.name.now can last c.last_from-last.ensures fresh c.in-Some.ensures.were_free c.know_device.ensures.bytes c.know_device.ensures.count new
     (subst (λ (s : State). Writes (four_of (pair_in s.kept last).at fresh) s.kept new) c.in-Some.ensures.taken c.thread_behind.ensures.device)
-    (told.beside (c.in_err-thread_behind.was ∙ ap Err (sym p.2) ∙ sym p.1 ∙ memory))
+    (reported.beside (c.in_err-thread_behind.was ∙ ap Err (sym p.2) ∙ sym p.1 ∙ memory))
 
 pub returns-in_err-name_directory-clause-stands : goal.returns-in_err-name_directory-clause-stands
 returns-in_err-name_directory-clause-stands g c memory can =
@@ -206,6 +206,6 @@ returns-in_err-name_directory-clause-stands g c memory can =
     (subst (λ (s : State). Writes (four_of (pair_in s.kept last).at fresh) s.kept m) c.in-Some.ensures.taken c.thread_behind.ensures.device) in
     let from = c.from_residual-in_err-name_directory in
     let p = err_from_is_err_and from.result from.ensures.1 in
-    let same = (c.name_directory.ensures.errors.tells.tells.unwritten (c.in_err-name_directory.was ∙ ap Err (sym p.2) ∙ sym p.1 ∙ memory)).disk in
-    subst (λ (d : Disk). IsLeft d (tree_in t.disk t.pairs) (with_directory t can.path c.args.name.now)) (sym same)
+    let same = (c.name_directory.ensures.errors.reports.reports.unwritten (c.in_err-name_directory.was ∙ ap Err (sym p.2) ∙ sym p.1 ∙ memory)).disk in
+    subst (λ (d : Disk). IsLeftByStop d (tree_in t.disk t.pairs) (with_directory t can.path c.args.name.now)) (sym same)
     (left_between t c.args.pair c.args.id c.args.name.now can last c.last_from-last.ensures fresh c.in-Some.ensures.were_free c.know_device.ensures.bytes c.know_device.ensures.count m h c.know_device-2.ensures.bytes)

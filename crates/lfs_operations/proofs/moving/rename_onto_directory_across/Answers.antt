@@ -7,14 +7,14 @@ use Rattle.lfs_model.specs.Thread.{Pair}
 use Rattle.lfs_model.specs.Shown.{tree_in}
 use Rattle.lfs_thread.specs.Device.{StopsLeave}
 use Rattle.lfs_operations.specs.Dropping.{CanDropAt, HasDroppedBehind, IsLeftByDrop}
-use Rattle.lfs_operations.specs.MovingSteps.{TellsInSteps, left_at}
+use Rattle.lfs_operations.specs.MovingSteps.{ReportsInSteps, left_at}
 use Rattle.lfs_operations.specs.MovingAcross.{with_moved}
 use Rattle.lfs_operations.specs.MovingOnto.{onto_changes}
 use Rattle.lfs_operations.proofs.AlteredLast.{altered_onto_directory}
 use Rattle.lfs_operations.proofs.MovReplace.{onto_directory}
-use Rattle.lfs_operations.proofs.MovTelling.{not_io, tells_of_end}
+use Rattle.lfs_operations.proofs.MovReporting.{not_io, reports_of_end}
 use Rattle.lfs_operations.proofs.OntoAcross.{can_drop_later, left_directory, new_below, not_nowhere_later, old_below, renamed_directory}
-use Rattle.lfs_operations.proofs.OntoTelling.{across_survives, left_below, works_after}
+use Rattle.lfs_operations.proofs.OntoReporting.{across_survives, left_below, works_after}
 use Rattle.lfs_operations.proofs.OntoWritten.{writes_last, writes_one}
 use Rattle.lfs_operations.proofs.moving.rename_onto_directory_across.Goals as goal
 
@@ -37,8 +37,8 @@ pub returns-in_err-drop_at-clause-errors : goal.returns-in_err-drop_at-clause-er
 returns-in_err-drop_at-clause-errors g c =
     let r = c.from_residual-in_err-drop_at in
     let k = err_from_is_err_and r.result r.ensures.1 in
-    subst (λ z. TellsInSteps c.args.thread.now c.drop_at.new.thread c.args.new_pair (onto_changes true c.args.thread.now.kept c.args.old_pair c.args.old_id c.args.new_pair c.args.new_id c.args.name.now) z) (c.in_err-drop_at.was ∙ ap Err (sym k.2) ∙ sym k.1)
-    (tells_of_end c.args.thread.now c.put_onto.new.thread c.drop_at.new.thread c.args.new_pair (onto_changes true c.args.thread.now.kept c.args.old_pair c.args.old_id c.args.new_pair c.args.new_id c.args.name.now) c.drop_at.result
+    subst (λ z. ReportsInSteps c.args.thread.now c.drop_at.new.thread c.args.new_pair (onto_changes true c.args.thread.now.kept c.args.old_pair c.args.old_id c.args.new_pair c.args.new_id c.args.name.now) z) (c.in_err-drop_at.was ∙ ap Err (sym k.2) ∙ sym k.1)
+    (reports_of_end c.args.thread.now c.put_onto.new.thread c.drop_at.new.thread c.args.new_pair (onto_changes true c.args.thread.now.kept c.args.old_pair c.args.old_id c.args.new_pair c.args.new_id c.args.name.now) c.drop_at.result
     (c.put_onto.ensures.errors.no_fault (not_io c.put_onto.result c.in_ok-put_onto.field-0 c.in_ok-put_onto.was)) c.drop_at.ensures.errors)
 
 pub returns-in_err-drop_at-clause-device : goal.returns-in_err-drop_at-clause-device
@@ -60,8 +60,8 @@ returns-in_ok-drop_at-clause-renamed g c rename =
     (subst (λ (s : Gstate). HasDroppedBehind c.put_onto.new.thread.kept (c.in-Some.index - 1) s c.drop_at.new.thread.kept) c.none.ensures c.in_ok-drop_at.ensures.is_dropped)
 
 pub returns-in_ok-drop_at-clause-errors : goal.returns-in_ok-drop_at-clause-errors
-returns-in_ok-drop_at-clause-errors g c = subst (λ z. TellsInSteps c.args.thread.now c.drop_at.new.thread c.args.new_pair (onto_changes true c.args.thread.now.kept c.args.old_pair c.args.old_id c.args.new_pair c.args.new_id c.args.name.now) z) c.in_ok-drop_at.was
-    (tells_of_end c.args.thread.now c.put_onto.new.thread c.drop_at.new.thread c.args.new_pair (onto_changes true c.args.thread.now.kept c.args.old_pair c.args.old_id c.args.new_pair c.args.new_id c.args.name.now) c.drop_at.result
+returns-in_ok-drop_at-clause-errors g c = subst (λ z. ReportsInSteps c.args.thread.now c.drop_at.new.thread c.args.new_pair (onto_changes true c.args.thread.now.kept c.args.old_pair c.args.old_id c.args.new_pair c.args.new_id c.args.name.now) z) c.in_ok-drop_at.was
+    (reports_of_end c.args.thread.now c.put_onto.new.thread c.drop_at.new.thread c.args.new_pair (onto_changes true c.args.thread.now.kept c.args.old_pair c.args.old_id c.args.new_pair c.args.new_id c.args.name.now) c.drop_at.result
     (c.put_onto.ensures.errors.no_fault (not_io c.put_onto.result c.in_ok-put_onto.field-0 c.in_ok-put_onto.was)) c.drop_at.ensures.errors)
 
 pub returns-in_ok-drop_at-clause-device : goal.returns-in_ok-drop_at-clause-device

@@ -1,10 +1,10 @@
 use Rattle.std.proofs.Common.{suc, ◌≡◌, ◌+◌, ◌-◌, ap, sym, subst, ◌∙◌, drop, length, arith, refl, Err}
 use Rattle.std.specs.Prelude.{slice_index_or}
 use Rattle.std.proofs.lemmas.Result.{err_from_is_err_and}
-use Rattle.lfs_tag.specs.FieldsSeen.{move_seen}
+use Rattle.lfs_tag.specs.FieldsView.{move_view}
 use Rattle.lfs_model.specs.Thread.{blocks_of, gstate_of}
 use Rattle.lfs_thread.specs.Kept.{Kept}
-use Rattle.lfs_operations.proofs.RecoverEnd.{can_end, end_survives, ends, none_told, tells_steps}
+use Rattle.lfs_operations.proofs.RecoverEnd.{can_end, end_survives, ends, none_reported, reports_steps}
 use Rattle.lfs_operations.proofs.RecoverUnderWay.{IsUnderWay, begins, can_take, drop_all, indexes, moves_on, next_at, stays_by, survives_on, wanted, way_at, writes_on}
 use Rattle.lfs_operations.proofs.RecoverWrites.{writes_fewer}
 use Rattle.lfs_operations.proofs.UnlinkedSteps.{writes_trans}
@@ -38,14 +38,14 @@ drop_behind-requires-clause-can g c =
     let d = c.loop-dropped.dropped in
     let n = next_at old now xs d c.loop-dropped-test.true c.loop-dropped.invariant.way in
     let i = indexes old now d (slice_index_or xs d 0) (drop (suc d) xs) n in
-    can_take old now d (slice_index_or xs d 0) (drop (suc d) xs) n (move_seen c.state_after-wanted.result)
-    (wanted now xs d (move_seen c.state_after-wanted.result) c.loop-dropped-test.true c.state_after-wanted.ensures)
+    can_take old now d (slice_index_or xs d 0) (drop (suc d) xs) n (move_view c.state_after-wanted.result)
+    (wanted now xs d (move_view c.state_after-wanted.result) c.loop-dropped-test.true c.state_after-wanted.ensures)
     (slice_index_or xs d 0 - d - 1) (slice_index_or xs d 0 - d) i.next i.sum
 
 pub returns-in_err-drop_behind-clause-errors : goal.returns-in_err-drop_behind-clause-errors
 returns-in_err-drop_behind-clause-errors g c =
     let p = err_from_is_err_and c.from_residual.result c.from_residual.ensures.1 in
-    tells_steps c.args.thread.now c.loop-dropped.thread c.drop_behind.new.thread p.0 c.drop_behind.result c.from_residual.result c.loop-dropped.invariant.no_fault (c.in_err-drop_behind.was ∙ ap Err (sym p.2)) p.1 c.drop_behind.ensures.errors
+    reports_steps c.args.thread.now c.loop-dropped.thread c.drop_behind.new.thread p.0 c.drop_behind.result c.from_residual.result c.loop-dropped.invariant.no_fault (c.in_err-drop_behind.was ∙ ap Err (sym p.2)) p.1 c.drop_behind.ensures.errors
 
 pub returns-in_err-drop_behind-clause-device : goal.returns-in_err-drop_behind-clause-device
 returns-in_err-drop_behind-clause-device g c =
@@ -55,8 +55,8 @@ returns-in_err-drop_behind-clause-device g c =
     let d = c.loop-dropped.dropped in
     let n = next_at old now xs d c.loop-dropped-test.true c.loop-dropped.invariant.way in
     let i = indexes old now d (slice_index_or xs d 0) (drop (suc d) xs) n in
-    writes_on old now d (slice_index_or xs d 0) (drop (suc d) xs) n (move_seen c.state_after-wanted.result)
-    (wanted now xs d (move_seen c.state_after-wanted.result) c.loop-dropped-test.true c.state_after-wanted.ensures)
+    writes_on old now d (slice_index_or xs d 0) (drop (suc d) xs) n (move_view c.state_after-wanted.result)
+    (wanted now xs d (move_view c.state_after-wanted.result) c.loop-dropped-test.true c.state_after-wanted.ensures)
     (slice_index_or xs d 0 - d - 1) (slice_index_or xs d 0 - d) i.next i.sum c.drop_behind.new.thread.kept (way_at old now xs d c.loop-dropped-test.true c.loop-dropped.invariant.way) c.drop_behind.ensures.device
 
 pub returns-in_err-drop_behind-clause-survives : goal.returns-in_err-drop_behind-clause-survives
@@ -67,8 +67,8 @@ returns-in_err-drop_behind-clause-survives g c =
     let d = c.loop-dropped.dropped in
     let n = next_at old now xs d c.loop-dropped-test.true c.loop-dropped.invariant.way in
     let i = indexes old now d (slice_index_or xs d 0) (drop (suc d) xs) n in
-    survives_on old now d (slice_index_or xs d 0) (drop (suc d) xs) n (move_seen c.state_after-wanted.result)
-    (wanted now xs d (move_seen c.state_after-wanted.result) c.loop-dropped-test.true c.state_after-wanted.ensures)
+    survives_on old now d (slice_index_or xs d 0) (drop (suc d) xs) n (move_view c.state_after-wanted.result)
+    (wanted now xs d (move_view c.state_after-wanted.result) c.loop-dropped-test.true c.state_after-wanted.ensures)
     (slice_index_or xs d 0 - d - 1) (slice_index_or xs d 0 - d) i.next i.sum c.drop_behind.new.thread.kept (way_at old now xs d c.loop-dropped-test.true c.loop-dropped.invariant.way)
     c.drop_behind.ensures.words.0 c.drop_behind.ensures.words.1 (stays_by _ now c.drop_behind.new.thread.kept c.drop_behind.ensures.device) c.drop_behind.ensures.stops
 
@@ -86,11 +86,11 @@ loop-dropped-preserved g c =
       end = refl;
       within = omega arith;
       works = c.in_ok-drop_behind.ensures.errors.failed;
-      no_fault = c.in_ok-drop_behind.ensures.errors.told.no_fault (λ e. absurd (let k : _ = e in cc)) ∙ c.loop-dropped.invariant.no_fault;
+      no_fault = c.in_ok-drop_behind.ensures.errors.reported.no_fault (λ e. absurd (let k : _ = e in cc)) ∙ c.loop-dropped.invariant.no_fault;
       still = λ none. absurd (omega arith);
       way = subst (λ k. IsUnderWay old c.drop_behind.new.thread.kept k (drop k xs)) one
-          (moves_on old now d (slice_index_or xs d 0) (drop (suc d) xs) n (move_seen c.state_after-wanted.result)
-          (wanted now xs d (move_seen c.state_after-wanted.result) c.loop-dropped-test.true c.state_after-wanted.ensures)
+          (moves_on old now d (slice_index_or xs d 0) (drop (suc d) xs) n (move_view c.state_after-wanted.result)
+          (wanted now xs d (move_view c.state_after-wanted.result) c.loop-dropped-test.true c.state_after-wanted.ensures)
           (slice_index_or xs d 0 - d - 1) (slice_index_or xs d 0 - d) i.next i.sum c.drop_behind.new.thread.kept (way_at old now xs d c.loop-dropped-test.true c.loop-dropped.invariant.way)
           c.drop_behind.ensures.words.0 c.drop_behind.ensures.words.1 c.in_ok-drop_behind.ensures.is_dropped c.drop_behind.ensures.device c.drop_behind.ensures.stops);
     }
@@ -104,7 +104,7 @@ clear_sync-requires-clause-can g c =
 pub returns-in_err-clear_sync-clause-errors : goal.returns-in_err-clear_sync-clause-errors
 returns-in_err-clear_sync-clause-errors g c =
     let p = err_from_is_err_and c.from_residual-in_err-clear_sync.result c.from_residual-in_err-clear_sync.ensures.1 in
-    tells_steps c.args.thread.now c.loop-dropped.thread c.clear_sync.new.thread p.0 c.clear_sync.result c.from_residual-in_err-clear_sync.result c.loop-dropped.invariant.no_fault (c.in_err-clear_sync.was ∙ ap Err (sym p.2)) p.1 c.clear_sync.ensures.errors
+    reports_steps c.args.thread.now c.loop-dropped.thread c.clear_sync.new.thread p.0 c.clear_sync.result c.from_residual-in_err-clear_sync.result c.loop-dropped.invariant.no_fault (c.in_err-clear_sync.was ∙ ap Err (sym p.2)) p.1 c.clear_sync.ensures.errors
 
 pub returns-in_err-clear_sync-clause-device : goal.returns-in_err-clear_sync-clause-device
 returns-in_err-clear_sync-clause-device g c = writes_trans c.loop-dropped.invariant.way.writes (writes_fewer _ (blocks_of c.args.thread.now.kept.pairs) c.loop-dropped.invariant.way.fewer c.clear_sync.ensures.device)
@@ -124,7 +124,7 @@ returns-clause-recovered g c =
     let past = c.loop-dropped-test.false in
     ends c.args.thread.now.kept c.loop-dropped.thread.kept c.loop-dropped.dropped
     (subst (IsUnderWay c.args.thread.now.kept c.loop-dropped.thread.kept c.loop-dropped.dropped) (drop_all c.loop-dropped.dropped c.args.unreached.now (omega (arith, past))) c.loop-dropped.invariant.way)
-    c.requires.can.writable c.requires.can.large c.clear_sync.new.thread.kept c.args.unreached.now c.requires.can.told
+    c.requires.can.writable c.requires.can.large c.clear_sync.new.thread.kept c.args.unreached.now c.requires.can.reported
     (writes_trans c.loop-dropped.invariant.way.writes (writes_fewer _ (blocks_of c.args.thread.now.kept.pairs) c.loop-dropped.invariant.way.fewer c.clear_sync.ensures.device)) (stays_by _ c.loop-dropped.thread.kept c.clear_sync.new.thread.kept c.clear_sync.ensures.device) c.in_ok-clear_sync.ensures.is_cleared
 
 pub returns-clause-survives : goal.returns-clause-survives
@@ -136,20 +136,20 @@ returns-clause-survives g c =
 
 pub returns-in_err-drop_behind-clause-nothing : goal.returns-in_err-drop_behind-clause-nothing
 returns-in_err-drop_behind-clause-nothing g c recovered =
-    let none = ap length (none_told c.args.thread.now.kept.pairs c.args.unreached.now recovered c.requires.can.told) in
+    let none = ap length (none_reported c.args.thread.now.kept.pairs c.args.unreached.now recovered c.requires.can.reported) in
     let low = c.loop-dropped-test.true in
     absurd (omega arith)
 
 pub returns-in_err-clear_sync-clause-nothing : goal.returns-in_err-clear_sync-clause-nothing
 returns-in_err-clear_sync-clause-nothing g c recovered =
-    let none = ap length (none_told c.args.thread.now.kept.pairs c.args.unreached.now recovered c.requires.can.told) in
+    let none = ap length (none_reported c.args.thread.now.kept.pairs c.args.unreached.now recovered c.requires.can.reported) in
     let in_all = c.loop-dropped.invariant.within in
     let same = c.loop-dropped.invariant.still (omega arith) in
     c.clear_sync.ensures.nothing (ap (λ (t : Kept). gstate_of t.pairs) same ∙ recovered.gstate) ∙ same
 
 pub returns-clause-nothing : goal.returns-clause-nothing
 returns-clause-nothing g c recovered =
-    let none = ap length (none_told c.args.thread.now.kept.pairs c.args.unreached.now recovered c.requires.can.told) in
+    let none = ap length (none_reported c.args.thread.now.kept.pairs c.args.unreached.now recovered c.requires.can.reported) in
     let in_all = c.loop-dropped.invariant.within in
     let same = c.loop-dropped.invariant.still (omega arith) in
     c.clear_sync.ensures.nothing (ap (λ (t : Kept). gstate_of t.pairs) same ∙ recovered.gstate) ∙ same

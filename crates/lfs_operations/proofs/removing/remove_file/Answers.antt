@@ -7,7 +7,7 @@ use Rattle.lfs_thread.specs.Device.{StopsLeave}
 use Rattle.lfs_operations.specs.Dropping.{CanDropAt, HasDroppedBehind, IsLeftByDrop}
 use Rattle.lfs_operations.specs.Editing.{slot_at}
 use Rattle.lfs_operations.specs.Removing.{IsRemoved, goes_whole}
-use Rattle.lfs_operations.proofs.Removed.{can_delete, gone, not_refused, remove_survives, tells_again}
+use Rattle.lfs_operations.proofs.Removed.{can_delete, gone, not_refused, remove_survives, reports_again}
 use Rattle.lfs_operations.proofs.Altered.{drop_alters}
 use Rattle.lfs_operations.proofs.RemovedWhole.{below_whole, can_drop_file, gone_whole, whole_survives}
 use Rattle.lfs_operations.proofs.removing.remove_file.Goals as goal
@@ -37,7 +37,7 @@ change-requires-clause-can g c = can_delete c.args.thread.now.kept c.args.pair c
 pub returns-in_err-change-clause-errors : goal.returns-in_err-change-clause-errors
 returns-in_err-change-clause-errors g c =
     let p = err_from_is_err_and c.from_residual-in_err-change.result c.from_residual-in_err-change.ensures.1 in
-    tells_again c.args.thread.now c.change.new.self p.0 c.change.result c.from_residual-in_err-change.result (c.in_err-change.was ∙ ap Err (sym p.2)) p.1 c.change.ensures.failed c.change.ensures.errors
+    reports_again c.args.thread.now c.change.new.self p.0 c.change.result c.from_residual-in_err-change.result (c.in_err-change.was ∙ ap Err (sym p.2)) p.1 c.change.ensures.failed c.change.ensures.errors
 
 pub returns-in_err-change-clause-survives : goal.returns-in_err-change-clause-survives
 returns-in_err-change-clause-survives g c take =

@@ -6,19 +6,19 @@ use Rattle.lfs_thread.specs.Device.{StopsLeave, two_of}
 use Rattle.lfs_thread.specs.Steps.{pair_in}
 use Rattle.lfs_operations.specs.Dropping.{CanDropAt, HasDroppedBehind, IsLeftByDrop}
 use Rattle.lfs_operations.specs.Renaming.{with_renamed}
-use Rattle.lfs_operations.specs.RenamingOver.{TellsOverSteps, rename_over_changes}
+use Rattle.lfs_operations.specs.RenamingOver.{ReportsOverSteps, rename_over_changes}
 use Rattle.lfs_operations.proofs.AlteredOnto.{altered_within}
 use Rattle.lfs_operations.proofs.OntoGone.{can_drop_replaced}
-use Rattle.lfs_operations.proofs.OntoTelling.{last_survives, over_from, over_then, writes_over}
+use Rattle.lfs_operations.proofs.OntoReporting.{last_survives, over_from, over_then, writes_over}
 use Rattle.lfs_operations.proofs.OntoWithin.{left_within, renamed_onto_directory, replacing}
 use Rattle.lfs_operations.proofs.UnlinkedSteps.{writes_first}
-use Rattle.lfs_operations.proofs.Removed.{tells_again}
+use Rattle.lfs_operations.proofs.Removed.{reports_again}
 use Rattle.lfs_operations.proofs.renaming_over.rename_onto_directory.Goals as goal
 
 pub returns-in_err-rename_over-clause-errors : goal.returns-in_err-rename_over-clause-errors
 returns-in_err-rename_over-clause-errors g c =
     let p = err_from_is_err_and c.from_residual.result c.from_residual.ensures.1 in
-    subst (λ r. TellsOverSteps c.args.thread.now c.rename_over.new.thread r) (c.in_err-rename_over.was ∙ ap Err (sym p.2) ∙ sym p.1)
+    subst (λ r. ReportsOverSteps c.args.thread.now c.rename_over.new.thread r) (c.in_err-rename_over.was ∙ ap Err (sym p.2) ∙ sym p.1)
     (over_from c.args.thread.now c.rename_over.new.thread c.rename_over.result c.rename_over.ensures.errors)
 
 pub returns-in_err-rename_over-clause-device : goal.returns-in_err-rename_over-clause-device
@@ -40,7 +40,7 @@ returns-in_err-drop_at-clause-errors g c =
     let r = c.from_residual-in_err-drop_at in
     let p = err_from_is_err_and r.result r.ensures.1 in
     over_then c.args.thread.now c.rename_over.new.thread c.drop_at.new.thread c.in_ok-rename_over.field-0 c.rename_over.result r.result c.in_ok-rename_over.was c.rename_over.ensures.errors
-    (tells_again c.rename_over.new.thread c.drop_at.new.thread p.0 c.drop_at.result r.result (c.in_err-drop_at.was ∙ ap Err (sym p.2)) p.1 c.drop_at.ensures.errors.failed c.drop_at.ensures.errors.told)
+    (reports_again c.rename_over.new.thread c.drop_at.new.thread p.0 c.drop_at.result r.result (c.in_err-drop_at.was ∙ ap Err (sym p.2)) p.1 c.drop_at.ensures.errors.failed c.drop_at.ensures.errors.reported)
 
 pub returns-in_err-drop_at-clause-device : goal.returns-in_err-drop_at-clause-device
 returns-in_err-drop_at-clause-device g c =
@@ -62,7 +62,7 @@ returns-clause-renamed g c rename =
 
 pub returns-clause-errors : goal.returns-clause-errors
 returns-clause-errors g c =
-    subst (λ r. TellsOverSteps c.args.thread.now c.drop_at.new.thread r) c.in_ok-drop_at.was
+    subst (λ r. ReportsOverSteps c.args.thread.now c.drop_at.new.thread r) c.in_ok-drop_at.was
     (over_then c.args.thread.now c.rename_over.new.thread c.drop_at.new.thread c.in_ok-rename_over.field-0 c.rename_over.result c.drop_at.result c.in_ok-rename_over.was c.rename_over.ensures.errors c.drop_at.ensures.errors)
 
 pub returns-clause-device : goal.returns-clause-device

@@ -3,13 +3,13 @@ use Rattle.std.proofs.lemmas.Result.{err_from_is_err_and}
 use Rattle.lfs_device.specs.declared.error.Error.TheVariants as Error
 use Rattle.lfs_model.specs.Changes.{Delete, PutMove}
 use Rattle.lfs_model.specs.Slots.{gstate_xor}
-use Rattle.lfs_model.proofs.Global.{sync_share}
-use Rattle.lfs_pair.specs.ChangeSeen.{changes_seen}
+use Rattle.lfs_model.proofs.Global.{sync_delta}
+use Rattle.lfs_pair.specs.ChangeView.{changes_view}
 use Rattle.lfs_pair.specs.declared.committing.Outcome.{Outcome}
 use Rattle.lfs_pair.specs.declared.committing.Outcome.TheVariants as outcome
 use Rattle.lfs_thread.specs.Device.{StopsLeave, two_of}
 use Rattle.lfs_thread.specs.Kept.{Kept}
-use Rattle.lfs_thread.specs.Steps.{CanChange, IsChanged, IsLeft, IsRefused, Writes, pair_in}
+use Rattle.lfs_thread.specs.Steps.{CanChange, IsChanged, IsLeftByChange, IsRefused, Writes, pair_in}
 use Rattle.lfs_operations.specs.Renaming.{place_without, with_renamed}
 use Rattle.lfs_operations.specs.RenamingOver.{IsRenamedOver, rename_over_changes}
 use Rattle.lfs_operations.specs.RenamingSlots.{slot_changes}
@@ -43,8 +43,8 @@ returns-in_err-changes-clause-survives g c rename =
 
 pub change-requires-clause-can : goal.change-requires-clause-can
 change-requires-clause-can g c =
-    let state = c.with_share-state.ensures ∙ ap₂ gstate_xor c.share.ensures c.sync_bit.ensures ∙ ap (λ (k : Kept). gstate_xor (pair_in k c.args.pair).content.move sync_share) (read_is c.args.thread.now.kept c.copy_at.new.thread.kept c.copy_at.ensures.only) in
-    let are = ap changes_seen c.deref.ensures.value ∙ c.in_ok-changes.ensures
+    let state = c.with_delta-state.ensures ∙ ap₂ gstate_xor c.delta.ensures c.sync_bit.ensures ∙ ap (λ (k : Kept). gstate_xor (pair_in k c.args.pair).content.move sync_delta) (read_is c.args.thread.now.kept c.copy_at.new.thread.kept c.copy_at.ensures.only) in
+    let are = ap changes_view c.deref.ensures.value ∙ c.in_ok-changes.ensures
     ∙ ap₂ (λ m z. PutMove m ∷ Delete c.args.id ∷ Delete (place_without c.args.id c.args.place) ∷ slot_changes (place_without c.args.id c.args.place) c.args.name.now z) state c.in_ok-copy.ensures.copied in
     subst (CanChange c.copy_at.new.thread.kept c.args.pair) (sym are) (can_change_after_read c.args.thread.now.kept c.copy_at.new.thread.kept c.args.pair (rename_over_changes c.args.thread.now.kept c.args.pair c.args.id c.args.place c.args.name.now) c.copy_at.ensures.only (can_over c.args.thread.now.kept c.args.pair c.args.id c.args.place c.args.name.now c.requires.can))
 
@@ -61,27 +61,27 @@ returns-in_err-change-clause-device g c =
 
 pub returns-in_err-change-clause-survives : goal.returns-in_err-change-clause-survives
 returns-in_err-change-clause-survives g c rename =
-    let state = c.with_share-state.ensures ∙ ap₂ gstate_xor c.share.ensures c.sync_bit.ensures ∙ ap (λ (k : Kept). gstate_xor (pair_in k c.args.pair).content.move sync_share) (read_is c.args.thread.now.kept c.copy_at.new.thread.kept c.copy_at.ensures.only) in
-    let are = ap changes_seen c.deref.ensures.value ∙ c.in_ok-changes.ensures
+    let state = c.with_delta-state.ensures ∙ ap₂ gstate_xor c.delta.ensures c.sync_bit.ensures ∙ ap (λ (k : Kept). gstate_xor (pair_in k c.args.pair).content.move sync_delta) (read_is c.args.thread.now.kept c.copy_at.new.thread.kept c.copy_at.ensures.only) in
+    let are = ap changes_view c.deref.ensures.value ∙ c.in_ok-changes.ensures
     ∙ ap₂ (λ m z. PutMove m ∷ Delete c.args.id ∷ Delete (place_without c.args.id c.args.place) ∷ slot_changes (place_without c.args.id c.args.place) c.args.name.now z) state c.in_ok-copy.ensures.copied in
     over_survives c.args.thread.now.kept c.args.pair c.args.id c.args.place c.args.name.now rename c.change.new.self.kept.history
     (change_stops_after_read c.args.thread.now.kept c.copy_at.new.thread.kept c.change.new.self.kept c.args.pair (rename_over_changes c.args.thread.now.kept c.args.pair c.args.id c.args.place c.args.name.now) (two_of (pair_in c.copy_at.new.thread.kept c.args.pair).at) c.copy_at.ensures.only
     rename.can.ready rename.can.first rename.can.stands.pair rename.can.stands.rest rename.can.stands.place c.change.ensures.device.only
-    (subst (λ z. StopsLeave c.copy_at.new.thread.kept.history c.change.new.self.kept.history (IsLeft c.copy_at.new.thread.kept c.args.pair z)) are c.change.ensures.stops))
+    (subst (λ z. StopsLeave c.copy_at.new.thread.kept.history c.change.new.self.kept.history (IsLeftByChange c.copy_at.new.thread.kept c.args.pair z)) are c.change.ensures.stops))
 
 pub returns-clause-renamed : goal.returns-clause-renamed
 returns-clause-renamed g c rename = by c.in_ok-change.field-0 c.in_ok-change.was
   where
     by : (o : Outcome) → c.change.result ≡ Ok o → IsRenamedOver c.args.thread.now.kept c.change.new.self.kept c.args.pair c.args.id c.args.place rename.can.path rename.can.name c.args.name.now
     by outcome.Done is =
-        let state = c.with_share-state.ensures ∙ ap₂ gstate_xor c.share.ensures c.sync_bit.ensures ∙ ap (λ (k : Kept). gstate_xor (pair_in k c.args.pair).content.move sync_share) (read_is c.args.thread.now.kept c.copy_at.new.thread.kept c.copy_at.ensures.only) in
-        let are = ap changes_seen c.deref.ensures.value ∙ c.in_ok-changes.ensures
+        let state = c.with_delta-state.ensures ∙ ap₂ gstate_xor c.delta.ensures c.sync_bit.ensures ∙ ap (λ (k : Kept). gstate_xor (pair_in k c.args.pair).content.move sync_delta) (read_is c.args.thread.now.kept c.copy_at.new.thread.kept c.copy_at.ensures.only) in
+        let are = ap changes_view c.deref.ensures.value ∙ c.in_ok-changes.ensures
         ∙ ap₂ (λ m z. PutMove m ∷ Delete c.args.id ∷ Delete (place_without c.args.id c.args.place) ∷ slot_changes (place_without c.args.id c.args.place) c.args.name.now z) state c.in_ok-copy.ensures.copied in
         renamed_over c.args.thread.now.kept c.args.pair c.args.id c.args.place c.args.name.now rename c.change.new.self.kept (changed_after_read c.args.thread.now.kept c.copy_at.new.thread.kept c.change.new.self.kept c.args.pair (rename_over_changes c.args.thread.now.kept c.args.pair c.args.id c.args.place c.args.name.now) c.copy_at.ensures.only
         (subst (λ z. IsChanged c.copy_at.new.thread.kept c.args.pair z c.change.new.self.kept) are (c.change.ensures.done is)))
     by outcome.Full is =
-        let state = c.with_share-state.ensures ∙ ap₂ gstate_xor c.share.ensures c.sync_bit.ensures ∙ ap (λ (k : Kept). gstate_xor (pair_in k c.args.pair).content.move sync_share) (read_is c.args.thread.now.kept c.copy_at.new.thread.kept c.copy_at.ensures.only) in
-        let are = ap changes_seen c.deref.ensures.value ∙ c.in_ok-changes.ensures
+        let state = c.with_delta-state.ensures ∙ ap₂ gstate_xor c.delta.ensures c.sync_bit.ensures ∙ ap (λ (k : Kept). gstate_xor (pair_in k c.args.pair).content.move sync_delta) (read_is c.args.thread.now.kept c.copy_at.new.thread.kept c.copy_at.ensures.only) in
+        let are = ap changes_view c.deref.ensures.value ∙ c.in_ok-changes.ensures
         ∙ ap₂ (λ m z. PutMove m ∷ Delete c.args.id ∷ Delete (place_without c.args.id c.args.place) ∷ slot_changes (place_without c.args.id c.args.place) c.args.name.now z) state c.in_ok-copy.ensures.copied in
         absurd (over_not_refused c.args.thread.now.kept c.args.pair c.args.id c.args.place c.args.name.now rename c.change.new.self.kept (refused_after_read c.args.thread.now.kept c.copy_at.new.thread.kept c.change.new.self.kept c.args.pair (rename_over_changes c.args.thread.now.kept c.args.pair c.args.id c.args.place c.args.name.now) c.copy_at.ensures.only
         (subst (λ z. IsRefused c.copy_at.new.thread.kept c.args.pair z c.change.new.self.kept) are (c.change.ensures.full is))))
@@ -97,10 +97,10 @@ returns-clause-device g c =
 
 pub returns-clause-survives : goal.returns-clause-survives
 returns-clause-survives g c rename =
-    let state = c.with_share-state.ensures ∙ ap₂ gstate_xor c.share.ensures c.sync_bit.ensures ∙ ap (λ (k : Kept). gstate_xor (pair_in k c.args.pair).content.move sync_share) (read_is c.args.thread.now.kept c.copy_at.new.thread.kept c.copy_at.ensures.only) in
-    let are = ap changes_seen c.deref.ensures.value ∙ c.in_ok-changes.ensures
+    let state = c.with_delta-state.ensures ∙ ap₂ gstate_xor c.delta.ensures c.sync_bit.ensures ∙ ap (λ (k : Kept). gstate_xor (pair_in k c.args.pair).content.move sync_delta) (read_is c.args.thread.now.kept c.copy_at.new.thread.kept c.copy_at.ensures.only) in
+    let are = ap changes_view c.deref.ensures.value ∙ c.in_ok-changes.ensures
     ∙ ap₂ (λ m z. PutMove m ∷ Delete c.args.id ∷ Delete (place_without c.args.id c.args.place) ∷ slot_changes (place_without c.args.id c.args.place) c.args.name.now z) state c.in_ok-copy.ensures.copied in
     over_survives c.args.thread.now.kept c.args.pair c.args.id c.args.place c.args.name.now rename c.change.new.self.kept.history
     (change_stops_after_read c.args.thread.now.kept c.copy_at.new.thread.kept c.change.new.self.kept c.args.pair (rename_over_changes c.args.thread.now.kept c.args.pair c.args.id c.args.place c.args.name.now) (two_of (pair_in c.copy_at.new.thread.kept c.args.pair).at) c.copy_at.ensures.only
     rename.can.ready rename.can.first rename.can.stands.pair rename.can.stands.rest rename.can.stands.place c.change.ensures.device.only
-    (subst (λ z. StopsLeave c.copy_at.new.thread.kept.history c.change.new.self.kept.history (IsLeft c.copy_at.new.thread.kept c.args.pair z)) are c.change.ensures.stops))
+    (subst (λ z. StopsLeave c.copy_at.new.thread.kept.history c.change.new.self.kept.history (IsLeftByChange c.copy_at.new.thread.kept c.args.pair z)) are c.change.ensures.stops))

@@ -5,7 +5,7 @@ use Rattle.lfs_thread.specs.Device.{StopsLeave, four_of, two_of}
 use Rattle.lfs_thread.specs.Steps.{Writes, pair_in}
 use Rattle.lfs_operations.specs.Dropping.{CanDropAt, HasDroppedBehind, IsLeftByDrop}
 use Rattle.lfs_operations.proofs.AlteredDrops.{beside_alters}
-use Rattle.lfs_operations.proofs.Removed.{tells_again}
+use Rattle.lfs_operations.proofs.Removed.{reports_again}
 use Rattle.lfs_operations.proofs.RmdirThread.{can_drop_gone, directory_removed}
 use Rattle.lfs_operations.proofs.UnlinkedSteps.{both_survive, first_survives, steps_from, steps_then, writes_first, writes_two, written_beside}
 use Rattle.lfs_operations.proofs.unlinking.remove_beside.Goals as goal
@@ -19,7 +19,7 @@ pub returns-in_err-unlink-clause-errors : goal.returns-in_err-unlink-clause-erro
 returns-in_err-unlink-clause-errors g c =
     let p = err_from_is_err_and c.from_residual.result c.from_residual.ensures.1 in
     steps_from c.args.thread.now c.unlink.new.thread c.from_residual.result
-    (tells_again c.args.thread.now c.unlink.new.thread p.0 c.unlink.result c.from_residual.result (c.in_err-unlink.was ∙ ap Err (sym p.2)) p.1 c.unlink.ensures.errors.failed c.unlink.ensures.errors.told)
+    (reports_again c.args.thread.now c.unlink.new.thread p.0 c.unlink.result c.from_residual.result (c.in_err-unlink.was ∙ ap Err (sym p.2)) p.1 c.unlink.ensures.errors.failed c.unlink.ensures.errors.reported)
 
 pub returns-in_err-unlink-clause-device : goal.returns-in_err-unlink-clause-device
 returns-in_err-unlink-clause-device g c =
@@ -34,7 +34,7 @@ returns-in_err-drop_at-clause-errors g c =
     let r = c.from_residual-in_err-drop_at in
     let p = err_from_is_err_and r.result r.ensures.1 in
     steps_then c.args.thread.now c.unlink.new.thread c.drop_at.new.thread c.in_ok-unlink.field-0 c.unlink.result r.result c.in_ok-unlink.was c.unlink.ensures.errors
-    (tells_again c.unlink.new.thread c.drop_at.new.thread p.0 c.drop_at.result r.result (c.in_err-drop_at.was ∙ ap Err (sym p.2)) p.1 c.drop_at.ensures.errors.failed c.drop_at.ensures.errors.told)
+    (reports_again c.unlink.new.thread c.drop_at.new.thread p.0 c.drop_at.result r.result (c.in_err-drop_at.was ∙ ap Err (sym p.2)) p.1 c.drop_at.ensures.errors.failed c.drop_at.ensures.errors.reported)
 
 pub returns-in_err-drop_at-clause-device : goal.returns-in_err-drop_at-clause-device
 returns-in_err-drop_at-clause-device g c =

@@ -1,14 +1,14 @@
 use Rattle.std.proofs.Common.{ℕ, ◌≡◌, sym, subst, ◌∙◌, ◌-◌, ap, Err}
 use Rattle.std.proofs.lemmas.Result.{err_from_is_err_and}
 use Rattle.lfs_model.specs.Slots.{Gstate, no_gstate}
-use Rattle.lfs_tag.specs.FieldsSeen.{move_seen}
+use Rattle.lfs_tag.specs.FieldsView.{move_view}
 use Rattle.lfs_thread.specs.Device.{StopsLeave, four_of, two_of}
 use Rattle.lfs_thread.specs.Kept.{Kept}
 use Rattle.lfs_thread.specs.Steps.{Writes, pair_in}
 use Rattle.lfs_operations.specs.Dropping.{CanDropAt, HasDroppedBehind, IsLeftByDrop}
 use Rattle.lfs_operations.specs.Unlinking.{number_without}
 use Rattle.lfs_operations.proofs.AlteredDrops.{whole_alters}
-use Rattle.lfs_operations.proofs.Removed.{tells_again}
+use Rattle.lfs_operations.proofs.Removed.{reports_again}
 use Rattle.lfs_operations.proofs.RemovedWhole.{stands_whole}
 use Rattle.lfs_operations.proofs.UnlinkedWhole.{can_drop_entry, can_drop_then, whole_removed}
 use Rattle.lfs_operations.proofs.UnlinkedSteps.{both_survive_whole, first_survives_whole, steps_from, steps_then, writes_first, writes_whole, written_whole}
@@ -32,7 +32,7 @@ pub returns-in_err-drop_at-clause-errors : goal.returns-in_err-drop_at-clause-er
 returns-in_err-drop_at-clause-errors g c =
     let p = err_from_is_err_and c.from_residual.result c.from_residual.ensures.1 in
     steps_from c.args.thread.now c.drop_at.new.thread c.from_residual.result
-    (tells_again c.args.thread.now c.drop_at.new.thread p.0 c.drop_at.result c.from_residual.result (c.in_err-drop_at.was ∙ ap Err (sym p.2)) p.1 c.drop_at.ensures.errors.failed c.drop_at.ensures.errors.told)
+    (reports_again c.args.thread.now c.drop_at.new.thread p.0 c.drop_at.result c.from_residual.result (c.in_err-drop_at.was ∙ ap Err (sym p.2)) p.1 c.drop_at.ensures.errors.failed c.drop_at.ensures.errors.reported)
 
 pub returns-in_err-drop_at-clause-device : goal.returns-in_err-drop_at-clause-device
 returns-in_err-drop_at-clause-device g c =
@@ -48,7 +48,7 @@ returns-in_err-drop_at-2-clause-errors g c =
     let r = c.from_residual-in_err-drop_at-2 in
     let p = err_from_is_err_and r.result r.ensures.1 in
     steps_then c.args.thread.now c.drop_at.new.thread c.drop_at-2.new.thread c.in_ok-drop_at.field-0 c.drop_at.result r.result c.in_ok-drop_at.was c.drop_at.ensures.errors
-    (tells_again c.drop_at.new.thread c.drop_at-2.new.thread p.0 c.drop_at-2.result r.result (c.in_err-drop_at-2.was ∙ ap Err (sym p.2)) p.1 c.drop_at-2.ensures.errors.failed c.drop_at-2.ensures.errors.told)
+    (reports_again c.drop_at.new.thread c.drop_at-2.new.thread p.0 c.drop_at-2.result r.result (c.in_err-drop_at-2.was ∙ ap Err (sym p.2)) p.1 c.drop_at-2.ensures.errors.failed c.drop_at-2.ensures.errors.reported)
 
 pub returns-in_err-drop_at-2-clause-device : goal.returns-in_err-drop_at-2-clause-device
 returns-in_err-drop_at-2-clause-device g c =
@@ -69,7 +69,7 @@ returns-in_err-drop_at-2-clause-survives g c take = both_survive_whole c.args.th
 pub returns-clause-is_removed : goal.returns-clause-is_removed
 returns-clause-is_removed g c take = whole_removed c.args.thread.now.kept c.args.pair c.args.id c.args.first c.args.gone take (stands_whole c.args.thread.now.kept c.args.pair c.args.id c.args.first take.can take.begins c.requires.goes) c.drop_at.new.thread.kept
     (subst (λ (s : Gstate). HasDroppedBehind c.args.thread.now.kept (c.args.pair - 1) s c.drop_at.new.thread.kept) c.sync_bit.ensures c.in_ok-drop_at.ensures.is_dropped)
-    c.drop_at-2.new.thread.kept (then_dropped c.drop_at.new.thread.kept c.renumbered.result (number_without c.args.pair c.args.gone) (move_seen c.none.result) c.drop_at-2.new.thread.kept c.renumbered.ensures c.none.ensures c.in_ok-drop_at-2.ensures.is_dropped)
+    c.drop_at-2.new.thread.kept (then_dropped c.drop_at.new.thread.kept c.renumbered.result (number_without c.args.pair c.args.gone) (move_view c.none.result) c.drop_at-2.new.thread.kept c.renumbered.ensures c.none.ensures c.in_ok-drop_at-2.ensures.is_dropped)
 
 pub returns-clause-device : goal.returns-clause-device
 returns-clause-device g c =
@@ -91,4 +91,4 @@ pub returns-clause-alters : goal.returns-clause-alters
 returns-clause-alters g c =
     whole_alters c.args.thread.now.kept c.args.pair c.args.id c.args.first c.args.gone c.requires.can (stands_whole c.args.thread.now.kept c.args.pair c.args.id c.args.first c.requires.can.can c.requires.can.begins c.requires.goes) c.drop_at.new.thread.kept
     (subst (λ (s : Gstate). HasDroppedBehind c.args.thread.now.kept (c.args.pair - 1) s c.drop_at.new.thread.kept) c.sync_bit.ensures c.in_ok-drop_at.ensures.is_dropped)
-    c.drop_at-2.new.thread.kept (then_dropped c.drop_at.new.thread.kept c.renumbered.result (number_without c.args.pair c.args.gone) (move_seen c.none.result) c.drop_at-2.new.thread.kept c.renumbered.ensures c.none.ensures c.in_ok-drop_at-2.ensures.is_dropped)
+    c.drop_at-2.new.thread.kept (then_dropped c.drop_at.new.thread.kept c.renumbered.result (number_without c.args.pair c.args.gone) (move_view c.none.result) c.drop_at-2.new.thread.kept c.renumbered.ensures c.none.ensures c.in_ok-drop_at-2.ensures.is_dropped)

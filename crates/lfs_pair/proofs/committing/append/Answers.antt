@@ -10,11 +10,11 @@ use Rattle.lfs_model.specs.Slots.{address_of}
 use Rattle.lfs_model.specs.Changes.{entries_of_changes}
 use Rattle.lfs_model.proofs.Histories.{LeavesOnly-weaker}
 use Rattle.lfs_tag.specs.Builder.{Building}
-use Rattle.lfs_tag.specs.ContentSeen.{content_seen}
+use Rattle.lfs_tag.specs.ContentView.{content_view}
 use Rattle.lfs_pair.specs.Pair.{address_in}
 use Rattle.lfs_pair.specs.Writing.{with_entries}
 use Rattle.lfs_pair.specs.Commit.{KeepsFirst, LeftWith}
-use Rattle.lfs_pair.specs.ChangeSeen.{changes_seen}
+use Rattle.lfs_pair.specs.ChangeView.{changes_view}
 use Rattle.lfs_pair.proofs.Calls.{only_block}
 use Rattle.lfs_pair.proofs.Changed.{IsIn, is_appending, appended, appended_first, active_among, active_below, now_holds, left_by_append, ends_in_block, made_is, some_same, gets_revision}
 use Rattle.lfs_pair.proofs.committing.append.Goals as goal
@@ -45,9 +45,9 @@ program-requires-clause-in_device g c =
 pub returns-in_err-written-clause-stops : goal.returns-in_err-written-clause-stops
 returns-in_err-written-clause-stops g c =
     let can = c.requires.can in
-    let built = c.push_changes.ensures ∙ ap (with_entries (entries_of_changes (changes_seen c.args.changes.now))) c.new-builder.ensures in
-    let ready = is_appending _ _ c.args.pair.now can.held can.new (changes_seen c.args.changes.now) c.push_changes.new.builder can.address can.is_pair can.changed (ap (λ (b : Building). b.entries) built) (ap (λ (b : Building). b.revision) built) in
-    let new : Some can.new ≡ Some (content_seen c.args.content.now) = sym (made_is _ _ c.args.pair.now can.held (changes_seen c.args.changes.now) can.is_pair ∙ can.changed) ∙ c.requires.made in
+    let built = c.push_changes.ensures ∙ ap (with_entries (entries_of_changes (changes_view c.args.changes.now))) c.new-builder.ensures in
+    let ready = is_appending _ _ c.args.pair.now can.held can.new (changes_view c.args.changes.now) c.push_changes.new.builder can.address can.is_pair can.changed (ap (λ (b : Building). b.entries) built) (ap (λ (b : Building). b.revision) built) in
+    let new : Some can.new ≡ Some (content_view c.args.content.now) = sym (made_is _ _ c.args.pair.now can.held (changes_view c.args.changes.now) can.is_pair ∙ can.changed) ∙ c.requires.made in
     LeavesOnly-weaker (λ disk left. subst (λ k. LeftWith (disk_of (g.D.BlockDevice.geometry c.args.dev.now) (g.D.BlockDevice.blocks c.args.dev.now)) (address_in c.args.pair.now) k disk) (some_same new)
     (left_by_append _ _ _ _ _ _ _ c.args.pair.now.end disk ready can.is_pair.describes.end left)) c.in_err-written.ensures.stops
 
@@ -56,22 +56,22 @@ returns-clause-done g c done =
     let can = c.requires.can in
     let device = c.in_ok-written.ensures.writes.device in
     let adds = c.in_ok-written.ensures.adds in
-    let built = c.push_changes.ensures ∙ ap (with_entries (entries_of_changes (changes_seen c.args.changes.now))) c.new-builder.ensures in
-    let ready = is_appending _ _ c.args.pair.now can.held can.new (changes_seen c.args.changes.now) c.push_changes.new.builder can.address can.is_pair can.changed (ap (λ (b : Building). b.entries) built) (ap (λ (b : Building). b.revision) built) in
-    let new : Some can.new ≡ Some (content_seen c.args.content.now) = sym (made_is _ _ c.args.pair.now can.held (changes_seen c.args.changes.now) can.is_pair ∙ can.changed) ∙ c.requires.made in
-    let holds = subst (λ k. IsIn (disk_of k (g.D.BlockDevice.blocks c.program.new.dev)) (address_in c.args.pair.now) c.args.pair.now.active (content_seen c.args.content.now)) (sym device.geometry)
+    let built = c.push_changes.ensures ∙ ap (with_entries (entries_of_changes (changes_view c.args.changes.now))) c.new-builder.ensures in
+    let ready = is_appending _ _ c.args.pair.now can.held can.new (changes_view c.args.changes.now) c.push_changes.new.builder can.address can.is_pair can.changed (ap (λ (b : Building). b.entries) built) (ap (λ (b : Building). b.revision) built) in
+    let new : Some can.new ≡ Some (content_view c.args.content.now) = sym (made_is _ _ c.args.pair.now can.held (changes_view c.args.changes.now) can.is_pair ∙ can.changed) ∙ c.requires.made in
+    let holds = subst (λ k. IsIn (disk_of k (g.D.BlockDevice.blocks c.program.new.dev)) (address_in c.args.pair.now) c.args.pair.now.active (content_view c.args.content.now)) (sym device.geometry)
     (subst (IsIn (disk_of (g.D.BlockDevice.geometry c.args.dev.now) (g.D.BlockDevice.blocks c.program.new.dev)) (address_in c.args.pair.now) c.args.pair.now.active) (some_same new)
     (appended _ _ _ _ _ _ _ (g.D.BlockDevice.blocks c.program.new.dev) ready device.others adds.commit)) in
     let gets = subst (λ (b : Building). Gets b (block_in (g.D.BlockDevice.blocks c.args.dev.now) c.args.pair.now.active) (block_in (g.D.BlockDevice.blocks c.program.new.dev) c.args.pair.now.active)) built adds.commit in
-    let ends = ap padded_end built ∙ ap (page_end c.geometry-geometry.result.page) (nothing_more (entries_size (entries_of_changes (changes_seen c.args.changes.now)))) ∙ ap (λ (k : Geometry). page_end k.page (entries_size (entries_of_changes (changes_seen c.args.changes.now)))) c.geometry-geometry.ensures in
+    let ends = ap padded_end built ∙ ap (page_end c.geometry-geometry.result.page) (nothing_more (entries_size (entries_of_changes (changes_view c.args.changes.now)))) ∙ ap (λ (k : Geometry). page_end k.page (entries_size (entries_of_changes (changes_view c.args.changes.now)))) c.geometry-geometry.ensures in
     record {
       holds = now_holds _ _ _ c.written.result c.args.pair.now.active _ holds
           (ap address_of c.written.ensures.blocks) c.written.ensures.active c.written.ensures.fetched
           (c.written.ensures.revision ∙ can.is_pair.describes.revision ∙ sym (gets_revision c.push_changes.new.builder _ _ ready.no_revision adds.commit))
           c.written.ensures.ends c.in_ok-written.ensures.written c.written.ensures.sums c.requires.logged;
-      first = subst (λ k. KeepsFirst (disk_of (g.D.BlockDevice.geometry c.args.dev.now) (g.D.BlockDevice.blocks c.args.dev.now)) (address_in c.args.pair.now) (Some (content_seen c.args.content.now)) (disk_of k (g.D.BlockDevice.blocks c.program.new.dev)))
+      first = subst (λ k. KeepsFirst (disk_of (g.D.BlockDevice.geometry c.args.dev.now) (g.D.BlockDevice.blocks c.args.dev.now)) (address_in c.args.pair.now) (Some (content_view c.args.content.now)) (disk_of k (g.D.BlockDevice.blocks c.program.new.dev)))
           (sym device.geometry)
-          (appended_first _ _ _ _ _ _ _ (Some (content_seen c.args.content.now)) (g.D.BlockDevice.blocks c.program.new.dev) ready device.others adds.commit);
+          (appended_first _ _ _ _ _ _ _ (Some (content_view c.args.content.now)) (g.D.BlockDevice.blocks c.program.new.dev) ready device.others adds.commit);
       appends = search rules;
       appended = record {
         active = c.written.ensures.active;
@@ -91,9 +91,9 @@ returns-clause-done g c done =
 pub returns-clause-stops : goal.returns-clause-stops
 returns-clause-stops g c =
     let can = c.requires.can in
-    let built = c.push_changes.ensures ∙ ap (with_entries (entries_of_changes (changes_seen c.args.changes.now))) c.new-builder.ensures in
-    let ready = is_appending _ _ c.args.pair.now can.held can.new (changes_seen c.args.changes.now) c.push_changes.new.builder can.address can.is_pair can.changed (ap (λ (b : Building). b.entries) built) (ap (λ (b : Building). b.revision) built) in
-    let new : Some can.new ≡ Some (content_seen c.args.content.now) = sym (made_is _ _ c.args.pair.now can.held (changes_seen c.args.changes.now) can.is_pair ∙ can.changed) ∙ c.requires.made in
+    let built = c.push_changes.ensures ∙ ap (with_entries (entries_of_changes (changes_view c.args.changes.now))) c.new-builder.ensures in
+    let ready = is_appending _ _ c.args.pair.now can.held can.new (changes_view c.args.changes.now) c.push_changes.new.builder can.address can.is_pair can.changed (ap (λ (b : Building). b.entries) built) (ap (λ (b : Building). b.revision) built) in
+    let new : Some can.new ≡ Some (content_view c.args.content.now) = sym (made_is _ _ c.args.pair.now can.held (changes_view c.args.changes.now) can.is_pair ∙ can.changed) ∙ c.requires.made in
     LeavesOnly-weaker (λ disk left. subst (λ k. LeftWith (disk_of (g.D.BlockDevice.geometry c.args.dev.now) (g.D.BlockDevice.blocks c.args.dev.now)) (address_in c.args.pair.now) k disk) (some_same new)
     (left_by_append _ _ _ _ _ _ _ c.args.pair.now.end disk ready can.is_pair.describes.end left)) c.in_ok-written.ensures.stops
 

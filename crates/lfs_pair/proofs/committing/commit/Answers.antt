@@ -4,7 +4,7 @@ use Rattle.std.proofs.Common.{arith, ap₂, subst}
 use Rattle.lfs_device.specs.Shown.{disk_of}
 use Rattle.lfs_model.proofs.Histories.{goes_on_by, LeavesOnly-reads, LeavesOnly-weaker, EachSince-behind, Stops-read}
 use Rattle.lfs_pair.specs.Pair.{address_in}
-use Rattle.lfs_pair.specs.ChangeSeen.{changes_seen}
+use Rattle.lfs_pair.specs.ChangeView.{changes_view}
 use Rattle.lfs_pair.specs.Commit.{LeftByChange}
 use Rattle.lfs_pair.proofs.Calls.{few_at_error, few_by_read, reading_by_read, reading_trans}
 use Rattle.lfs_pair.proofs.Changed.{active_below, left_alone}
@@ -21,14 +21,14 @@ pub returns-in_err-outcome-clause-stops : goal.returns-in_err-outcome-clause-sto
 returns-in_err-outcome-clause-stops g c cleanly =
     let same_disk = ap₂ disk_of c.in_ok-block.ensures.device.geometry c.in_ok-block.ensures.device.same in
     goes_on_by (LeavesOnly-reads Stops-read c.in_ok-block.ensures.device.reads (left_alone _ _ _))
-    (LeavesOnly-weaker (λ disk left. subst (λ old. LeftByChange old (address_in c.args.pair.now) (changes_seen c.args.changes.now) disk) same_disk left)
+    (LeavesOnly-weaker (λ disk left. subst (λ old. LeftByChange old (address_in c.args.pair.now) (changes_view c.args.changes.now) disk) same_disk left)
     (c.in_err-outcome.ensures.stops (EachSince-behind cleanly c.in_ok-block.ensures.device.reads c.in_err-outcome.ensures.device.only.at_worst)))
 
 pub returns-clause-stops : goal.returns-clause-stops
 returns-clause-stops g c cleanly =
     let same_disk = ap₂ disk_of c.in_ok-block.ensures.device.geometry c.in_ok-block.ensures.device.same in
     goes_on_by (LeavesOnly-reads Stops-read c.in_ok-block.ensures.device.reads (left_alone _ _ _))
-    (LeavesOnly-weaker (λ disk left. subst (λ old. LeftByChange old (address_in c.args.pair.now) (changes_seen c.args.changes.now) disk) same_disk left)
+    (LeavesOnly-weaker (λ disk left. subst (λ old. LeftByChange old (address_in c.args.pair.now) (changes_view c.args.changes.now) disk) same_disk left)
     (c.in_ok-outcome.ensures.stops (EachSince-behind cleanly c.in_ok-block.ensures.device.reads c.in_ok-outcome.ensures.device.only.at_worst)))
 
 pub returns-clause-done : goal.returns-clause-done

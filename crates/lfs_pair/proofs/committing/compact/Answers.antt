@@ -3,7 +3,7 @@ use Rattle.lfs_pair.specs.Writing.{HoldsAnew}
 use Rattle.std.proofs.Common.{rules, ℕ, ◌+◌, ◌%◌, ◌^◌, refl, sym, ap, ◌∙◌, subst, arith}
 use Rattle.lfs_device.specs.Shown.{disk_of}
 use Rattle.lfs_model.specs.Slots.{address_of}
-use Rattle.lfs_tag.specs.ContentSeen.{content_seen}
+use Rattle.lfs_tag.specs.ContentView.{content_view}
 use Rattle.std.proofs.Common.{Some}
 use Rattle.lfs_pair.specs.Commit.{KeepsFirst}
 use Rattle.lfs_model.proofs.Histories.{LeavesOnly-weaker}
@@ -30,19 +30,19 @@ returns-clause-done g c =
     let ready = is_compacting _ c.args.pair.now c.other-other.result ((c.args.pair.now.revision + 1) % 2 ^ 32) c.requires.address c.requires.active c.other-other.ensures (omega arith) refl in
     let device = c.in_ok-written.ensures.writes.device in
     let anew = c.in_ok-written.ensures.anew in
-    let holds = subst (λ k. IsIn (disk_of k (g.D.BlockDevice.blocks c.write_anew.new.dev)) (address_in c.args.pair.now) c.other-other.result (content_seen c.args.content.now)) (sym device.geometry)
+    let holds = subst (λ k. IsIn (disk_of k (g.D.BlockDevice.blocks c.write_anew.new.dev)) (address_in c.args.pair.now) c.other-other.result (content_view c.args.content.now)) (sym device.geometry)
     (compacted _ _ _ _ _ _ (g.D.BlockDevice.blocks c.write_anew.new.dev) ready device.others anew.holds) in
     record {
       holds = now_holds _ _ _ c.written.result c.other-other.result _ holds
           (ap address_of c.written.ensures.blocks) c.written.ensures.active c.written.ensures.fetched
           (c.written.ensures.revision ∙ sym anew.holds.revision_is)
           c.written.ensures.ends c.in_ok-written.ensures.written c.written.ensures.sums c.requires.logged;
-      first = subst (λ k. KeepsFirst (disk_of (g.D.BlockDevice.geometry c.args.dev.now) (g.D.BlockDevice.blocks c.args.dev.now)) (address_in c.args.pair.now) (Some (content_seen c.args.content.now)) (disk_of k (g.D.BlockDevice.blocks c.write_anew.new.dev)))
+      first = subst (λ k. KeepsFirst (disk_of (g.D.BlockDevice.geometry c.args.dev.now) (g.D.BlockDevice.blocks c.args.dev.now)) (address_in c.args.pair.now) (Some (content_view c.args.content.now)) (disk_of k (g.D.BlockDevice.blocks c.write_anew.new.dev)))
           (sym device.geometry)
           (compacted_first _ _ _ _ _ _ (g.D.BlockDevice.blocks c.write_anew.new.dev) ready device.others anew.holds);
       compacted = record {
         active = λ same. ready.apart (sym same ∙ c.written.ensures.active);
-        anew = subst (λ (b : ℕ). HoldsAnew ((c.args.pair.now.revision + 1) % 2 ^ 32) (content_seen c.args.content.now) (block_in (g.D.BlockDevice.blocks c.write_anew.new.dev) b)
+        anew = subst (λ (b : ℕ). HoldsAnew ((c.args.pair.now.revision + 1) % 2 ^ 32) (content_view c.args.content.now) (block_in (g.D.BlockDevice.blocks c.write_anew.new.dev) b)
             (g.D.BlockDevice.history c.args.dev.now) (g.D.BlockDevice.history c.write_anew.new.dev)) (sym c.written.ensures.active) anew;
         end = c.written.ensures.ends.end_is ∙ c.in_ok-written.ensures.size;
         kept = device.others.others c.args.pair.now.active ready.apart;

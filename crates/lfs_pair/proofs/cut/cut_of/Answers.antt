@@ -2,7 +2,7 @@ use Rattle.std.proofs.Common.{arith, ◌∙◌, ◌*◌, ◌≡◌, ◌+◌, len
 use Rattle.std.proofs.lemmas.Bool.{ltb-false, ltb-true}
 use Rattle.std.proofs.lemmas.List.{length-map}
 use Rattle.lfs_model.specs.Content.{RawSlot}
-use Rattle.lfs_tag.specs.ContentSeen.{slot_seen}
+use Rattle.lfs_tag.specs.ContentView.{slot_view}
 use Rattle.lfs_pair.specs.Cut.{IsMiddle}
 use Rattle.lfs_pair.proofs.Cutting.{cut_at_end, cut_where_fits, cut_where_full, fits_more, nothing_in_front, passes_where_back, passes_where_small, sums_of, total_is}
 use Rattle.lfs_pair.proofs.cut.cut_of.Goals as goal
@@ -10,23 +10,23 @@ use Rattle.lfs_pair.proofs.cut.cut_of.Goals.{then-not-is_within-via-then-not-is_
 
 pub loop-slot-init : goal.loop-slot-init
 loop-slot-init c = record {
-  total = total_is c.args.geometry.block_size _ (map slot_seen c.args.slots.now) c.slots_size-total.result (omega arith) c.requires c.slots_size-total.ensures;
+  total = total_is c.args.geometry.block_size _ (map slot_view c.args.slots.now) c.slots_size-total.result (omega arith) c.requires c.slots_size-total.ensures;
   cut = omega arith;
   front = omega arith;
-  fronts = nothing_in_front c.args.geometry.block_size c.args.geometry.page (map slot_seen c.args.slots.now);
+  fronts = nothing_in_front c.args.geometry.block_size c.args.geometry.page (map slot_view c.args.slots.now);
 }
 
 pub overflow_add-longer : goal.overflow_add-longer
-overflow_add-longer c = let s = sums_of slot_seen c.args.geometry.block_size _ c.args.slots.now c.loop-slot.slot-index c.slot-item.result c.slot_size.result (omega arith) c.requires c.loop-slot-test.true c.slot-item.is c.slot_size.ensures in omega arith
+overflow_add-longer c = let s = sums_of slot_view c.args.geometry.block_size _ c.args.slots.now c.loop-slot.slot-index c.slot-item.result c.slot_size.result (omega arith) c.requires c.loop-slot-test.true c.slot-item.is c.slot_size.ensures in omega arith
 
 pub overflow_sub-total : goal.overflow_sub-total
-overflow_sub-total c = let s = sums_of slot_seen c.args.geometry.block_size _ c.args.slots.now c.loop-slot.slot-index c.slot-item.result c.slot_size.result (omega arith) c.requires c.loop-slot-test.true c.slot-item.is c.slot_size.ensures in omega arith
+overflow_sub-total c = let s = sums_of slot_view c.args.geometry.block_size _ c.args.slots.now c.loop-slot.slot-index c.slot-item.result c.slot_size.result (omega arith) c.requires c.loop-slot-test.true c.slot-item.is c.slot_size.ensures in omega arith
 
 pub returns-then-not-is_within : goal.returns-then-not-is_within
 returns-then-not-is_within c =
-    let s = sums_of slot_seen c.args.geometry.block_size _ c.args.slots.now c.loop-slot.slot-index c.slot-item.result c.slot_size.result (omega arith) c.requires c.loop-slot-test.true c.slot-item.is c.slot_size.ensures in
-    let slots : List RawSlot = map slot_seen c.args.slots.now in
-    let count : length slots ≡ length c.args.slots.now = length-map c.args.slots.now slot_seen in
+    let s = sums_of slot_view c.args.geometry.block_size _ c.args.slots.now c.loop-slot.slot-index c.slot-item.result c.slot_size.result (omega arith) c.requires c.loop-slot-test.true c.slot-item.is c.slot_size.ensures in
+    let slots : List RawSlot = map slot_view c.args.slots.now in
+    let count : length slots ≡ length c.args.slots.now = length-map c.args.slots.now slot_view in
     subst (IsMiddle c.args.geometry.block_size c.args.geometry.page slots) (sym c.loop-slot.invariant.cut) (elim c.then-not-is_within.branch [
       | then-not-is_within-via-then-not-is_within w ↦
           cut_where_full c.args.geometry.block_size c.args.geometry.page slots c.loop-slot.slot-index (omega arith) c.loop-slot.invariant.fronts c.requires
@@ -42,16 +42,16 @@ returns-then-not-is_within c =
 
 pub loop-slot-preserved : goal.loop-slot-preserved
 loop-slot-preserved c =
-    let s = sums_of slot_seen c.args.geometry.block_size _ c.args.slots.now c.loop-slot.slot-index c.slot-item.result c.slot_size.result (omega arith) c.requires c.loop-slot-test.true c.slot-item.is c.slot_size.ensures in
-    let slots : List RawSlot = map slot_seen c.args.slots.now in
-    let count : length slots ≡ length c.args.slots.now = length-map c.args.slots.now slot_seen in
+    let s = sums_of slot_view c.args.geometry.block_size _ c.args.slots.now c.loop-slot.slot-index c.slot-item.result c.slot_size.result (omega arith) c.requires c.loop-slot-test.true c.slot-item.is c.slot_size.ensures in
+    let slots : List RawSlot = map slot_view c.args.slots.now in
+    let count : length slots ≡ length c.args.slots.now = length-map c.args.slots.now slot_view in
     let fits = c.is_within.ensures.0 c.if-not-is_within.false in
     record {
       total = c.loop-slot.invariant.total;
       cut = omega arith;
       front = omega arith;
       fronts = record {
-        fits = fits_more slot_seen c.args.geometry.block_size c.args.geometry.page c.args.slots.now c.loop-slot.slot-index c.loop-slot-test.true (omega (arith, fits.0)) (omega (arith, fits.1));
+        fits = fits_more slot_view c.args.geometry.block_size c.args.geometry.page c.args.slots.now c.loop-slot.slot-index c.loop-slot-test.true (omega (arith, fits.0)) (omega (arith, fits.1));
         passes = elim c.if-back_fits.branch [
           | then-back_fits v ↦ passes_where_small c.args.geometry.block_size c.args.geometry.page slots c.loop-slot.slot-index
               (omega (arith, ltb-false c.slots_size-total.result (2 * (c.loop-slot.front + c.slot_size.result)) (sym v.value-is ∙ c.if-longer-total.false)))
@@ -64,6 +64,6 @@ loop-slot-preserved c =
 
 pub returns : goal.returns
 returns c =
-    let slots : List RawSlot = map slot_seen c.args.slots.now in
+    let slots : List RawSlot = map slot_view c.args.slots.now in
     subst (IsMiddle c.args.geometry.block_size c.args.geometry.page slots) (sym c.loop-slot.invariant.cut)
-    (cut_at_end c.args.geometry.block_size c.args.geometry.page slots c.loop-slot.slot-index (omega (arith, length-map c.args.slots.now slot_seen)) c.loop-slot.invariant.fronts)
+    (cut_at_end c.args.geometry.block_size c.args.geometry.page slots c.loop-slot.slot-index (omega (arith, length-map c.args.slots.now slot_view)) c.loop-slot.invariant.fronts)

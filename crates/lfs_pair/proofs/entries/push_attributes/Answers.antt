@@ -1,9 +1,9 @@
-use Rattle.lfs_tag.specs.ContentSeen.{attribute_seen}
+use Rattle.lfs_tag.specs.ContentView.{attribute_view}
 use Rattle.lfs_pair.proofs.Pushed.{attributes_more, short_at}
 use Rattle.lfs_pair.proofs.entries.push_attributes.Goals as goal
 
 pub push-requires-clause-bytes : goal.push-requires-clause-bytes
-push-requires-clause-bytes c = short_at attribute_seen 0 c.args.attributes.now c.loop-attribute.attribute-index _ c.requires.attributes c.loop-attribute-test.true
+push-requires-clause-bytes c = short_at attribute_view 0 c.args.attributes.now c.loop-attribute.attribute-index _ c.requires.attributes c.loop-attribute-test.true
 
 pub loop-attribute-preserved : goal.loop-attribute-preserved
 loop-attribute-preserved c =

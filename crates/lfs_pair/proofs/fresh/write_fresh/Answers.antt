@@ -3,7 +3,7 @@ use Rattle.lfs_device.specs.Shown.{disk_of}
 use Rattle.lfs_model.specs.Blocks.{block_in}
 use Rattle.lfs_model.specs.Content.{has_commit}
 use Rattle.lfs_model.specs.Slots.{address_of}
-use Rattle.lfs_tag.specs.ContentSeen.{content_seen}
+use Rattle.lfs_tag.specs.ContentView.{content_view}
 use Rattle.lfs_pair.proofs.Changed.{first_in, now_holds}
 use Rattle.lfs_pair.proofs.Parted.{clears_more}
 use Rattle.lfs_pair.proofs.Calls.{only_block, only_trans}
@@ -21,7 +21,7 @@ pub returns-clause-holds : goal.returns-clause-holds
 returns-clause-holds g c =
     let cleared : has_commit (block_in (g.D.BlockDevice.blocks c.write_anew.new.dev) (address_of c.args.blocks).1) ≡ false
     = ap has_commit (c.in_ok-written.ensures.writes.device.others.others (address_of c.args.blocks).1 (λ same. c.requires.address.apart (sym same))) ∙ c.in_ok-clear.ensures.cleared in
-    let holds = first_in (disk_of (g.D.BlockDevice.geometry c.write_anew.new.dev) (g.D.BlockDevice.blocks c.write_anew.new.dev)) (address_of c.args.blocks) 1 (content_seen c.args.content.now) cleared c.in_ok-written.ensures.anew.holds in
+    let holds = first_in (disk_of (g.D.BlockDevice.geometry c.write_anew.new.dev) (g.D.BlockDevice.blocks c.write_anew.new.dev)) (address_of c.args.blocks) 1 (content_view c.args.content.now) cleared c.in_ok-written.ensures.anew.holds in
     now_holds _ (g.D.BlockDevice.history c.write_anew.new.dev) _ c.written.result (address_of c.args.blocks).0 _ holds
     (ap address_of c.written.ensures.blocks) c.written.ensures.active c.written.ensures.fetched
     (c.written.ensures.revision ∙ sym c.in_ok-written.ensures.anew.holds.revision_is)

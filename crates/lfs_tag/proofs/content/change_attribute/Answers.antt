@@ -3,8 +3,8 @@ use Rattle.lfs_model.specs.Slots.{Attributes}
 use Rattle.lfs_model.specs.Tag.{len_of}
 use Rattle.lfs_model.specs.Content.{RawSlot, with_attribute}
 use Rattle.lfs_tag.specs.declared.content.Slot.{Slot}
-use Rattle.lfs_tag.specs.ContentSeen.{slot_seen, attribute_seen}
-use Rattle.lfs_tag.specs.Seen.{seen}
+use Rattle.lfs_tag.specs.ContentView.{slot_view, attribute_view}
+use Rattle.lfs_tag.specs.LogEntryView.{log_entry_view}
 use Rattle.lfs_tag.proofs.Places.{changed_is, without_is}
 use Rattle.lfs_tag.proofs.content.change_attribute.Goals as goal
 
@@ -12,17 +12,17 @@ pub returns-then-removes : goal.returns-then-removes
 returns-then-removes c =
     let x : Slot = c.index_mut-slot.result.now in
     let y : Slot = record x { attributes = c.remove_attribute.new.attributes } in
-    let f : RawSlot → RawSlot = λ s. record s { attributes = with_attribute (seen c.args.entry.now) s.attributes } in
+    let f : RawSlot → RawSlot = λ s. record s { attributes = with_attribute (log_entry_view c.args.entry.now) s.attributes } in
     let removes : eqb (len_of c.args.entry.now.tag) 0x3ff ≡ true = sym c.removes.ensures ∙ c.if-removes.true in
-    let same = ap (map attribute_seen) c.remove_attribute.ensures ∙ without_is c.chunk-kind.result x.attributes.items in
+    let same = ap (map attribute_view) c.remove_attribute.ensures ∙ without_is c.chunk-kind.result x.attributes.items in
     changed_is f c.args.slots.now.items c.args.id x y (omega arith) c.index_mut-slot.ensures.value
-    (rw removes (ap (λ (others : Attributes). record (slot_seen x) { attributes = others }) (same ∙ rw c.chunk-kind.ensures refl)))
+    (rw removes (ap (λ (others : Attributes). record (slot_view x) { attributes = others }) (same ∙ rw c.chunk-kind.ensures refl)))
 
 pub returns-in_ok-set_attribute : goal.returns-in_ok-set_attribute
 returns-in_ok-set_attribute c =
     let x : Slot = c.index_mut-slot.result.now in
     let y : Slot = record x { attributes = c.set_attribute.new.attributes } in
-    let f : RawSlot → RawSlot = λ s. record s { attributes = with_attribute (seen c.args.entry.now) s.attributes } in
+    let f : RawSlot → RawSlot = λ s. record s { attributes = with_attribute (log_entry_view c.args.entry.now) s.attributes } in
     let sets : eqb (len_of c.args.entry.now.tag) 0x3ff ≡ false = sym c.removes.ensures ∙ c.if-removes.false in
     changed_is f c.args.slots.now.items c.args.id x y (omega arith) c.index_mut-slot.ensures.value
-    (rw sets (ap (λ (others : Attributes). record (slot_seen x) { attributes = others }) (c.in_ok-set_attribute.ensures ∙ rw c.chunk-kind.ensures refl)))
+    (rw sets (ap (λ (others : Attributes). record (slot_view x) { attributes = others }) (c.in_ok-set_attribute.ensures ∙ rw c.chunk-kind.ensures refl)))

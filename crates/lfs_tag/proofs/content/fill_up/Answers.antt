@@ -1,6 +1,6 @@
 use Rattle.std.proofs.Common.{◌≡◌, ◌+◌, ◌-◌, ◌∙◌, ap, arith, map, length, [], ◌∷◌}
 use Rattle.std.proofs.lemmas.List.{map-append, length-append}
-use Rattle.lfs_tag.specs.ContentSeen.{slot_seen}
+use Rattle.lfs_tag.specs.ContentView.{slot_view}
 use Rattle.lfs_tag.proofs.Places.{one_more}
 use Rattle.lfs_tag.proofs.content.fill_up.Goals as goal
 
@@ -14,5 +14,5 @@ loop-alloc-preserved c =
     record {
       longer = omega (arith, len, c.loop-alloc.invariant.longer);
       within = omega (arith, len, c.loop-alloc.invariant.within, c.len.ensures);
-      filled = rw (count, items, map-append slot_seen now (c.empty_slot.result ∷ []), c.empty_slot.ensures) (one_more (map slot_seen old) (map slot_seen now) (length now - length old) c.loop-alloc.invariant.filled);
+      filled = rw (count, items, map-append slot_view now (c.empty_slot.result ∷ []), c.empty_slot.ensures) (one_more (map slot_view old) (map slot_view now) (length now - length old) c.loop-alloc.invariant.filled);
     }

@@ -1,13 +1,13 @@
 use Rattle.std.proofs.Common.{◌≡◌, ◌+◌, ◌-◌, ◌≤◌, ◌++◌, map, length, replicate, max}
 use Rattle.lfs_model.specs.Content.{empty_slot}
-use Rattle.lfs_tag.specs.ContentSeen.{slot_seen}
+use Rattle.lfs_tag.specs.ContentView.{slot_view}
 use Rattle.lfs_tag.proofs.content.fill_up.Given as goal
 
 abbrev pub invariant-loop-alloc : goal.invariant-loop-alloc
 invariant-loop-alloc l = record {
   longer : length l.initial.slots.items ≤ length l.slots.items;
   within : length l.slots.items ≤ max (length l.initial.slots.items) (l.id + 1);
-  filled : map slot_seen l.slots.items ≡ map slot_seen l.initial.slots.items ++ replicate (length l.slots.items - length l.initial.slots.items) empty_slot;
+  filled : map slot_view l.slots.items ≡ map slot_view l.initial.slots.items ++ replicate (length l.slots.items - length l.initial.slots.items) empty_slot;
 }
 
 abbrev pub decreases-loop-alloc : goal.decreases-loop-alloc

@@ -1,13 +1,13 @@
 use Rattle.std.proofs.Common.{rules, ◌≡◌, sym, ap, ◌∙◌, Some, None, true, false}
 use Rattle.std.specs.Option.{option_map}
 use Rattle.lfs_model.specs.Log.{entry_at, is_checksum, closes, commit_at, past}
-use Rattle.lfs_tag.specs.Seen.{seen}
+use Rattle.lfs_tag.specs.LogEntryView.{log_entry_view}
 use Rattle.lfs_model.proofs.Chains.{stop, commit_none, commit_closed, commit_refused, commit_on, stop-with}
 use Rattle.lfs_tag.proofs.log.commit_end.Goals as goal
 
 pub returns-then-closes-clause-value : goal.returns-then-closes-clause-value
 returns-then-closes-clause-value c =
-    let e = seen c.in-Some.entry in
+    let e = log_entry_view c.in-Some.entry in
     let is : entry_at c.args.block.now c.loop-entry.at c.loop-entry.before ≡ Some e = sym c.in-Some.ensures.value in
     let sum : is_checksum e ≡ true = sym c.ends_commit.ensures ∙ c.if-ends_commit.true in
     let right : closes c.args.block.now c.args.start c.loop-entry.at e ≡ true = sym c.closes.ensures ∙ c.if-closes.true in
@@ -15,7 +15,7 @@ returns-then-closes-clause-value c =
 
 pub returns-else-closes-clause-value : goal.returns-else-closes-clause-value
 returns-else-closes-clause-value c =
-    let e = seen c.in-Some.entry in
+    let e = log_entry_view c.in-Some.entry in
     let is : entry_at c.args.block.now c.loop-entry.at c.loop-entry.before ≡ Some e = sym c.in-Some.ensures.value in
     let sum : is_checksum e ≡ true = sym c.ends_commit.ensures ∙ c.if-ends_commit.true in
     let wrong : closes c.args.block.now c.args.start c.loop-entry.at e ≡ false = sym c.closes.ensures ∙ c.if-closes.false in
@@ -23,7 +23,7 @@ returns-else-closes-clause-value c =
 
 pub loop-entry-preserved : goal.loop-entry-preserved
 loop-entry-preserved c =
-    let e = seen c.in-Some.entry in
+    let e = log_entry_view c.in-Some.entry in
     let is : entry_at c.args.block.now c.loop-entry.at c.loop-entry.before ≡ Some e = sym c.in-Some.ensures.value in
     let other : is_checksum e ≡ false = sym c.ends_commit.ensures ∙ c.if-ends_commit.false in
     record {

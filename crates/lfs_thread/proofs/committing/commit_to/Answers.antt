@@ -3,10 +3,10 @@ use Rattle.std.specs.Prelude.{option_map}
 use Rattle.std.specs.declared.alloc.Global.{Global}
 use Rattle.lfs_pair.specs.Writing.{ChangesReading}
 use Rattle.lfs_thread.specs.Device.{two_of}
-use Rattle.lfs_thread.specs.Lent.{read_if_missing}
+use Rattle.lfs_thread.specs.CachedLog.{read_if_missing}
 use Rattle.lfs_pair.specs.Pair.{address_in}
-use Rattle.lfs_thread.proofs.Told.{errors_of}
-use Rattle.lfs_thread.proofs.AtHand.{current_but_two, current_without}
+use Rattle.lfs_thread.proofs.Reported.{errors_of}
+use Rattle.lfs_thread.proofs.CachedLogs.{current_but_two, current_without}
 use Rattle.lfs_thread.proofs.committing.commit_to.Goals as goal
 
 pub returns-in-Some-clause-current : goal.returns-in-Some-clause-current

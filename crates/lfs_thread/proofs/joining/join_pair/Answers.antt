@@ -5,20 +5,20 @@ use Rattle.lfs_model.specs.Blocks.{SameButThese}
 use Rattle.lfs_model.specs.BlockSets.{BlockSets, IsInFlight, Used}
 use Rattle.lfs_model.specs.Slots.{address_of}
 use Rattle.lfs_model.proofs.Histories.{faults-since}
-use Rattle.lfs_pair.specs.ChangeSeen.{changes_seen}
+use Rattle.lfs_pair.specs.ChangeView.{changes_view}
 use Rattle.lfs_pair.specs.Pair.{address_in}
-use Rattle.lfs_thread.specs.Device.{TellsErrors, four_of, two_of}
-use Rattle.lfs_thread.specs.Kept.{Header, IsKept, disk_on, seen, seen_on}
+use Rattle.lfs_thread.specs.Device.{ReportsErrors, four_of, two_of}
+use Rattle.lfs_thread.specs.Kept.{Header, IsKept, disk_on, kept_view, kept_view_on}
 use Rattle.lfs_thread.specs.Steps.{IsBeside}
-use Rattle.lfs_thread.proofs.AtHand.{current_but_two}
+use Rattle.lfs_thread.proofs.CachedLogs.{current_but_two}
 use Rattle.lfs_thread.proofs.Changing.{at_there}
-use Rattle.lfs_thread.specs.Lent.{read_if_missing}
+use Rattle.lfs_thread.specs.CachedLog.{read_if_missing}
 use Rattle.lfs_thread.proofs.Coming.{second_held}
-use Rattle.lfs_thread.proofs.Lending.{cached_beside, reading_there}
+use Rattle.lfs_thread.proofs.CachedPair.{cached_beside, reading_there}
 use Rattle.lfs_thread.proofs.Joined.{fresh_can}
 use Rattle.lfs_thread.proofs.Threaded.{device_can, device_left_beside, device_stops, beside_read, is_beside, device_joined, device_is_joined, unplaced}
 use Rattle.lfs_thread.proofs.Parting.{placed}
-use Rattle.lfs_thread.proofs.Told.{changes_by_fresh, changes_by_both}
+use Rattle.lfs_thread.proofs.Reported.{changes_by_fresh, changes_by_both}
 use Rattle.lfs_thread.proofs.joining.join_pair.Goals as goal
 
 pub fresh-requires : goal.fresh-requires
@@ -70,7 +70,7 @@ returns-in_err-outcome-clause-device g c =
 pub returns-in_err-outcome-clause-errors : goal.returns-in_err-outcome-clause-errors
 returns-in_err-outcome-clause-errors g c =
     let p = err_from_is_err_and c.from_residual-in_err-outcome.result c.from_residual-in_err-outcome.ensures.1 in
-    let t = subst (λ r. TellsErrors g.D.BlockDevice c.fresh.new.dev c.commit_to.new.device r) (sym (p.1 ∙ ap Err p.2)) c.in_err-outcome.ensures.errors in
+    let t = subst (λ r. ReportsErrors g.D.BlockDevice c.fresh.new.dev c.commit_to.new.device r) (sym (p.1 ∙ ap Err p.2)) c.in_err-outcome.ensures.errors in
     let so_far = faults-since c.in_ok-fresh_pair.ensures.device.only.at_worst in
     record {
       errors = t.errors;
@@ -107,7 +107,7 @@ returns-in-Full-clause-full g c _ =
     let e = c.in_ok-fresh_pair.ensures in
     let full = (c.in_ok-outcome.ensures.full (ap Ok c.in-Full.is)).device in
     let items = c.remove.ensures.items ∙ ap (λ (z : List Header). remove z (c.args.index + 1)) c.in_ok-insert.ensures.items ∙ unplaced _ _ _ _ a in
-    subst (λ (z : List Header). IsBeside (seen_on g.D.BlockDevice c.args.device.now c.args.pairs.now.items c.args.map.now) c.args.index (address_of c.args.fresh) (changes_seen c.args.changes.now) (seen (disk_on g.D.BlockDevice c.commit_to.new.device) (g.D.BlockDevice.history c.commit_to.new.device) z c.args.map.now)) (sym items)
+    subst (λ (z : List Header). IsBeside (kept_view_on g.D.BlockDevice c.args.device.now c.args.pairs.now.items c.args.map.now) c.args.index (address_of c.args.fresh) (changes_view c.args.changes.now) (kept_view (disk_on g.D.BlockDevice c.commit_to.new.device) (g.D.BlockDevice.history c.commit_to.new.device) z c.args.map.now)) (sym items)
     (is_beside _ _ _ _ _ _ c.args.pairs.now.items c.args.map.now c.args.index c.index.result.now (address_of c.args.fresh) _ e.device.only.geometry a c.requires.kept c.requires.can e.device.only.others e.device.only.elsewhere _ (g.D.BlockDevice.history c.commit_to.new.device) (ap₂ disk_of full.geometry full.same) (c.in_ok-outcome.ensures.full (ap Ok c.in-Full.is)).completed)
 
 pub returns-in-Full-clause-device : goal.returns-in-Full-clause-device

@@ -1,14 +1,14 @@
 use Rattle.std.proofs.lemmas.Result.{err_from_is_err_and}
 use Rattle.std.specs.Prelude.{◌⊎◌, IfErr}
 use Rattle.lfs_device.specs.declared.error.Error.TheVariants.{Corrupt, Io, NoMemory}
-use Rattle.lfs_device.specs.Calls.{TellsFaults}
+use Rattle.lfs_device.specs.Calls.{ReportsFaults}
 use Rattle.std.proofs.Common.{◌≡◌, ◌+◌, ◌<◌, ◌∙◌, Err, [], ◌∷◌, length, refl, sym, ap, ap₂, subst, arith, rules, length-append}
 use Rattle.std.specs.Option.{option_map}
 use Rattle.lfs_device.specs.Shown.{disk_of}
 use Rattle.lfs_device.specs.declared.geometry.Geometry.{Geometry}
 use Rattle.lfs_model.specs.Slots.{address_of}
 use Rattle.lfs_model.proofs.Histories.{began}
-use Rattle.lfs_thread.specs.Begun.{IsBegun}
+use Rattle.lfs_thread.specs.Begun.{IsThreadBegun}
 use Rattle.lfs_thread.proofs.Begun.{begun_first, begun_next, begun_kept, begun_none_in_flight, begun_few, no_thread, read_on, same_error}
 use Rattle.lfs_thread.proofs.reading.read_pairs.Goals as goal
 
@@ -23,7 +23,7 @@ loop-init g c = record {
 
 pub returns-in-None-clause-kept : goal.returns-in-None-clause-kept
 returns-in-None-clause-kept g c =
-    begun_kept _ _ _ _ (subst (IsBegun (disk_of (g.D.BlockDevice.geometry c.loop.device) (g.D.BlockDevice.blocks c.loop.device)) (g.D.BlockDevice.history c.loop.device) c.loop.pairs.items c.loop.map)
+    begun_kept _ _ _ _ (subst (IsThreadBegun (disk_of (g.D.BlockDevice.geometry c.loop.device) (g.D.BlockDevice.blocks c.loop.device)) (g.D.BlockDevice.history c.loop.device) c.loop.pairs.items c.loop.map)
     (ap (option_map address_of) c.in-None.is) c.loop.invariant.begun)
 
 pub returns-in-None-clause-marked : goal.returns-in-None-clause-marked
@@ -35,21 +35,21 @@ returns-in_err-pair-in-Some-clause-corrupt g c e =
     no_thread _ _ _ _ _ _ _ (address_of c.in-Some.at) (ap₂ disk_of c.loop.invariant.device.geometry c.loop.invariant.device.same) (g.met.D.BlockDevice.shape c.args.device.now).count (ap (option_map address_of) c.in-Some.is)
     c.loop.invariant.begun (c.in_err-pair-in-Some.ensures.corrupt (ap Err (same_error p.1 p.2 e)))
 
-pub returns-in_err-pair-in-Some-clause-told : goal.returns-in_err-pair-in-Some-clause-told
-returns-in_err-pair-in-Some-clause-told g c =
-    let told = c.in_err-pair-in-Some.ensures.told in
+pub returns-in_err-pair-in-Some-clause-reported : goal.returns-in_err-pair-in-Some-clause-reported
+returns-in_err-pair-in-Some-clause-reported g c =
+    let reported = c.in_err-pair-in-Some.ensures.reported in
     let errors : IfErr c.from_residual.result (λ e. (e ≡ Corrupt) ⊎ ((e ≡ Io) ⊎ (e ≡ NoMemory))) = search rules in
-    let faults : TellsFaults g.D.BlockDevice c.args.device.now c.read_pair.new.device c.from_residual.result = search rules in
-    record { device = read_on c.loop.invariant.device told.device; errors = errors; faults = faults }
+    let faults : ReportsFaults g.D.BlockDevice c.args.device.now c.read_pair.new.device c.from_residual.result = search rules in
+    record { device = read_on c.loop.invariant.device reported.device; errors = errors; faults = faults }
 
-pub returns-in_err-push-in-Some-clause-told : goal.returns-in_err-push-in-Some-clause-told
-returns-in_err-push-in-Some-clause-told g c =
-    let told = c.in_ok-pair-in-Some.ensures.told in
+pub returns-in_err-push-in-Some-clause-reported : goal.returns-in_err-push-in-Some-clause-reported
+returns-in_err-push-in-Some-clause-reported g c =
+    let reported = c.in_ok-pair-in-Some.ensures.reported in
     let errors : IfErr c.from_residual-in_err-push-in-Some.result (λ e. (e ≡ Corrupt) ⊎ ((e ≡ Io) ⊎ (e ≡ NoMemory))) = search rules in
     let full : c.from_residual-in_err-push-in-Some.result ≡ Err NoMemory = search rules in
-    let no_fault = told.faults.no_fault (λ e. absurd (cc)) ∙ c.loop.invariant.no_fault in
+    let no_fault = reported.faults.no_fault (λ e. absurd (cc)) ∙ c.loop.invariant.no_fault in
     record {
-      device = read_on c.loop.invariant.device told.device;
+      device = read_on c.loop.invariant.device reported.device;
       errors = errors;
       faults = record { fault = λ e. absurd (cc); no_fault = λ _. no_fault };
     }
@@ -57,11 +57,11 @@ returns-in_err-push-in-Some-clause-told g c =
 pub loop-preserved : goal.loop-preserved
 loop-preserved g c =
     let read = c.in_ok-pair-in-Some.ensures in
-    let no_fault = read.told.faults.no_fault (λ e. absurd (cc)) in
+    let no_fault = read.reported.faults.no_fault (λ e. absurd (cc)) in
     record {
       begun = begun_next (disk_of (g.D.BlockDevice.geometry c.loop.device) (g.D.BlockDevice.blocks c.loop.device)) _ _ _ _ c.loop.pairs.items _ c.loop.map _ (option_map address_of c.loop.next) (address_of c.in-Some.at) c.in_ok-pair-in-Some.pair (option_map address_of c.tail_of-next.result)
-          (ap₂ disk_of read.told.device.geometry read.told.device.same) read.told.device.reads (ap (option_map address_of) c.in-Some.is) c.loop.invariant.begun read.read.header read.read.address read.read.stands c.in_ok-push-in-Some.ensures.items read.read.marked c.tail_of-next.ensures;
-      device = read_on c.loop.invariant.device read.told.device;
+          (ap₂ disk_of read.reported.device.geometry read.reported.device.same) read.reported.device.reads (ap (option_map address_of) c.in-Some.is) c.loop.invariant.begun read.read.header read.read.address read.read.stands c.in_ok-push-in-Some.ensures.items read.read.marked c.tail_of-next.ensures;
+      device = read_on c.loop.invariant.device read.reported.device;
       no_fault = no_fault ∙ c.loop.invariant.no_fault;
       few = (let before = c.loop.invariant.few in let two = read.few in let more = ap length c.in_ok-push-in-Some.ensures.items ∙ length-append c.loop.pairs.items (c.in_ok-pair-in-Some.pair ∷ []) in omega (arith, before, two, more));
       count = ap length c.in_ok-push-in-Some.ensures.items ∙ length-append c.loop.pairs.items (c.in_ok-pair-in-Some.pair ∷ []) ∙ ap (λ n. n + 1) c.loop.invariant.count;

@@ -7,9 +7,9 @@ use Rattle.lfs_thread.specs.Device.{four_of}
 use Rattle.lfs_thread.specs.Kept.{Header, disk_on}
 use Rattle.lfs_thread.proofs.Changing.{at_there}
 use Rattle.lfs_thread.proofs.Coming.{second_held}
-use Rattle.lfs_thread.proofs.Lending.{reading_there}
+use Rattle.lfs_thread.proofs.CachedPair.{reading_there}
 use Rattle.lfs_thread.proofs.Parting.{can_split, device_split, device_is_split, left_by_split, placed}
-use Rattle.lfs_thread.proofs.Told.{errors_again}
+use Rattle.lfs_thread.proofs.Reported.{errors_again}
 use Rattle.lfs_thread.proofs.splitting.split_pair.Goals as goal
 
 pub split_to-requires-clause-can : goal.split_to-requires-clause-can

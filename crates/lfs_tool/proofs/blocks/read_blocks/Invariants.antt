@@ -1,6 +1,6 @@
 use Rattle.std.proofs.Common.{◌≡◌, ◌+◌, ◌-◌, ◌*◌, ◌≤◌, length}
 use Rattle.lfs_tool.specs.ExcerptBlocks.{HaveSize}
-use Rattle.lfs_tool.specs.ExcerptSeen.{size_of}
+use Rattle.lfs_tool.specs.ExcerptView.{size_of}
 use Rattle.lfs_tool.proofs.BlockReads.{HasRead}
 use Rattle.lfs_tool.proofs.blocks.read_blocks.Given as goal
 

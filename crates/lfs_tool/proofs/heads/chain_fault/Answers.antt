@@ -1,5 +1,5 @@
 use Rattle.std.proofs.Common.{arith}
-use Rattle.lfs_tool.specs.HeldSeen.{pairs_seen}
+use Rattle.lfs_tool.specs.HeldView.{pairs_view}
 use Rattle.lfs_tool.proofs.HeldPlaces.{pair_there}
 use Rattle.lfs_tool.proofs.heads.chain_fault.Goals as goal
 
@@ -9,4 +9,4 @@ returns-in-Some c disk sizes =
     let below = c.requires.below in
     let root = c.requires.root in
     let test = c.loop-index-test.true in
-    c.in-Some.ensures disk (pairs_seen pairs) c.loop-index.index sizes (pair_there pairs c.loop-index.index c.index-pairs-index.result (omega (arith, below, test)) c.index-pairs-index.is) (omega (arith, root, test))
+    c.in-Some.ensures disk (pairs_view pairs) c.loop-index.index sizes (pair_there pairs c.loop-index.index c.index-pairs-index.result (omega (arith, below, test)) c.index-pairs-index.is) (omega (arith, root, test))

@@ -1,6 +1,6 @@
 use Rattle.std.proofs.Common.{ap, subst, sym}
 use Rattle.std.proofs.lemmas.Result.{IfOk-weaker}
-use Rattle.lfs_device.specs.RamDevice.{blocks_of, geometry_of}
+use Rattle.lfs_device.specs.RamDevice.{ram_blocks, geometry_of}
 use Rattle.lfs_device.specs.Shown.{disk_of, ordered}
 use Rattle.lfs_model.specs.BlockSets.{AreUsed}
 use Rattle.lfs_model.specs.Disk.{Disk}
@@ -22,7 +22,7 @@ judge_mounted-requires-clause-longer c = λ is (ps, a).
 
 pub returns-in-Ok-clause-verdict : goal.returns-in-Ok-clause-verdict
 returns-in-Ok-clause-verdict c =
-    let disk = disk_of (geometry_of c.args.device) (blocks_of c.args.device) in
+    let disk = disk_of (geometry_of c.args.device) (ram_blocks c.args.device) in
     let m = c.in-Ok.ensures.mounted in
     IfOk-weaker c.judge_mounted.result _ _ (λ v h order. verdict_alike c.in-Ok.thread.kept.disk (ordered order disk) LongerFirst v (ap (λ (d : Disk). ordered LongerFirst d) m.disk_is) h) c.judge_mounted.ensures.verdict
 
@@ -30,6 +30,6 @@ pub returns-in_ok-found-in-Err-default-Corrupt-clause-verdict : goal.returns-in_
 returns-in_ok-found-in-Err-default-Corrupt-clause-verdict c =
     let e = c.in-Err-default-Corrupt in λ order. (
       (λ other ps a. e.ensures.corrupt e.field-0-1-is other ps a),
-      found_alike (disk_of (geometry_of e.device) (blocks_of e.device)) (ordered order (disk_of (geometry_of c.args.device) (blocks_of c.args.device))) LongerFirst c.in_ok-found-in-Err-default-Corrupt.found
+      found_alike (disk_of (geometry_of e.device) (ram_blocks e.device)) (ordered order (disk_of (geometry_of c.args.device) (ram_blocks c.args.device))) LongerFirst c.in_ok-found-in-Err-default-Corrupt.found
           (e.ensures.back.disk LongerFirst) c.in_ok-found-in-Err-default-Corrupt.ensures.found,
     )

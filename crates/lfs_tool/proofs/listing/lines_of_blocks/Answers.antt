@@ -1,7 +1,7 @@
 use Rattle.std.proofs.Common.{subst, sym}
 use Rattle.std.proofs.lemmas.Result.{IfErr-weaker, IfOk-weaker}
 use Rattle.lfs_device.specs.Shown.{disk_of as shown}
-use Rattle.lfs_tool.specs.ExcerptSeen.{blocks_of, geometry_of}
+use Rattle.lfs_tool.specs.ExcerptView.{excerpt_blocks, geometry_of}
 use Rattle.lfs_tool.specs.Listed.{Refuses}
 use Rattle.lfs_tool.proofs.Excerpts.{kind_not_mounted, lists_by_excerpt, no_image_of_blocks, refuses_by_excerpt}
 use Rattle.lfs_tool.proofs.listing.lines_of_blocks.Goals as goal
@@ -28,4 +28,4 @@ returns-in-Err-clause-err c = λ bytes are.
 pub returns-in-Ok-clause-kinds : goal.returns-in-Ok-clause-kinds
 returns-in-Ok-clause-kinds c =
     let e = c.in-Ok in
-    IfErr-weaker c.lines_on.result _ _ (λ error none. kind_not_mounted (shown (geometry_of e.excerpt) (blocks_of e.excerpt)) error none) c.lines_on.ensures.err
+    IfErr-weaker c.lines_on.result _ _ (λ error none. kind_not_mounted (shown (geometry_of e.excerpt) (excerpt_blocks e.excerpt)) error none) c.lines_on.ensures.err

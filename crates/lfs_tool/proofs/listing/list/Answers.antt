@@ -3,7 +3,7 @@ use Rattle.std.proofs.lemmas.Result.{on_ok_weaker}
 use Rattle.std.specs.Io.KnownBytes.{Appends}
 use Rattle.lfs_tool.specs.Known.{AppendsBeginning}
 use Rattle.lfs_tool.proofs.Images.{with_lines}
-use Rattle.lfs_tool.proofs.Writers.{tells_written}
+use Rattle.lfs_tool.proofs.Writers.{reports_written}
 use Rattle.lfs_tool.proofs.listing.list.Goals as goal
 
 pub returns-clause-ok : goal.returns-clause-ok
@@ -18,4 +18,4 @@ returns-clause-beginning g c = λ failed.
     with_lines (g.R.Reader.remaining c.args.image.now) c.args.block_size c.args.page c.in_ok-text.text.items P c.in_ok-text.ensures.ok (subst P c.as_slice.ensures.value c.write_bytes.ensures.beginning)
 
 pub returns-clause-writer : goal.returns-clause-writer
-returns-clause-writer g c = tells_written g.W.Writer _ _ c.write_bytes.result c.write_bytes.ensures.kept c.write_bytes.ensures.flushed c.write_bytes.ensures.failed
+returns-clause-writer g c = reports_written g.W.Writer _ _ c.write_bytes.result c.write_bytes.ensures.kept c.write_bytes.ensures.flushed c.write_bytes.ensures.failed

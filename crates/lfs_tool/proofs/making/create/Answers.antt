@@ -2,7 +2,7 @@ use Rattle.std.proofs.Common.{List, ◌≡◌, ◌∙◌, subst, sym}
 use Rattle.std.proofs.lemmas.Result.{IfOk-weaker}
 use Rattle.lfs_tool_folders.specs.declared.entries.Entry.{Entry}
 use Rattle.lfs_tool.specs.Made.{IsRefused}
-use Rattle.lfs_tool.proofs.Writers.{tells_written}
+use Rattle.lfs_tool.proofs.Writers.{reports_written}
 use Rattle.lfs_tool.proofs.ImagesMade.{made, passed}
 use Rattle.lfs_tool.proofs.Walking.{carry_over}
 use Rattle.lfs_tool.proofs.making.create.Goals as goal
@@ -17,7 +17,7 @@ returns-in-Ok-clause-ok g c =
     c.write_bytes.ensures.ok
 
 pub returns-in-Ok-clause-writer : goal.returns-in-Ok-clause-writer
-returns-in-Ok-clause-writer g c = tells_written g.W.Writer _ _ c.write_bytes.result c.write_bytes.ensures.kept c.write_bytes.ensures.flushed c.write_bytes.ensures.failed
+returns-in-Ok-clause-writer g c = reports_written g.W.Writer _ _ c.write_bytes.result c.write_bytes.ensures.kept c.write_bytes.ensures.flushed c.write_bytes.ensures.failed
 
 pub returns-in-Ok-clause-beginning : goal.returns-in-Ok-clause-beginning
 returns-in-Ok-clause-beginning g c = λ _.

@@ -6,13 +6,13 @@ use Rattle.lfs_model.specs.Disk.{Disk}
 use Rattle.lfs_model.specs.History.{OnlyReads, faults}
 use Rattle.lfs_model.proofs.Histories.{goes_on_by}
 use Rattle.lfs_model.specs.View.{IsAccepted}
-use Rattle.lfs_lookup.specs.Walk.{IsWalked, founds_seen}
+use Rattle.lfs_lookup.specs.Walk.{IsWalked, founds_view}
 use Rattle.lfs_tool.proofs.opening.items_on.Goals as goal
 
 pub returns-in-Ok-clause-items : goal.returns-in-Ok-clause-items
 returns-in-Ok-clause-items g c =
     let disk = disk_on g.D.BlockDevice c.args.device in
-    let places = founds_seen c.in-Ok.items.items in
+    let places = founds_view c.in-Ok.items.items in
     let m = c.in_ok-thread.ensures.mounted in
     let e = c.in-Ok.ensures in
     let same = ap (λ (d : Disk). ordered d.order disk) (sym e.reading.only.disk) in
@@ -33,6 +33,6 @@ returns-in-Err-clause-back g c =
     (record {
       disk = λ order. ap (λ (d : Disk). ordered order d) (c.into_device.ensures.disk ∙ e.only.disk ∙ m.disk_is);
       reads = subst (OnlyReads disk.blocks (g.D.BlockDevice.history c.args.device)) (sym history) (goes_on_by m.reads (subst (λ d. OnlyReads d.blocks c.in_ok-thread.thread.kept.history c.walk.new.thread.kept.history) m.disk_is e.only.reads));
-      fault = λ io. (let more = e.told.fault (ap Err io) in omega (arith, more, m.no_fault, ap faults history));
-      no_fault = λ other. ap faults history ∙ e.told.no_fault (λ io. other (cc)) ∙ m.no_fault;
+      fault = λ io. (let more = e.reported.fault (ap Err io) in omega (arith, more, m.no_fault, ap faults history));
+      no_fault = λ other. ap faults history ∙ e.reported.no_fault (λ io. other (cc)) ∙ m.no_fault;
     })

@@ -1,6 +1,6 @@
 use Rattle.std.proofs.Common.{◌+◌, ◌-◌, ◌<◌, ◌&&◌, ◌∙◌, ap, ap₂, arith, cond, length, subst, sym}
 use Rattle.lfs_model.specs.Thread.{is_hard, leads_on, meets_superblock, superblock_or, superblocks_before}
-use Rattle.lfs_tool.specs.HeldSeen.{pair_seen}
+use Rattle.lfs_tool.specs.HeldView.{pair_view}
 use Rattle.lfs_tool.proofs.RootPlaces.{one_more, seen_from, stays_inside}
 use Rattle.lfs_tool.proofs.roots.root_of.Goals as goal
 
@@ -11,7 +11,7 @@ loop-index-preserved c =
     let inv = c.loop-index.invariant in
     let within = inv.within in
     let some = c.loop-index-test.true in
-    let h = pair_seen c.index-pairs-index.result in
+    let h = pair_view c.index-pairs-index.result in
     let step = seen_from pairs (index - 1) index c.index-pairs-index.result (omega arith) (omega arith) c.index-pairs-index.is in
     let is = c.with_pair-root.ensures in
     let few = one_more (c.loop-index.meets && leads_on h) c.loop-index.root in

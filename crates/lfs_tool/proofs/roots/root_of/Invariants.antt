@@ -1,13 +1,13 @@
 use Rattle.std.proofs.Common.{◌≡◌, ◌+◌, ◌≤◌, ◌<◌, drop, length}
 use Rattle.lfs_model.specs.Thread.{meets_superblock, superblocks_before}
-use Rattle.lfs_tool.specs.HeldSeen.{pairs_seen}
+use Rattle.lfs_tool.specs.HeldView.{pairs_view}
 use Rattle.lfs_tool.proofs.roots.root_of.Given as goal
 
 abbrev pub invariant-loop-index : goal.invariant-loop-index
 invariant-loop-index l = record {
   within : l.index ≤ length l.pairs;
-  root : l.root ≡ superblocks_before (pairs_seen (drop l.index l.pairs));
-  meets : l.meets ≡ meets_superblock (pairs_seen (drop l.index l.pairs));
+  root : l.root ≡ superblocks_before (pairs_view (drop l.index l.pairs));
+  meets : l.meets ≡ meets_superblock (pairs_view (drop l.index l.pairs));
   below : l.index + l.root ≤ length l.pairs;
   inside : l.index < length l.pairs → l.index + l.root < length l.pairs;
 }

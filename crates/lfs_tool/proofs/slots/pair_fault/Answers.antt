@@ -4,7 +4,7 @@ use Rattle.lfs_model.specs.Disk.{Disk}
 use Rattle.lfs_model.specs.Slots.{address_of}
 use Rattle.lfs_model.specs.Thread.{Pair}
 use Rattle.lfs_tool.specs.Broken.{IsBroken, IsEntrySlot}
-use Rattle.lfs_tool.specs.HeldSeen.{held_seen, pair_seen}
+use Rattle.lfs_tool.specs.HeldView.{held_view, pair_view}
 use Rattle.lfs_tool.specs.declared.finding.Finding.{Finding}
 use Rattle.lfs_tool.proofs.HeldPlaces.{further_on, slot_there}
 use Rattle.lfs_tool.proofs.slots.pair_fault.Goals as goal
@@ -12,13 +12,13 @@ use Rattle.lfs_tool.proofs.slots.pair_fault.Goals as goal
 pub returns-in-Some : goal.returns-in-Some
 returns-in-Some c disk ps index there behind =
     let slots = c.args.pair.now.slots in
-    let holds : Finding → Type 0 = λ f. (disk : Disk) (ps : List Pair) → IsEntrySlot ps (address_of c.args.pair.now.at) c.loop-id.id (held_seen c.index.result.now) → IsBroken disk ps f in
+    let holds : Finding → Type 0 = λ f. (disk : Disk) (ps : List Pair) → IsEntrySlot ps (address_of c.args.pair.now.at) c.loop-id.id (held_view c.index.result.now) → IsBroken disk ps f in
     let found = subst (λ o. IfSome o holds) c.in-Some.is c.in_ok-finding.ensures in
     let end = c.len-id-end.ensures in
     let test = c.loop-id-test.true in
     found disk ps (record {
       index = index;
-      pair = pair_seen c.args.pair.now;
+      pair = pair_view c.args.pair.now;
       there = there;
       at_is = refl;
       slot = slot_there slots.items c.loop-id.id c.index.result.now (omega (arith, end, test, slots.ok.0)) c.index.ensures;

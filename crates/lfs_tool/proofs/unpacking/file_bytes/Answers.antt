@@ -13,5 +13,5 @@ not_a_fault e old new (inr memory) fault none = memory
 
 pub returns-in-Err-clause-err : goal.returns-in-Err-clause-err
 returns-in-Err-clause-err c =
-    let told = c.in-Err.ensures.reading.told in
-    ap Fs (not_a_fault c.in-Err.error _ _ told.errors (λ io. told.fault (ap Err io)) (ap faults (sym c.device-device.ensures.history) ∙ c.device-device.result.now.inner.no_fault))
+    let reported = c.in-Err.ensures.reading.reported in
+    ap Fs (not_a_fault c.in-Err.error _ _ reported.errors (λ io. reported.fault (ap Err io)) (ap faults (sym c.device-device.ensures.history) ∙ c.device-device.result.now.inner.no_fault))

@@ -19,5 +19,5 @@ loop-item-preserved g c =
       only_trans before.1 e.only.0,
       done_item c.args.thread.now.kept.disk c.loop-item.thread.kept.disk c.args.items.now c.loop-item.item-index c.item-item.result _ (g.T.Target.done c.loop-item.target) _
           before.1.disk c.loop-item-test.true c.item-item.is before.2 e.done,
-      e.tells ∙ before.3,
+      e.reports ∙ before.3,
     )

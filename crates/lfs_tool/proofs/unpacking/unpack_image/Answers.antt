@@ -1,5 +1,5 @@
 use Rattle.std.proofs.lemmas.Result.{IfErr-weaker, on_ok_weaker}
-use Rattle.lfs_device.specs.RamDevice.{blocks_of, geometry_of}
+use Rattle.lfs_device.specs.RamDevice.{ram_blocks, geometry_of}
 use Rattle.lfs_device.specs.Shown.{disk_of as shown}
 use Rattle.lfs_device.specs.declared.ram.RamDevice.{RamDevice}
 use Rattle.lfs_model.specs.Disk.{Disk}
@@ -8,7 +8,7 @@ use Rattle.lfs_tool.proofs.unpacking.unpack_image.Goals as goal
 
 -- the disk that a device in memory shows
 abbrev disk_in : RamDevice → Disk
-disk_in d = shown (geometry_of d) (blocks_of d)
+disk_in d = shown (geometry_of d) (ram_blocks d)
 
 pub returns-in-Ok-clause-done : goal.returns-in-Ok-clause-done
 returns-in-Ok-clause-done g c =

@@ -5,7 +5,7 @@ use Rattle.lfs_model.specs.declared.order.NameOrder.{NameOrder}
 use Rattle.lfs_thread.specs.Kept.{disk_on}
 use Rattle.lfs_mount.specs.Either.{GivesDeviceBack}
 use Rattle.lfs_tree.specs.Held.{seen_thread}
-use Rattle.lfs_tree.specs.Seen.{IsMountedTree}
+use Rattle.lfs_tree.specs.TreeState.{IsMountedTree}
 use Rattle.lfs_tree.proofs.Mounting.{given_back_either, mounted_rooted, mounted_tree}
 use Rattle.lfs_lookup.proofs.Reading.{answered}
 use Rattle.lfs_tree.proofs.either.mount_either.Goals as goal

@@ -1,5 +1,5 @@
 use Rattle.std.proofs.Common.{[], ap, sym, subst, ◌∙◌}
-use Rattle.lfs_thread.specs.Kept.{seen_on}
+use Rattle.lfs_thread.specs.Kept.{kept_view_on}
 use Rattle.lfs_thread.specs.Device.{two_of}
 use Rattle.lfs_thread.specs.Steps.{Writes}
 use Rattle.lfs_model.specs.Thread.{anchor}
@@ -28,5 +28,5 @@ returns-in-Ok-write_thread-clause-shows g c = shows_empty c.from_parts.result.ke
 
 pub returns-in-Ok-write_thread-clause-writes : goal.returns-in-Ok-write_thread-clause-writes
 returns-in-Ok-write_thread-clause-writes g c =
-    subst (Writes (two_of anchor) (seen_on g.D.BlockDevice c.args.device [] [])) (sym c.from_parts.ensures.kept)
+    subst (Writes (two_of anchor) (kept_view_on g.D.BlockDevice c.args.device [] [])) (sym c.from_parts.ensures.kept)
     (wrote g.D.BlockDevice _ _ (two_of anchor) c.in-Ok-write_thread.ensures.device)

@@ -24,7 +24,7 @@ loop-list-preserved g c =
       works = search rules;
       flying = λ b. ((λ flies. (inv.flying b).0 ((flying b).0 flies)), (λ flies. (flying b).1 ((inv.flying b).1 flies)));
       only = besides_then _ _ _ inv.only only;
-      no_fault = c.settle_file.ensures.tells.no_fault (λ io. let z = sym c.in_ok-settle_file.was ∙ io in absurd (cc)) ∙ inv.no_fault;
+      no_fault = c.settle_file.ensures.reports.no_fault (λ io. let z = sym c.in_ok-settle_file.was ∙ io in absurd (cc)) ∙ inv.no_fault;
     }
 
 pub returns-clause-ready : goal.returns-clause-ready

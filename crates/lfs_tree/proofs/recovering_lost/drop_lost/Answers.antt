@@ -3,10 +3,10 @@ use Rattle.std.proofs.lemmas.Result.{err_from_is_err_and}
 use Rattle.lfs_model.specs.Thread.{Pair}
 use Rattle.lfs_operations.specs.Recovering.{AreUnreached, CanDropUnreached, slots_at}
 use Rattle.lfs_tree.specs.LostLists.{lists_named}
-use Rattle.lfs_tree.proofs.CarryTold.{called_by_reading}
+use Rattle.lfs_tree.proofs.ReportedFaults.{called_by_reading}
 use Rattle.lfs_lookup.proofs.ReadOnly.{only_read}
 use Rattle.lfs_lookup.proofs.Reading.{answered, both, further}
-use Rattle.lfs_tree.proofs.Recovered.{called_then, called_writing, can_drop, drop_survives, dropped, read_survives, tells_given, tells_reading, tells_then}
+use Rattle.lfs_tree.proofs.Recovered.{called_then, called_writing, can_drop, drop_survives, dropped, read_survives, reports_given, reports_reading, reports_then}
 use Rattle.lfs_tree.proofs.recovering_lost.drop_lost.Goals as goal
 
 pub returns-in_err-numbers-clause-survives : goal.returns-in_err-numbers-clause-survives
@@ -24,8 +24,8 @@ returns-in_err-lists-clause-errors g c =
     let p = err_from_is_err_and c.from_residual-in_err-lists.result c.from_residual-in_err-lists.ensures.1 in
     let found = answered _ _ c.unreached.result c.in_ok-numbers.numbers c.in_ok-numbers.was c.unreached.ensures.reading in
     let reading = further _ _ _ c.lists_of_pairs.result found c.lists_of_pairs.ensures.reading in
-    tells_given c.args.thread.now.kept c.lists_of_pairs.new.thread.kept c.from_residual-in_err-lists.result _ p.0 p.1 p.2
-    (tells_reading c.args.thread.now.kept c.lists_of_pairs.new.thread.kept c.lists_of_pairs.result _ c.in_err-lists.was reading.told)
+    reports_given c.args.thread.now.kept c.lists_of_pairs.new.thread.kept c.from_residual-in_err-lists.result _ p.0 p.1 p.2
+    (reports_reading c.args.thread.now.kept c.lists_of_pairs.new.thread.kept c.lists_of_pairs.result _ c.in_err-lists.was reading.reported)
 
 pub returns-in_err-lists-clause-survives : goal.returns-in_err-lists-clause-survives
 returns-in_err-lists-clause-survives g c =
@@ -52,8 +52,8 @@ returns-in_err-drop_with_lists-clause-errors g c =
     let p = err_from_is_err_and c.from_residual-in_err-drop_with_lists.result c.from_residual-in_err-drop_with_lists.ensures.1 in
     let found = answered _ _ c.unreached.result c.in_ok-numbers.numbers c.in_ok-numbers.was c.unreached.ensures.reading in
     let read = both _ _ _ found (answered _ _ c.lists_of_pairs.result c.in_ok-lists.lists c.in_ok-lists.was c.lists_of_pairs.ensures.reading) in
-    tells_given c.args.thread.now.kept c.drop_with_lists.new.thread.kept c.from_residual-in_err-drop_with_lists.result _ p.0 p.1 p.2
-    (tells_then c.args.thread.now.kept c.lists_of_pairs.new.thread.kept c.drop_with_lists.new.thread.kept _ read.same c.in_err-drop_with_lists.ensures.errors)
+    reports_given c.args.thread.now.kept c.drop_with_lists.new.thread.kept c.from_residual-in_err-drop_with_lists.result _ p.0 p.1 p.2
+    (reports_then c.args.thread.now.kept c.lists_of_pairs.new.thread.kept c.drop_with_lists.new.thread.kept _ read.same c.in_err-drop_with_lists.ensures.errors)
 
 pub returns-in_err-drop_with_lists-clause-survives :
     goal.returns-in_err-drop_with_lists-clause-survives

@@ -2,13 +2,13 @@ use Rattle.std.proofs.Common.{◌∙◌, sym}
 use Rattle.std.proofs.lemmas.Result.{err_from_is_err_and}
 use Rattle.lfs_tree.proofs.CarryFreed.{shape_geometry, writes_then}
 use Rattle.lfs_tree.proofs.LostLists.{can_free_lists}
-use Rattle.lfs_tree.proofs.Recovered.{end_survives, freed, reading_survives, tells_given, tells_steps, tells_then, tells_work}
+use Rattle.lfs_tree.proofs.Recovered.{end_survives, freed, reading_survives, reports_given, reports_steps, reports_then, reports_work}
 use Rattle.lfs_tree.proofs.recovering_lost.drop_with_lists.Goals as goal
 
 pub returns-in_err-drop_unreached-clause-errors : goal.returns-in_err-drop_unreached-clause-errors
 returns-in_err-drop_unreached-clause-errors g c =
     let p = err_from_is_err_and c.from_residual.result c.from_residual.ensures.1 in
-    tells_given c.args.thread.now.kept c.drop_unreached.new.thread.kept c.from_residual.result _ p.0 p.1 p.2 (tells_steps c.args.thread.now c.drop_unreached.new.thread c.drop_unreached.result _ c.in_err-drop_unreached.was c.drop_unreached.ensures.errors)
+    reports_given c.args.thread.now.kept c.drop_unreached.new.thread.kept c.from_residual.result _ p.0 p.1 p.2 (reports_steps c.args.thread.now c.drop_unreached.new.thread c.drop_unreached.result _ c.in_err-drop_unreached.was c.drop_unreached.ensures.errors)
 
 pub free_lists-requires-clause-can : goal.free_lists-requires-clause-can
 free_lists-requires-clause-can g c =
@@ -20,9 +20,9 @@ pub returns-in_err-free_lists-clause-errors : goal.returns-in_err-free_lists-cla
 returns-in_err-free_lists-clause-errors g c =
     let p = err_from_is_err_and c.from_residual-in_err-free_lists.result c.from_residual-in_err-free_lists.ensures.1 in
     let quiet = c.drop_unreached.ensures.errors.no_fault (λ io. let z = sym c.in_ok-drop_unreached.was ∙ io in absurd (cc)) in
-    tells_given c.args.thread.now.kept c.free_lists.new.thread.kept c.from_residual-in_err-free_lists.result _ p.0 p.1 p.2
-    (tells_then c.args.thread.now.kept c.drop_unreached.new.thread.kept c.free_lists.new.thread.kept _ quiet
-    (tells_work c.drop_unreached.new.thread.kept c.free_lists.new.thread.kept c.free_lists.result _ c.in_err-free_lists.was c.free_lists.ensures.tells))
+    reports_given c.args.thread.now.kept c.free_lists.new.thread.kept c.from_residual-in_err-free_lists.result _ p.0 p.1 p.2
+    (reports_then c.args.thread.now.kept c.drop_unreached.new.thread.kept c.free_lists.new.thread.kept _ quiet
+    (reports_work c.drop_unreached.new.thread.kept c.free_lists.new.thread.kept c.free_lists.result _ c.in_err-free_lists.was c.free_lists.ensures.reports))
 
 pub returns-in_err-free_lists-clause-device : goal.returns-in_err-free_lists-clause-device
 returns-in_err-free_lists-clause-device g c = writes_then _ _ _ _ c.drop_unreached.ensures.device c.free_lists.ensures.only
@@ -42,7 +42,7 @@ returns-clause-dropped g c =
 
 pub returns-clause-no_fault : goal.returns-clause-no_fault
 returns-clause-no_fault g c =
-    c.free_lists.ensures.tells.no_fault (λ io. let z = sym c.in_ok-free_lists.was ∙ io in absurd (cc))
+    c.free_lists.ensures.reports.no_fault (λ io. let z = sym c.in_ok-free_lists.was ∙ io in absurd (cc))
     ∙ c.drop_unreached.ensures.errors.no_fault (λ io. let z = sym c.in_ok-drop_unreached.was ∙ io in absurd (cc))
 
 pub returns-clause-device : goal.returns-clause-device

@@ -2,7 +2,7 @@ use Rattle.std.proofs.Common.{◌∙◌, Err, ap, sym}
 use Rattle.std.proofs.lemmas.Result.{err_from_is_err_and}
 use Rattle.lfs_tree.proofs.CarryFreed.{ok_both}
 use Rattle.lfs_tree.proofs.Operated.{failed_change}
-use Rattle.lfs_tree.proofs.Recovered.{called_then, called_writing, end_survives, recovered_whole, tells_steps}
+use Rattle.lfs_tree.proofs.Recovered.{called_then, called_writing, end_survives, recovered_whole, reports_steps}
 use Rattle.lfs_tree.proofs.RecoveredFirst.{settled_stands, settled_whole}
 use Rattle.lfs_tree.proofs.StoreContents.{errors_then}
 use Rattle.lfs_tree.proofs.recovering_lost.recover_at.Goals as goal
@@ -11,7 +11,7 @@ pub returns-in_err-end_move : goal.returns-in_err-end_move
 returns-in_err-end_move g c =
     let p = err_from_is_err_and c.from_residual.result c.from_residual.ensures.1 in
     failed_change c.args.thread.now c.end_move.new.thread _ _ c.from_residual.result p.0 p.1 (called_writing _ _ _ c.end_move.ensures.device)
-    (tells_steps c.args.thread.now c.end_move.new.thread c.end_move.result p.0 (c.in_err-end_move.was ∙ ap Err (sym p.2)) c.end_move.ensures.errors) c.end_move.ensures.survives
+    (reports_steps c.args.thread.now c.end_move.new.thread c.end_move.result p.0 (c.in_err-end_move.was ∙ ap Err (sym p.2)) c.end_move.ensures.errors) c.end_move.ensures.survives
 
 pub drop_lost-requires-clause-root : goal.drop_lost-requires-clause-root
 drop_lost-requires-clause-root g c = c.requires.rooted.root_is ∙ sym c.in_ok-end_move.ensures.ended.root

@@ -4,7 +4,7 @@ use Rattle.std.proofs.lemmas.Result.{err_from_is_err_and}
 use Rattle.lfs_model.specs.Disk.{Disk}
 use Rattle.lfs_model.specs.Thread.{Pair, gstate_of}
 use Rattle.lfs_model.specs.View.{IsAccepted}
-use Rattle.lfs_lookup.specs.Items.{items_seen}
+use Rattle.lfs_lookup.specs.Items.{items_view}
 use Rattle.lfs_lookup.specs.Listed.{shapes_from}
 use Rattle.lfs_tree.specs.Unreached.{AllBegin, HasMarked, IsNamedIn}
 use Rattle.lfs_tree.proofs.Reached.{IsMarking, first_begin, marked_within, marking_begun, marking_on, next_marked, reach_marks}
@@ -59,7 +59,7 @@ mark_branches-requires-clause-begin g c =
     let inv = c.loop-first.invariant in
     let ps = c.args.thread.now.kept.pairs in
     let read = both _ _ _ inv.read (answered _ _ c.entries_under.result c.in_ok-items.items c.in_ok-items.was c.entries_under.ensures.reading) in
-    subst (λ (qs : List Pair). AllBegin qs (items_seen c.in_ok-items.items.items)) (sym read.only.pairs)
+    subst (λ (qs : List Pair). AllBegin qs (items_view c.in_ok-items.items.items)) (sym read.only.pairs)
     (subst (AllBegin ps) (sym (c.in_ok-items.ensures.items ∙ ap (λ (qs : List Pair). shapes_from qs (Some c.in-Some.first)) inv.read.only.pairs))
     (first_begin c.args.thread.now.kept.disk ps c.requires.accepted c.loop-first.marks.items c.loop-first.pending.items c.pop.new.self.items c.in-Some.first c.in-Some.ensures.items inv.marking))
 
@@ -87,7 +87,7 @@ loop-first-preserved g c =
       marking = marking_on c.args.thread.now.kept.disk ps c.requires.accepted c.loop-first.marks.items c.loop-first.pending.items c.pop.new.self.items c.in-Some.first c.in-Some.ensures.items inv.marking
           c.mark_branches.new.marks.items c.mark_branches.new.pending.items
           (subst (λ s. HasMarked (IsNamedIn ps s) c.loop-first.marks.items c.pop.new.self.items c.mark_branches.new.marks.items c.mark_branches.new.pending.items) shapes
-          (subst (λ (qs : List Pair). HasMarked (IsNamedIn qs (items_seen c.in_ok-items.items.items)) c.loop-first.marks.items c.pop.new.self.items c.mark_branches.new.marks.items c.mark_branches.new.pending.items) read.only.pairs c.in_ok-mark_branches.ensures));
+          (subst (λ (qs : List Pair). HasMarked (IsNamedIn qs (items_view c.in_ok-items.items.items)) c.loop-first.marks.items c.pop.new.self.items c.mark_branches.new.marks.items c.mark_branches.new.pending.items) read.only.pairs c.in_ok-mark_branches.ensures));
     }
 
 pub returns-in_err-mark_branches-clause-reading : goal.returns-in_err-mark_branches-clause-reading

@@ -5,7 +5,7 @@ use Rattle.lfs_model.specs.Blocks.{Blocks}
 use Rattle.lfs_model.specs.Writers.{written_into}
 use Rattle.lfs_writer.specs.Written.{IsGoing, bytes_over}
 use Rattle.lfs_writer.proofs.Owning.{list_from}
-use Rattle.lfs_writer.proofs.Called.{quiet, told_as, told_on, used_on, used_reads}
+use Rattle.lfs_writer.proofs.Called.{quiet, reported_as, reported_on, used_on, used_reads}
 use Rattle.lfs_writer.proofs.Spared.{KeepsUsed-refl}
 use Rattle.lfs_writer.proofs.contents.write_over.Goals as goal
 
@@ -15,10 +15,10 @@ returns-in_err-begun-clause-device g c = used_reads g.D.BlockDevice c.args.map.n
 pub returns-in_err-write_from-clause-device : goal.returns-in_err-write_from-clause-device
 returns-in_err-write_from-clause-device g c = used_on g.D.BlockDevice (KeepsUsed-refl c.args.map.now) (used_reads g.D.BlockDevice c.args.map.now c.begin_over.ensures.device) c.write_from.ensures.device
 
-pub returns-in_err-write_from-clause-tells : goal.returns-in_err-write_from-clause-tells
-returns-in_err-write_from-clause-tells g c =
+pub returns-in_err-write_from-clause-reports : goal.returns-in_err-write_from-clause-reports
+returns-in_err-write_from-clause-reports g c =
     let p = err_from_is_err_and c.from_residual-in_err-write_from.result c.from_residual-in_err-write_from.ensures.1 in
-    rw (p.1, p.2) (record { faults = told_on g.D.BlockDevice (quiet g.D.BlockDevice c.in_ok-begun.ensures.tells.faults) (told_as g.D.BlockDevice c.in_err-write_from.ensures.tells.faults); errors = c.in_err-write_from.ensures.tells.errors })
+    rw (p.1, p.2) (record { faults = reported_on g.D.BlockDevice (quiet g.D.BlockDevice c.in_ok-begun.ensures.reports.faults) (reported_as g.D.BlockDevice c.in_err-write_from.ensures.reports.faults); errors = c.in_err-write_from.ensures.reports.errors })
 
 pub returns-clause-device : goal.returns-clause-device
 returns-clause-device g c = used_on g.D.BlockDevice (KeepsUsed-refl c.args.map.now) (used_reads g.D.BlockDevice c.args.map.now c.begin_over.ensures.device) c.write_from.ensures.device

@@ -6,7 +6,7 @@ use Rattle.lfs_model.specs.Blocks.{Blocks}
 use Rattle.lfs_model.specs.SkipLists.{blocks_for, bytes_of}
 use Rattle.lfs_model.proofs.ListSizes.{blocks_for-more}
 use Rattle.lfs_ctz.specs.Growing.{content_of, kept_of, size_of}
-use Rattle.lfs_writer.proofs.Called.{apart_on, apart_read, apart_reads, not_read, quiet, told_as, told_on}
+use Rattle.lfs_writer.proofs.Called.{apart_on, apart_read, apart_reads, not_read, quiet, reported_as, reported_on}
 use Rattle.lfs_writer.proofs.Copies.{grown_on, copied, listed, none_behind, read_bytes, sized, not_corrupt}
 use Rattle.lfs_writer.proofs.Growth.{Grows-refl, Keeps-refl, Keeps-trans}
 use Rattle.lfs_writer.proofs.copying.copy_pieces.Goals as goal
@@ -29,13 +29,13 @@ copying-init g c = record {
 pub returns-in_err-count-clause-device : goal.returns-in_err-count-clause-device
 returns-in_err-count-clause-device g c = apart_read g.D.BlockDevice c.copying.invariant.device c.read_piece.ensures.reading.device
 
-pub returns-in_err-count-clause-tells : goal.returns-in_err-count-clause-tells
-returns-in_err-count-clause-tells g c =
+pub returns-in_err-count-clause-reports : goal.returns-in_err-count-clause-reports
+returns-in_err-count-clause-reports g c =
     let inv = c.copying.invariant in
     let test = c.copying-test.true in
     let p = err_from_is_err_and c.from_residual.result c.from_residual.ensures.1 in
     rw (p.1, p.2) (record {
-      faults = told_on g.D.BlockDevice c.copying.invariant.quiet (told_as g.D.BlockDevice c.in_err-count.ensures.reading.faults);
+      faults = reported_on g.D.BlockDevice c.copying.invariant.quiet (reported_as g.D.BlockDevice c.in_err-count.ensures.reading.faults);
       errors = not_corrupt {T = ℕ} _ c.in_err-count.ensures.reading.errors (λ is. c.in_err-count.ensures.corrupt is
           (listed _ _ _ _ c.args.list.now.geometry _ c.args.head c.args.size (inv.device.geometry ∙ c.requires.geometry) inv.device.spared c.requires.base.apart (omega arith) c.requires.base.base));
     })
@@ -45,10 +45,10 @@ returns-in_err-extend-clause-device g c =
     let inv = c.copying.invariant in
     apart_on g.D.BlockDevice inv.grown.apart (apart_read g.D.BlockDevice inv.device c.read_piece.ensures.reading.device) c.extend.ensures.device
 
-pub returns-in_err-extend-clause-tells : goal.returns-in_err-extend-clause-tells
-returns-in_err-extend-clause-tells g c =
+pub returns-in_err-extend-clause-reports : goal.returns-in_err-extend-clause-reports
+returns-in_err-extend-clause-reports g c =
     let p = err_from_is_err_and c.from_residual-in_err-extend.result c.from_residual-in_err-extend.ensures.1 in
-    rw (p.1, p.2) (record { faults = told_on g.D.BlockDevice (quiet g.D.BlockDevice c.in_ok-count.ensures.reading.faults ∙ c.copying.invariant.quiet) (told_as g.D.BlockDevice c.in_err-extend.ensures.tells.faults); errors = c.in_err-extend.ensures.tells.errors })
+    rw (p.1, p.2) (record { faults = reported_on g.D.BlockDevice (quiet g.D.BlockDevice c.in_ok-count.ensures.reading.faults ∙ c.copying.invariant.quiet) (reported_as g.D.BlockDevice c.in_err-extend.ensures.reports.faults); errors = c.in_err-extend.ensures.reports.errors })
 
 pub extend-requires-clause-room : goal.extend-requires-clause-room
 extend-requires-clause-room g c =
@@ -108,7 +108,7 @@ copying-preserved g c =
           ∙ copied (content_of (g.D.BlockDevice.blocks c.copying.dev) now) (take n c.read_piece.new.buf) base pos n chunk
           ∙ ap (λ k. content_of (g.D.BlockDevice.blocks c.copying.dev) now ++ drop k base) (let k : pos ≡ size_of block_size now = omega arith in k)
           ∙ inv.bytes;
-      quiet = quiet g.D.BlockDevice c.in_ok-extend.ensures.tells.faults ∙ quiet g.D.BlockDevice c.in_ok-count.ensures.reading.faults ∙ inv.quiet;
+      quiet = quiet g.D.BlockDevice c.in_ok-extend.ensures.reports.faults ∙ quiet g.D.BlockDevice c.in_ok-count.ensures.reading.faults ∙ inv.quiet;
     }
 
 pub returns-clause-extended : goal.returns-clause-extended

@@ -6,7 +6,7 @@ use Rattle.lfs_model.specs.SkipLists.{blocks_for, bytes_of}
 use Rattle.lfs_model.proofs.ListSizes.{blocks_for-more}
 use Rattle.lfs_model.proofs.Overwrites.{SameButThese-refl}
 use Rattle.lfs_writer.specs.Based.{list_blocks}
-use Rattle.lfs_writer.specs.Hand.{IsStored}
+use Rattle.lfs_writer.specs.Hand.{IsListStored}
 use Rattle.lfs_writer.specs.Released.{Releases}
 use Rattle.lfs_writer.proofs.Hands.{Contains-take}
 use Rattle.lfs_writer.proofs.Called.{read_on}
@@ -42,7 +42,7 @@ returns-clause-cut g c =
     let released = subst (λ (k : Geometry). Releases c.args.map.now c.release_base.new.map (gone_of stored.in_flight c.blocks_for-count.result (list_blocks d k.block_size stored.head stored.size))) read.geometry
     (subst (λ (x : Blocks). Releases c.args.map.now c.release_base.new.map (gone_of stored.in_flight c.blocks_for-count.result (list_blocks x (g.D.BlockDevice.geometry c.cut.new.dev).block_size stored.head stored.size))) read.same c.in_ok-release_base.ensures.released) in
     let blocks = front.blocks ∙ ap (λ n. take n (list_blocks d now.block_size stored.head stored.size)) (sym count) in
-    let at : Blocks → Type 0 = λ x. IsStored c.release_base.new.map x now.block_size (record { head = c.in_ok-head.head; size = c.args.keep; in_flight = stored.in_flight }) in
+    let at : Blocks → Type 0 = λ x. IsListStored c.release_base.new.map x now.block_size (record { head = c.in_ok-head.head; size = c.args.keep; in_flight = stored.in_flight }) in
     record {
       stored = subst at (sym all) (cuts c.args.map.now d d now.block_size stored [] c.requires.stored refl (SameButThese-refl [] d) c.release_base.new.map c.blocks_for-count.result c.in_ok-head.head c.args.keep front.list blocks released);
       count = refl;

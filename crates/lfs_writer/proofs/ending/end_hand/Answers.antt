@@ -3,7 +3,7 @@ use Rattle.lfs_device.specs.declared.geometry.Geometry.{Geometry}
 use Rattle.lfs_model.specs.Blocks.{Blocks}
 use Rattle.lfs_model.specs.SkipLists.{blocks_for, bytes_of}
 use Rattle.lfs_ctz.specs.Growing.{pending_of}
-use Rattle.lfs_writer.specs.Hand.{IsStored}
+use Rattle.lfs_writer.specs.Hand.{IsListStored}
 use Rattle.lfs_writer.specs.Roomy.{base_blocks}
 use Rattle.lfs_writer.proofs.Bases.{blocks_stay}
 use Rattle.lfs_writer.proofs.Owning.{ends_over}
@@ -68,7 +68,7 @@ returns-clause-ended g c =
     let device = c.finish.ensures.device.geometry ∙ c.copy_rest.ensures.device.geometry ∙ is in
     let stored = ends_by c.copy_rest.new.map c.release_base.new.map (g.D.BlockDevice.blocks c.copy_rest.new.dev) (g.D.BlockDevice.blocks c.finish.new.dev) geometry longer.geometry _ longer hand.base hand.shared
     c.in_ok-head.head c.in_ok-head.size more.geometry device whole c.finish.ensures.device.others finished.list finished.blocks c.in_ok-release_base.ensures.released in
-    let at : Blocks → Geometry → Type 0 = λ x k. IsStored c.release_base.new.map x k.block_size (record { head = c.in_ok-head.head; size = c.in_ok-head.size; in_flight = true }) in
+    let at : Blocks → Geometry → Type 0 = λ x k. IsListStored c.release_base.new.map x k.block_size (record { head = c.in_ok-head.head; size = c.in_ok-head.size; in_flight = true }) in
     record {
       stored = subst (λ x. at x now) (sym c.release_base.ensures.device.same) (subst (at (g.D.BlockDevice.blocks c.finish.new.dev)) (sym is) stored);
       count = c.in_ok-head.ensures.size ∙ more.sum;

@@ -6,7 +6,7 @@ use Rattle.lfs_model.specs.Blocks.{Blocks}
 use Rattle.lfs_ctz.specs.Growing.{end_of}
 use Rattle.lfs_writer.specs.Contents.{held_bytes}
 use Rattle.lfs_writer.specs.Hand.{stored_bytes}
-use Rattle.lfs_writer.proofs.Called.{not_read, quiet, read_on, told_as, told_on}
+use Rattle.lfs_writer.proofs.Called.{not_read, quiet, read_on, reported_as, reported_on}
 use Rattle.lfs_writer.proofs.Copies.{not_corrupt}
 use Rattle.lfs_writer.proofs.Flights.{length-base}
 use Rattle.lfs_writer.proofs.Memories.{bytes_on, held_size, listed_on, loaded, part_read}
@@ -62,15 +62,15 @@ loading-preserved g c =
 pub returns-in_err-count-clause-device : goal.returns-in_err-count-clause-device
 returns-in_err-count-clause-device g c = read_on g.D.BlockDevice c.loading.invariant.device c.read_at.ensures.reading.device
 
-pub returns-in_err-count-clause-tells : goal.returns-in_err-count-clause-tells
-returns-in_err-count-clause-tells g c =
+pub returns-in_err-count-clause-reports : goal.returns-in_err-count-clause-reports
+returns-in_err-count-clause-reports g c =
     let inv = c.loading.invariant in
     let d : Blocks = g.D.BlockDevice.blocks c.args.dev.now in
     let now : Geometry = g.D.BlockDevice.geometry c.args.dev.now in
     let test = c.loading-test.true in
     let p = err_from_is_err_and c.from_residual-in_err-count.result c.from_residual-in_err-count.ensures.1 in
     rw (p.1, p.2) (record {
-      faults = told_on g.D.BlockDevice c.loading.invariant.quiet (told_as g.D.BlockDevice c.in_err-count.ensures.reading.faults);
+      faults = reported_on g.D.BlockDevice c.loading.invariant.quiet (reported_as g.D.BlockDevice c.in_err-count.ensures.reading.faults);
       errors = not_corrupt {T = ℕ} _ c.in_err-count.ensures.reading.errors (λ is. c.in_err-count.ensures.corrupt is
           (listed_on d (g.D.BlockDevice.blocks c.loading.dev) now (g.D.BlockDevice.geometry c.loading.dev) c.args.stored.head c.args.stored.size inv.device.same inv.device.geometry (let within = c.requires.within in omega arith) c.requires.base));
     })

@@ -7,7 +7,7 @@ use Rattle.lfs_model.specs.Blocks.{Blocks}
 use Rattle.lfs_model.specs.SkipLists.{blocks_back}
 use Rattle.lfs_model.proofs.Files.{length_back}
 use Rattle.lfs_model.proofs.ListSizes.{head_of_back}
-use Rattle.lfs_writer.proofs.Called.{not_read, quiet, read_on, told_as, told_on}
+use Rattle.lfs_writer.proofs.Called.{not_read, quiet, read_on, reported_as, reported_on}
 use Rattle.lfs_writer.specs.Released.{Releases}
 use Rattle.lfs_writer.proofs.Releasings.{releases_none, next_is, next_there, releases_here}
 use Rattle.lfs_writer.proofs.releasing.release_from.Goals as goal
@@ -38,8 +38,8 @@ never_corrupt : {T : Type 0} (x : Error) → (x ≡ Error.Io) ⊎ (x ≡ Error.C
 never_corrupt x (inl is) other = is
 never_corrupt x (inr is) other = absurd (other (ap Err is))
 
-pub returns-in_err-block-clause-tells : goal.returns-in_err-block-clause-tells
-returns-in_err-block-clause-tells g c =
+pub returns-in_err-block-clause-reports : goal.returns-in_err-block-clause-reports
+returns-in_err-block-clause-reports g c =
     let inv = c.releasing.invariant in
     let test = c.releasing-test.true in
     let low = inv.low in
@@ -48,7 +48,7 @@ returns-in_err-block-clause-tells g c =
     let same = ap (λ (k : Geometry). k.block_count) inv.device.geometry in
     let p = err_from_is_err_and c.from_residual.result c.from_residual.ensures.1 in
     rw (p.1, p.2) (record {
-      faults = told_on g.D.BlockDevice c.releasing.invariant.quiet (told_as g.D.BlockDevice c.in_err-block.ensures.reading.faults);
+      faults = reported_on g.D.BlockDevice c.releasing.invariant.quiet (reported_as g.D.BlockDevice c.in_err-block.ensures.reading.faults);
       errors = never_corrupt {T = ℕ} _ c.in_err-block.ensures.reading.errors (λ is.
           next_there (g.D.BlockDevice.blocks c.args.dev.now) _ c.args.count c.args.head (c.releasing.index - 1) c.releasing.block _ inv.device.same c.requires.chain (omega arith) (inv.here (omega arith)) (omega arith)
           (c.in_err-block.ensures.corrupt is).0 (c.in_err-block.ensures.corrupt is).1);

@@ -3,7 +3,7 @@ use Rattle.std.proofs.lemmas.Result.{err_from_is_err_and}
 use Rattle.lfs_device.specs.declared.geometry.Geometry.{Geometry}
 use Rattle.lfs_model.specs.Blocks.{Blocks}
 use Rattle.lfs_model.specs.SkipLists.{blocks_back}
-use Rattle.lfs_writer.proofs.Called.{not_read, quiet, read_on, told_as, told_on}
+use Rattle.lfs_writer.proofs.Called.{not_read, quiet, read_on, reported_as, reported_on}
 use Rattle.lfs_writer.proofs.Releasings.{next_is, next_there}
 use Rattle.lfs_writer.proofs.Settlings.{head_is, never_corrupt}
 use Rattle.lfs_writer.proofs.sharing.back_to.Goals as goal
@@ -21,18 +21,18 @@ going-init g c = record {
 pub returns-in_err-block-clause-device : goal.returns-in_err-block-clause-device
 returns-in_err-block-clause-device g c = read_on g.D.BlockDevice c.going.invariant.device c.head_before.ensures.reading.device
 
-pub returns-in_err-block-clause-tells : goal.returns-in_err-block-clause-tells
-returns-in_err-block-clause-tells g c =
+pub returns-in_err-block-clause-reports : goal.returns-in_err-block-clause-reports
+returns-in_err-block-clause-reports g c =
     let inv = c.going.invariant in
     let test = c.going-test.true in
     let high = inv.high in
     let shape = (g.met.D.BlockDevice.shape c.args.dev.now).count in
     let same = ap (λ (k : Geometry). k.block_count) inv.device.geometry in
     let p = err_from_is_err_and c.from_residual.result c.from_residual.ensures.1 in
-    let told = c.in_err-block.ensures.reading in
+    let reported = c.in_err-block.ensures.reading in
     rw (p.1, p.2) (record {
-      faults = told_on g.D.BlockDevice inv.quiet (told_as g.D.BlockDevice told.faults);
-      errors = never_corrupt {T = ℕ} _ told.errors (λ is.
+      faults = reported_on g.D.BlockDevice inv.quiet (reported_as g.D.BlockDevice reported.faults);
+      errors = never_corrupt {T = ℕ} _ reported.errors (λ is.
           next_there (g.D.BlockDevice.blocks c.args.dev.now) _ c.args.count c.args.head (c.going.at - 1) c.going.block _ inv.device.same c.requires.chain (omega arith) (inv.here (omega arith)) (omega arith)
           (c.in_err-block.ensures.corrupt is).0 (c.in_err-block.ensures.corrupt is).1);
     })

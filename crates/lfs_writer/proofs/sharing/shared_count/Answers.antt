@@ -3,7 +3,7 @@ use Rattle.std.proofs.lemmas.Result.{err_from_is_err_and}
 use Rattle.lfs_device.specs.declared.geometry.Geometry.{Geometry}
 use Rattle.lfs_model.specs.Blocks.{Blocks}
 use Rattle.lfs_model.specs.SkipLists.{AreListBlocks, blocks_back}
-use Rattle.lfs_writer.proofs.Called.{quiet, read_on, told_as, told_on}
+use Rattle.lfs_writer.proofs.Called.{quiet, read_on, reported_as, reported_on}
 use Rattle.lfs_writer.proofs.Releasings.{in_range_at, next_is, next_there}
 use Rattle.lfs_writer.proofs.Settlings.{never_corrupt}
 use Rattle.lfs_writer.proofs.SharedFronts.{apart_is, is_shared}
@@ -29,7 +29,7 @@ sharing-init g c =
       there = at_same d _ c.args.other_count c.args.other c.min-index.result c.in_ok-twin.twin c.back_to.ensures.device.same c.in_ok-twin.ensures.block;
       most = λ first second. absurd (omega arith);
       device = read_on g.D.BlockDevice c.back_to.ensures.device c.back_to-2.ensures.device;
-      quiet = quiet g.D.BlockDevice c.in_ok-twin.ensures.tells.faults ∙ quiet g.D.BlockDevice c.in_ok-block.ensures.tells.faults;
+      quiet = quiet g.D.BlockDevice c.in_ok-twin.ensures.reports.faults ∙ quiet g.D.BlockDevice c.in_ok-block.ensures.reports.faults;
       few = omega arith;
     }
 
@@ -75,18 +75,18 @@ head_before-requires-in-sharing g c =
 pub returns-in_err-block-2-clause-device : goal.returns-in_err-block-2-clause-device
 returns-in_err-block-2-clause-device g c = read_on g.D.BlockDevice c.sharing.invariant.device c.head_before.ensures.reading.device
 
-pub returns-in_err-block-2-clause-tells : goal.returns-in_err-block-2-clause-tells
-returns-in_err-block-2-clause-tells g c =
+pub returns-in_err-block-2-clause-reports : goal.returns-in_err-block-2-clause-reports
+returns-in_err-block-2-clause-reports g c =
     let inv = c.sharing.invariant in
     let test = c.sharing-test.true in
     let within = inv.within in
     let shape = (g.met.D.BlockDevice.shape c.args.dev.now).count in
     let same = ap (λ (k : Geometry). k.block_count) inv.device.geometry in
     let p = err_from_is_err_and c.from_residual-in_err-block-2.result c.from_residual-in_err-block-2.ensures.1 in
-    let told = c.in_err-block-2.ensures.reading in
+    let reported = c.in_err-block-2.ensures.reading in
     rw (p.1, p.2) (record {
-      faults = told_on g.D.BlockDevice inv.quiet (told_as g.D.BlockDevice told.faults);
-      errors = never_corrupt {T = ℕ} _ told.errors (λ is.
+      faults = reported_on g.D.BlockDevice inv.quiet (reported_as g.D.BlockDevice reported.faults);
+      errors = never_corrupt {T = ℕ} _ reported.errors (λ is.
           next_there (g.D.BlockDevice.blocks c.args.dev.now) _ c.args.count c.args.head (c.sharing.index - 1) c.sharing.block _ inv.device.same c.requires.chain (omega arith) (inv.here (omega arith)) (omega arith)
           (c.in_err-block-2.ensures.corrupt is).0 (c.in_err-block-2.ensures.corrupt is).1);
     })
@@ -95,8 +95,8 @@ pub returns-in_err-twin-2-clause-device : goal.returns-in_err-twin-2-clause-devi
 returns-in_err-twin-2-clause-device g c =
     read_on g.D.BlockDevice (read_on g.D.BlockDevice c.sharing.invariant.device c.head_before.ensures.reading.device) c.head_before-in-sharing.ensures.reading.device
 
-pub returns-in_err-twin-2-clause-tells : goal.returns-in_err-twin-2-clause-tells
-returns-in_err-twin-2-clause-tells g c =
+pub returns-in_err-twin-2-clause-reports : goal.returns-in_err-twin-2-clause-reports
+returns-in_err-twin-2-clause-reports g c =
     let inv = c.sharing.invariant in
     let test = c.sharing-test.true in
     let below = inv.below in
@@ -104,10 +104,10 @@ returns-in_err-twin-2-clause-tells g c =
     let shape = (g.met.D.BlockDevice.shape c.args.dev.now).count in
     let same = ap (λ (k : Geometry). k.block_count) (first.geometry ∙ inv.device.geometry) in
     let p = err_from_is_err_and c.from_residual-in_err-twin-2.result c.from_residual-in_err-twin-2.ensures.1 in
-    let told = c.in_err-twin-2.ensures.reading in
+    let reported = c.in_err-twin-2.ensures.reading in
     rw (p.1, p.2) (record {
-      faults = told_on g.D.BlockDevice (quiet g.D.BlockDevice c.in_ok-block-2.ensures.reading.faults ∙ inv.quiet) (told_as g.D.BlockDevice told.faults);
-      errors = never_corrupt {T = ℕ} _ told.errors (λ is.
+      faults = reported_on g.D.BlockDevice (quiet g.D.BlockDevice c.in_ok-block-2.ensures.reading.faults ∙ inv.quiet) (reported_as g.D.BlockDevice reported.faults);
+      errors = never_corrupt {T = ℕ} _ reported.errors (λ is.
           next_there (g.D.BlockDevice.blocks c.args.dev.now) _ c.args.other_count c.args.other (c.sharing.index - 1) c.sharing.twin _ (first.same ∙ inv.device.same) c.requires.other (omega arith) (inv.there (omega arith)) (omega arith)
           (c.in_err-twin-2.ensures.corrupt is).0 (c.in_err-twin-2.ensures.corrupt is).1);
     })

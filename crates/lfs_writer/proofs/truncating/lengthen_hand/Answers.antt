@@ -7,7 +7,7 @@ use Rattle.lfs_ctz.specs.Growing.{end_of}
 use Rattle.lfs_writer.specs.Written.{IsGoing, bytes_over, length_in}
 use Rattle.std.proofs.lemmas.Result.{err_from_is_err_and}
 use Rattle.lfs_writer.proofs.Owning.{owned_kept}
-use Rattle.lfs_writer.proofs.Called.{quiet, told_as, told_on, used_on}
+use Rattle.lfs_writer.proofs.Called.{quiet, reported_as, reported_on, used_on}
 use Rattle.lfs_writer.proofs.Flights.{base_blocks-le, either_fits, length-hand, shaped}
 use Rattle.lfs_writer.proofs.Memories.{lengthened}
 use Rattle.lfs_writer.proofs.Spared.{KeepsUsed-trans}
@@ -65,10 +65,10 @@ returns-clause-lengthened g c =
       bytes = lengthened (bytes_over d hand) _ _ c.max-length.result _ c.args.size (all ∙ sym len) (omega arith) at.bytes sum zeroed.at.bytes;
     }
 
-pub returns-in_err-write_zeros-clause-tells : goal.returns-in_err-write_zeros-clause-tells
-returns-in_err-write_zeros-clause-tells g c =
+pub returns-in_err-write_zeros-clause-reports : goal.returns-in_err-write_zeros-clause-reports
+returns-in_err-write_zeros-clause-reports g c =
     let p = err_from_is_err_and c.from_residual-in_err-write_zeros.result c.from_residual-in_err-write_zeros.ensures.1 in
-    rw (p.1, p.2) (record { faults = told_on g.D.BlockDevice (quiet g.D.BlockDevice c.in_ok-turned.ensures.tells.faults) (told_as g.D.BlockDevice c.in_err-write_zeros.ensures.tells.faults); errors = c.in_err-write_zeros.ensures.tells.errors })
+    rw (p.1, p.2) (record { faults = reported_on g.D.BlockDevice (quiet g.D.BlockDevice c.in_ok-turned.ensures.reports.faults) (reported_as g.D.BlockDevice c.in_err-write_zeros.ensures.reports.faults); errors = c.in_err-write_zeros.ensures.reports.errors })
 
 pub returns-clause-over : goal.returns-clause-over
 returns-clause-over g c =

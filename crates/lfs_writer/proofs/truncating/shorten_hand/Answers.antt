@@ -3,7 +3,7 @@ use Rattle.lfs_device.specs.declared.geometry.Geometry.{Geometry}
 use Rattle.lfs_model.specs.Writers.{zeros_to}
 use Rattle.lfs_writer.specs.Contents.{Stands, bytes_in}
 use Rattle.lfs_writer.specs.Form.{Finished, truncated}
-use Rattle.lfs_writer.specs.Hand.{IsStored, stored_bytes}
+use Rattle.lfs_writer.specs.Hand.{IsListStored, stored_bytes}
 use Rattle.lfs_writer.specs.Written.{length_in}
 use Rattle.lfs_writer.specs.Owned.{AreOwned, blocks_held, blocks_in}
 use Rattle.lfs_writer.proofs.Owning.{owned_on, owned_right}
@@ -12,7 +12,7 @@ use Rattle.lfs_writer.proofs.truncating.shorten_hand.Goals as goal
 
 pub truncate_stored-requires-clause-stored : goal.truncate_stored-requires-clause-stored
 truncate_stored-requires-clause-stored g c =
-    subst (λ (k : Geometry). IsStored c.end_hand.new.map (g.D.BlockDevice.blocks c.end_hand.new.dev) k.block_size c.in_ok-stored.stored) (sym c.end_hand.ensures.device.geometry) c.in_ok-stored.ensures.ended.stored
+    subst (λ (k : Geometry). IsListStored c.end_hand.new.map (g.D.BlockDevice.blocks c.end_hand.new.dev) k.block_size c.in_ok-stored.stored) (sym c.end_hand.ensures.device.geometry) c.in_ok-stored.ensures.ended.stored
 
 pub truncate_stored-requires-clause-room : goal.truncate_stored-requires-clause-room
 truncate_stored-requires-clause-room g c many longer =

@@ -6,7 +6,7 @@ use Rattle.lfs_model.specs.Writers.{written_into}
 use Rattle.lfs_ctz.specs.Growing.{end_of}
 use Rattle.lfs_writer.specs.Written.{HasBegun, IsGoing, IsZeroed, bytes_over}
 use Rattle.lfs_writer.proofs.Owning.{list_same, list_then}
-use Rattle.lfs_writer.proofs.Called.{not_read, quiet, told_as, told_on, used_on, used_reads}
+use Rattle.lfs_writer.proofs.Called.{not_read, quiet, reported_as, reported_on, used_on, used_reads}
 use Rattle.lfs_writer.proofs.Flights.{in_hand, more_zeros, part_fits, shaped, wrote_none}
 use Rattle.lfs_writer.proofs.Spared.{KeepsUsed-refl, KeepsUsed-trans}
 use Rattle.lfs_writer.proofs.zeroing.write_zeros.Goals as goal
@@ -83,13 +83,13 @@ zeroing-preserved g c =
       base = list_then _ _ _ _ _ _ _ _ inv.device.geometry inv.base c.write_on.ensures.base;
       map = KeepsUsed-trans inv.map c.write_on.ensures.map;
       device = used_on g.D.BlockDevice inv.map inv.device c.write_on.ensures.device;
-      quiet = quiet g.D.BlockDevice c.in_ok-write_on.ensures.tells.faults ∙ inv.quiet;
+      quiet = quiet g.D.BlockDevice c.in_ok-write_on.ensures.reports.faults ∙ inv.quiet;
     }
 
-pub returns-in_err-write_on-clause-tells : goal.returns-in_err-write_on-clause-tells
-returns-in_err-write_on-clause-tells g c =
+pub returns-in_err-write_on-clause-reports : goal.returns-in_err-write_on-clause-reports
+returns-in_err-write_on-clause-reports g c =
     let p = err_from_is_err_and c.from_residual.result c.from_residual.ensures.1 in
-    rw (p.1, p.2) (record { faults = told_on g.D.BlockDevice c.zeroing.invariant.quiet (told_as g.D.BlockDevice c.in_err-write_on.ensures.tells.faults); errors = c.in_err-write_on.ensures.tells.errors })
+    rw (p.1, p.2) (record { faults = reported_on g.D.BlockDevice c.zeroing.invariant.quiet (reported_as g.D.BlockDevice c.in_err-write_on.ensures.reports.faults); errors = c.in_err-write_on.ensures.reports.errors })
 
 pub returns-clause-zeroed : goal.returns-clause-zeroed
 returns-clause-zeroed g c =

@@ -6,8 +6,8 @@ use Rattle.lfs_cache.proofs.cache.Cache.promote.Goals as goal
 pub invariant_of-self : goal.invariant_of-self
 invariant_of-self c = rw c.promote.ensures.entries (IsCache-promoted c.self.inside.recent c.args.block c.self.invariant)
 
-pub returns-clause-at_hand : goal.returns-clause-at_hand
-returns-clause-at_hand c =
+pub returns-clause-cached_log : goal.returns-clause-cached_log
+returns-clause-cached_log c =
     c.promote.ensures.value
     ∙ sym (is_some-cached c.self.inside.recent c.args.block c.self.invariant)
     ∙ ap (λ cache. is_some (cached cache c.args.block)) c.self.view_is

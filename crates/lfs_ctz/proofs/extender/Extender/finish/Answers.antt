@@ -7,7 +7,7 @@ use Rattle.lfs_model.specs.SkipLists.{blocks_back, AreListBlocks, data_of}
 use Rattle.lfs_ctz.specs.declared.extender.Extender.TheInside.{Inside}
 use Rattle.lfs_ctz.specs.declared.rest.Rest.TheVariants.{Closed, Shared, Handed, Held}
 use Rattle.lfs_ctz.specs.Fields.{growing}
-use Rattle.lfs_ctz.specs.Growing.{Growing, content_of, blocks_of, end_of, pending_of, last_in, pending_in, is_held_in, IsGrowing}
+use Rattle.lfs_ctz.specs.Growing.{Growing, content_of, blocks_of_list, end_of, pending_of, last_in, pending_in, is_held_in, IsGrowing}
 use Rattle.lfs_ctz.proofs.Geometries.{shaped}
 use Rattle.lfs_ctz.proofs.Rests.{IsCounted, counted}
 use Rattle.lfs_ctz.specs.Counts.{Writes}
@@ -24,18 +24,18 @@ module _ (d : Blocks) (v : Growing) (size : ℕ) (is_counted : IsCounted v size)
   any : 1 ≤ size
   any = omega (arith, some, is_counted.sum)
 
-  in_closed : v.stand ≡ Closed → IsEnd d v.geometry.block_size v.head size (content_of d v) (blocks_of d v)
+  in_closed : v.stand ≡ Closed → IsEnd d v.geometry.block_size v.head size (content_of d v) (blocks_of_list d v)
   in_closed is =
       subst (λ t. IsEnd d v.geometry.block_size v.head size (content_of d v) (blocks_back d v.full v.head ++ last_in t)) (sym is)
       (closed_end d v.geometry.block_size geometry.block_count v.full v.head size v.rest v.geometry.valid.no_smaller divided held.chain (rw is at held.stand) any is_counted.fits is_counted.sum)
 
-  in_shared : (b : ℕ) → v.stand ≡ Shared b → IsEnd d v.geometry.block_size b size (content_of d v) (blocks_of d v)
+  in_shared : (b : ℕ) → v.stand ≡ Shared b → IsEnd d v.geometry.block_size b size (content_of d v) (blocks_of_list d v)
   in_shared b is =
       subst (λ t. IsEnd d v.geometry.block_size b size (content_of d v) (blocks_back d v.full v.head ++ last_in t)) (sym is)
       (shared_end d v.geometry.block_size geometry.block_count v.full v.head b size v.rest v.geometry.valid.no_smaller divided held.chain (rw is at held.stand) (let r = is_counted.short in omega arith) is_counted.fits is_counted.sum)
 
   in_handed : (new : Blocks) (b : ℕ) → v.stand ≡ Handed b → AreListBlocks new (v.full + 1) b → blocks_back new (v.full + 1) b ≡ blocks_back d v.full v.head ++ b ∷ [] → SameBut b d new
-      → take (length v.rest) (data_of new (v.full, b)) ≡ v.rest → IsEnd new v.geometry.block_size b size (content_of d v) (blocks_of d v)
+      → take (length v.rest) (data_of new (v.full, b)) ≡ v.rest → IsEnd new v.geometry.block_size b size (content_of d v) (blocks_of_list d v)
   in_handed new b is more back but begins =
       subst (λ t. IsEnd new v.geometry.block_size b size (content_of d v) (blocks_back d v.full v.head ++ last_in t)) (sym is)
       (handed_end d new v.geometry.block_size geometry.block_count v.full v.head b size v.rest v.geometry.valid.no_smaller divided held.chain (rw is at held.stand) more back but begins
@@ -47,7 +47,7 @@ stood e v t shown is = sym (ap (λ (g : Growing). g.stand) shown) ∙ is
 
 pub returns-in-Closed-clause-finished : goal.returns-in-Closed-clause-finished
 returns-in-Closed-clause-finished g c =
-    subst (λ (v : Growing). IsEnd (g.D.BlockDevice.blocks c.args.dev.now) c.args.self.geometry.block_size v.head c.self.inside.size (content_of (g.D.BlockDevice.blocks c.args.dev.now) c.args.self) (blocks_of (g.D.BlockDevice.blocks c.args.dev.now) c.args.self)) (sym c.self.view_is)
+    subst (λ (v : Growing). IsEnd (g.D.BlockDevice.blocks c.args.dev.now) c.args.self.geometry.block_size v.head c.self.inside.size (content_of (g.D.BlockDevice.blocks c.args.dev.now) c.args.self) (blocks_of_list (g.D.BlockDevice.blocks c.args.dev.now) c.args.self)) (sym c.self.view_is)
     (in_closed (g.D.BlockDevice.blocks c.args.dev.now) c.args.self c.self.inside.size (counted c.self.inside c.args.self c.self.invariant c.self.view_is) _ c.requires.stands.geometry (g.met.D.BlockDevice.shape c.args.dev.now) c.requires.stands.growing c.requires.some
     (stood c.self.inside c.args.self Closed c.self.view_is c.in-Closed.is))
 

@@ -4,7 +4,7 @@ use Rattle.std.proofs.Math.Seq.{take-add}
 use Rattle.std.proofs.lemmas.List.{append-nil, get_or_append_left, take_all, length-take-le, take-take}
 use Rattle.std.proofs.lemmas.List.Elements.{All-cons, All-nil}
 use Rattle.std.proofs.lemmas.Result.{err_from_is_err_and}
-use Rattle.lfs_ctz.proofs.Called.{changes_none, changes_one, quiet, told_as, told_on}
+use Rattle.lfs_ctz.proofs.Called.{changes_none, changes_one, quiet, reported_as, reported_on}
 use Rattle.lfs_ctz.proofs.Geometries.{shaped}
 use Rattle.lfs_ctz.proofs.Stands.{is_grown}
 use Rattle.lfs_device.specs.declared.geometry.Geometry.{Geometry}
@@ -77,9 +77,9 @@ returns-in_err-done-clause-device g c =
 
 pub returns-in_err-done-clause-io : goal.returns-in_err-done-clause-io
 returns-in_err-done-clause-io g c =
-    let told = c.in_err-done.ensures.io in
+    let reported = c.in_err-done.ensures.io in
     let p = err_from_is_err_and c.from_residual.result c.from_residual.ensures.1 in
-    rw (p.1, p.2) (record { faults = told_on g.D.BlockDevice c.loop-done.invariant.quiet (told_as g.D.BlockDevice told.faults); errors = told.errors })
+    rw (p.1, p.2) (record { faults = reported_on g.D.BlockDevice c.loop-done.invariant.quiet (reported_as g.D.BlockDevice reported.faults); errors = reported.errors })
 
 sum_more : (before : Geometry) (size done n all : ℕ) (e : Growing) → e.geometry ≡ before → all ≡ size + done → size_of before.block_size e ≡ all + n
     → size_of e.geometry.block_size e ≡ size + (done + n)

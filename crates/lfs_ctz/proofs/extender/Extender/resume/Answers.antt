@@ -10,7 +10,7 @@ use Rattle.lfs_ctz.specs.Growing.{joined, IsShared}
 use Rattle.lfs_ctz.proofs.Sizes.{blocks_for-last, place-lt, pointers_of-le, place-le}
 use Rattle.lfs_ctz.proofs.Chains.{in_range_at, back-pointer0}
 use Rattle.lfs_ctz.proofs.Geometries.{last_is, chain, sized, shaped}
-use Rattle.lfs_ctz.proofs.Called.{quiet, read_on, told_as, told_on}
+use Rattle.lfs_ctz.proofs.Called.{quiet, read_on, reported_as, reported_on}
 use Rattle.lfs_ctz.proofs.Stands.{is_grown}
 use Rattle.lfs_ctz.proofs.Resumed.{front_back, front_chain, keep_full, full_content, full_blocks, before_chain, before_front, open_blocks, open_shared, open_content, rest_long}
 use Rattle.lfs_ctz.proofs.Words.{data-written}
@@ -31,13 +31,13 @@ never_corrupt : {T : Type 0} (x : Error) → (x ≡ Error.Io) ⊎ (x ≡ Error.C
 never_corrupt x (inl is) other = inl is
 never_corrupt x (inr is) other = absurd (other (ap Err is))
 
-pub returns-in_err-block-clause-tells : goal.returns-in_err-block-clause-tells
-returns-in_err-block-clause-tells g c =
+pub returns-in_err-block-clause-reports : goal.returns-in_err-block-clause-reports
+returns-in_err-block-clause-reports g c =
     let p = err_from_is_err_and c.from_residual-in_err-block.result c.from_residual-in_err-block.ensures.1 in
-    let told = c.in_err-block.ensures.reading in
+    let reported = c.in_err-block.ensures.reading in
     rw (p.1, p.2) (record {
-      faults = told_as g.D.BlockDevice told.faults;
-      errors = never_corrupt {T = ℕ} _ told.errors (λ is. c.in_err-block.ensures.corrupt is
+      faults = reported_as g.D.BlockDevice reported.faults;
+      errors = never_corrupt {T = ℕ} _ reported.errors (λ is. c.in_err-block.ensures.corrupt is
           (chain _ _ _ _ _ c.geometry-geometry.result.valid.no_smaller c.blocks_for.ensures (sized _ _ _ _ _ c.geometry-geometry.ensures c.requires.list)));
     })
 
@@ -177,13 +177,13 @@ returns-then-off-block_size-clause-resumed g c =
 pub returns-in_err-head-clause-device : goal.returns-in_err-head-clause-device
 returns-in_err-head-clause-device g c = read_on g.D.BlockDevice c.find.ensures.reading.device c.head_before.ensures.reading.device
 
-pub returns-in_err-head-clause-tells : goal.returns-in_err-head-clause-tells
-returns-in_err-head-clause-tells g c =
+pub returns-in_err-head-clause-reports : goal.returns-in_err-head-clause-reports
+returns-in_err-head-clause-reports g c =
     let p = err_from_is_err_and c.from_residual-in_err-head.result c.from_residual-in_err-head.ensures.1 in
-    let told = c.in_err-head.ensures.reading in
+    let reported = c.in_err-head.ensures.reading in
     rw (p.1, p.2) (record {
-      faults = told_on g.D.BlockDevice (quiet g.D.BlockDevice c.in_ok-block.ensures.reading.faults) (told_as g.D.BlockDevice told.faults);
-      errors = never_corrupt {T = ℕ} _ told.errors (λ is.
+      faults = reported_on g.D.BlockDevice (quiet g.D.BlockDevice c.in_ok-block.ensures.reading.faults) (reported_as g.D.BlockDevice reported.faults);
+      errors = never_corrupt {T = ℕ} _ reported.errors (λ is.
           let some = (c.in_err-head.ensures.corrupt is).0 in
           let refused = rw (c.find.ensures.reading.device.same, c.find.ensures.reading.device.geometry) at c.in_err-head.ensures.corrupt in
           let out = (refused is).1 in

@@ -1,18 +1,18 @@
 use Rattle.std.proofs.Common.{rules, ◌≡◌, ◌∷◌, is_err}
 use Rattle.lfs_model.specs.History.{event}
 use Rattle.lfs_model.specs.History.Call.{Erase}
-use Rattle.lfs_model.proofs.Obeyed.{obeyed_erase, obeyed_next}
+use Rattle.lfs_model.proofs.Conformance.{conforms_erase, conforms_next}
 use Rattle.lfs_device.specs.Fault.{due}
-use Rattle.lfs_device.specs.Carried.{CarriedOut}
+use Rattle.lfs_device.specs.CallsBelow.{IsCallBelow}
 use Rattle.lfs_device.proofs.Faults.{due_failed-call, undue_faults-call, below-call}
 use Rattle.lfs_device.proofs.Premises.{premises_call}
 use Rattle.lfs_device.proofs.fault.FaultDeviceBlockDevice.erase.Goals as goal
 
-carried : (g : _) (c : goal.After-told_by-self g) → CarriedOut g.D.BlockDevice (due c.args.self.now.fault (Erase c.args.block) c.args.self.now.trace.events)
+carried : (g : _) (c : goal.After-from_proof-self g) → IsCallBelow g.D.BlockDevice (due c.args.self.now.fault (Erase c.args.block) c.args.self.now.trace.events)
     (Erase c.args.block) (is_err c.carry_out_erase-outcome.result) c.args.self.now.inner c.carry_out_erase-outcome.new.device
 carried g c = search rules
 
-newest : (g : _) (c : goal.After-told_by-self g) → c.told_by-self.result.events
+newest : (g : _) (c : goal.After-from_proof-self g) → c.from_proof-self.result.events
     ≡ event (Erase c.args.block) (g.D.BlockDevice.blocks c.args.self.now.inner) (g.D.BlockDevice.blocks c.carry_out_erase-outcome.new.device) (is_err c.carry_out_erase-outcome.result) ∷ c.args.self.now.trace.events
 newest g c = search rules
 
@@ -22,14 +22,14 @@ invariant_of-self-clause-due_failed g c = due_failed-call g.D.BlockDevice c.args
 pub invariant_of-self-clause-below : goal.invariant_of-self-clause-below
 invariant_of-self-clause-below g c = below-call (g.D.BlockDevice.history c.args.self.now.inner) (g.D.BlockDevice.history c.carry_out_erase-outcome.new.device) (newest g c) c.args.self.now.below (c.carry_out_erase-outcome.ensures.keeps)
 
-pub invariant_of-self-clause-obeyed : goal.invariant_of-self-clause-obeyed
-invariant_of-self-clause-obeyed g c = obeyed_next (newest g c) (obeyed_erase _ _ _ _ c.carry_out_erase-outcome.ensures.others) c.args.self.now.obeyed
+pub invariant_of-self-clause-conforms : goal.invariant_of-self-clause-conforms
+invariant_of-self-clause-conforms g c = conforms_next (newest g c) (conforms_erase _ _ _ _ c.carry_out_erase-outcome.ensures.others) c.args.self.now.conforms
 
 pub invariant_of-self-clause-premises : goal.invariant_of-self-clause-premises
 invariant_of-self-clause-premises g c = λ tears reliable.
     let new = c.carry_out_erase-outcome.new.device in
     premises_call g.D.BlockDevice c.args.self.now.fault c.args.self.now.inner new (c.args.self.now.untorn tears) (carried g c) (newest g c)
-    (g.met.D.BlockDevice.obeyed new) reliable (c.args.self.now.premises tears reliable)
+    (g.met.D.BlockDevice.conforms new) reliable (c.args.self.now.premises tears reliable)
 
 pub invariant_of-self-clause-undue_faults : goal.invariant_of-self-clause-undue_faults
 invariant_of-self-clause-undue_faults g c =

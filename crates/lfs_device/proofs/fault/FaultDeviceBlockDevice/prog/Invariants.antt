@@ -5,11 +5,11 @@ use Rattle.lfs_model.specs.History.Call.{Program}
 use Rattle.lfs_device.proofs.fault.FaultDeviceBlockDevice.prog.Given as goal
 
 -- the call, as if it failed and left all as it was
-abbrev pub ghost-told_by : goal.ghost-told_by
-ghost-told_by g a =
+abbrev pub ghost-from_proof : goal.ghost-from_proof
+ghost-from_proof g a =
     let disk : Blocks = g.D.BlockDevice.blocks a._device.now.inner in
     event (Program a._call.now.0 a._call.now.1 a._call.now.2.now) disk disk true ∷ a._device.now.trace.events
 
 -- the call as it went
-abbrev pub ghost-told_by-2 : goal.ghost-told_by-2
-ghost-told_by-2 g a = amended a._call.now.0.events (g.D.BlockDevice.blocks a._device.now) a._call.now.1
+abbrev pub ghost-from_proof-2 : goal.ghost-from_proof-2
+ghost-from_proof-2 g a = amended a._call.now.0.events (g.D.BlockDevice.blocks a._device.now) a._call.now.1

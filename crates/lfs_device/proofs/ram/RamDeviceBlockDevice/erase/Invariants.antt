@@ -5,8 +5,8 @@ use Rattle.lfs_model.specs.History.{event}
 use Rattle.lfs_model.specs.History.Call.{Erase}
 use Rattle.lfs_device.proofs.ram.RamDeviceBlockDevice.erase.Given as goal
 
-abbrev pub ghost-told_by : goal.ghost-told_by
-ghost-told_by a =
+abbrev pub ghost-from_proof : goal.ghost-from_proof
+ghost-from_proof a =
     let d = a._device.now in
     let disk : Blocks = cut d.geometry.block_size d.geometry.block_count d.bytes.items in
     event (Erase a._call.now) disk (erased_disk d.erased d.geometry.block_size disk a._call.now) false ∷ d.trace.events

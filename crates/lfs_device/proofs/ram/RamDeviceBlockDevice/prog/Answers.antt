@@ -1,7 +1,7 @@
 use Rattle.std.proofs.Common.{length, ◌∙◌, refl, ap, arith}
 use Rattle.lfs_model.specs.Blocks.{Blocks, overwritten, cut}
 use Rattle.lfs_model.proofs.Cuts.{IsDivided-cut, cut-overwritten, size_fits}
-use Rattle.lfs_model.proofs.Obeyed.{obeyed_program, obeyed_next}
+use Rattle.lfs_model.proofs.Conformance.{conforms_program, conforms_next}
 use Rattle.lfs_model.proofs.Overwrites.{length-overwritten, SameBut-programmed}
 use Rattle.lfs_device.proofs.Newest.{newest_call}
 use Rattle.lfs_device.proofs.Premises.{meets_program, premises_after}
@@ -27,22 +27,22 @@ returns-clause-others c =
     rw (returns-clause-bytes c) (SameBut-programmed disk c.args.block c.args.off c.args.bytes.now (omega (arith, shape.count)) (omega (arith, shape.sizes c.args.block c.requires.in_device)))
 
 pub returns-clause-history : goal.returns-clause-history
-returns-clause-history c = rw (returns-clause-bytes c) c.told_by-trace.ensures
+returns-clause-history c = rw (returns-clause-bytes c) c.from_proof-trace.ensures
 
 pub invariant_of-self-clause-newest : goal.invariant_of-self-clause-newest
 invariant_of-self-clause-newest c =
     let d = c.args.self.now in
-    newest_call _ _ _ _ _ _ _ c.told_by-trace.ensures
+    newest_call _ _ _ _ _ _ _ c.from_proof-trace.ensures
     (ap (cut d.geometry.block_size d.geometry.block_count) (c.overwrite.ensures ∙ ap (λ at. overwritten d.bytes.items at c.args.bytes.now) c.position-start.ensures)
     ∙ cut-overwritten d.geometry.block_size d.geometry.block_count d.bytes.items c.args.block c.args.off c.args.bytes.now d.size c.requires.in_device c.requires.in_block)
 
-pub invariant_of-self-clause-obeyed : goal.invariant_of-self-clause-obeyed
-invariant_of-self-clause-obeyed c =
+pub invariant_of-self-clause-conforms : goal.invariant_of-self-clause-conforms
+invariant_of-self-clause-conforms c =
     let d = c.args.self.now in
     let disk : Blocks = cut d.geometry.block_size d.geometry.block_count d.bytes.items in
     let shape = IsDivided-cut d.geometry.block_size d.geometry.block_count d.bytes.items d.size in
     let same = SameBut-programmed disk c.args.block c.args.off c.args.bytes.now (omega (arith, shape.count)) (omega (arith, shape.sizes c.args.block c.requires.in_device)) in
-    obeyed_next c.told_by-trace.ensures (obeyed_program _ _ _ _ _ _ (λ ok. refl) same) d.obeyed
+    conforms_next c.from_proof-trace.ensures (conforms_program _ _ _ _ _ _ (λ ok. refl) same) d.conforms
 
 pub invariant_of-self-clause-premises : goal.invariant_of-self-clause-premises
-invariant_of-self-clause-premises c = premises_after c.told_by-trace.ensures (meets_program _ _ _ _ _) c.args.self.now.premises
+invariant_of-self-clause-premises c = premises_after c.from_proof-trace.ensures (meets_program _ _ _ _ _) c.args.self.now.premises

@@ -1,7 +1,7 @@
 use Rattle.std.proofs.Common.{◌+◌, List, ℕ, length, ◌∙◌, refl, ap}
 use Rattle.std.specs.Prelude.{slice_range}
 use Rattle.lfs_model.proofs.Cuts.{slice_range-block_in}
-use Rattle.lfs_model.proofs.Obeyed.{obeyed_read, obeyed_next}
+use Rattle.lfs_model.proofs.Conformance.{conforms_read, conforms_next}
 use Rattle.lfs_device.proofs.Premises.{meets_read, premises_after}
 use Rattle.lfs_device.proofs.ram.RamDeviceBlockDevice.read.Goals as goal
 
@@ -14,8 +14,8 @@ returns-clause-bytes c =
     ∙ ap (λ at. slice_range d.bytes.items at (at + n)) c.position-start.ensures
     ∙ slice_range-block_in d.geometry.block_size d.geometry.block_count d.bytes.items c.args.block c.args.off n c.requires.in_device c.requires.in_block
 
-pub invariant_of-self-clause-obeyed : goal.invariant_of-self-clause-obeyed
-invariant_of-self-clause-obeyed c = obeyed_next c.told_by-self.ensures (obeyed_read _ _ _ _ _ _ refl) c.args.self.now.obeyed
+pub invariant_of-self-clause-conforms : goal.invariant_of-self-clause-conforms
+invariant_of-self-clause-conforms c = conforms_next c.from_proof-self.ensures (conforms_read _ _ _ _ _ _ refl) c.args.self.now.conforms
 
 pub invariant_of-self-clause-premises : goal.invariant_of-self-clause-premises
-invariant_of-self-clause-premises c = premises_after c.told_by-self.ensures (meets_read _ _ _ _ _) c.args.self.now.premises
+invariant_of-self-clause-premises c = premises_after c.from_proof-self.ensures (meets_read _ _ _ _ _) c.args.self.now.premises

@@ -4,8 +4,8 @@ use Rattle.lfs_model.specs.History.{event}
 use Rattle.lfs_model.specs.History.Call.{Read}
 use Rattle.lfs_device.proofs.ram.RamDeviceBlockDevice.read.Given as goal
 
-abbrev pub ghost-told_by : goal.ghost-told_by
-ghost-told_by a =
+abbrev pub ghost-from_proof : goal.ghost-from_proof
+ghost-from_proof a =
     let d = a._device.now in
     let disk : Blocks = cut d.geometry.block_size d.geometry.block_count d.bytes.items in
     event (Read a._call.now.0 a._call.now.1 a._call.now.2) disk disk false ∷ d.trace.events

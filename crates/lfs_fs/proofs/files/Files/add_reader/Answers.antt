@@ -1,5 +1,5 @@
 use Rattle.std.proofs.Common.{◌≡◌, ◌<◌, ◌∙◌, length, subst, sym, ap, arith}
-use Rattle.lfs_fs.specs.FileSeen.{free_entry, reader_in, readers_in, writer_in}
+use Rattle.lfs_fs.specs.FileView.{free_entry, reader_in, readers_in, writer_in}
 use Rattle.lfs_fs.proofs.OpenFiles.{few_open, few_put, free_at_most}
 use Rattle.lfs_fs.proofs.files.Files.add_reader.Goals as goal
 

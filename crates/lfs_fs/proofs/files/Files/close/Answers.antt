@@ -1,5 +1,5 @@
 use Rattle.std.proofs.Common.{◌≡◌, None, true, is_some, arith, subst, sym}
-use Rattle.lfs_fs.specs.FileSeen.{entry_of, reader_in, writer_in}
+use Rattle.lfs_fs.specs.FileView.{entry_of, reader_in, writer_in}
 use Rattle.lfs_fs.proofs.OpenFiles.{few_set, inside_is}
 use Rattle.lfs_fs.proofs.files.Files.close.Goals as goal
 

@@ -1,5 +1,5 @@
 use Rattle.std.proofs.Common.{◌≡◌, ◌∙◌, [], length, subst, sym, ap, arith}
-use Rattle.lfs_fs.specs.FileSeen.{free_entry, reader_in, writer_in, writers_in}
+use Rattle.lfs_fs.specs.FileView.{free_entry, reader_in, writer_in, writers_in}
 use Rattle.lfs_fs.proofs.OpenFiles.{few_put, few_with_none, free_at_most}
 use Rattle.lfs_fs.proofs.files.Files.make_room.Goals as goal
 

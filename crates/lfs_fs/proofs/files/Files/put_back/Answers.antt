@@ -1,5 +1,5 @@
 use Rattle.std.proofs.Common.{◌≡◌, ◌<◌, ◌≤◌, Some, [], length, ap, arith, subst, sym}
-use Rattle.lfs_fs.specs.FileSeen.{picked, reader_in, writer_in, writers_in}
+use Rattle.lfs_fs.specs.FileView.{picked, reader_in, writer_in, writers_in}
 use Rattle.lfs_fs.specs.declared.files.OpenFile.TheVariants as file
 use Rattle.lfs_fs.proofs.OpenFiles.{count_set, few_set}
 use Rattle.lfs_fs.proofs.files.Files.put_back.Goals as goal

@@ -1,5 +1,5 @@
 use Rattle.std.proofs.Common.{◌≡◌, true, is_some, arith, subst, sym}
-use Rattle.lfs_fs.specs.FileSeen.{entry_of, reader_in, writer_in}
+use Rattle.lfs_fs.specs.FileView.{entry_of, reader_in, writer_in}
 use Rattle.lfs_fs.proofs.OpenFiles.{few_set, inside_is, less_moved, reader_moved, writer_moved}
 use Rattle.lfs_fs.proofs.files.Files.seek.Goals as goal
 

@@ -6,7 +6,7 @@ use Rattle.lfs_fs.proofs.Answered.{question_call, files_asked, asked_by_checks, 
 use Rattle.lfs_fs.proofs.Stopping.{only_read, reads_of_checks}
 use Rattle.lfs_fs.proofs.Sparing.{asking_call}
 use Rattle.lfs_fs.proofs.Ending.{checked_ends}
-use Rattle.lfs_fs.proofs.Told.{between_checked}
+use Rattle.lfs_fs.proofs.DeviceLaws.{between_checked}
 use Rattle.lfs_fs.proofs.session.Session.get_attr.Goals as goal
 
 pub returns : goal.returns

@@ -1,7 +1,7 @@
 use Rattle.std.proofs.Common.{◌∙◌, ap, refl, None}
 use Rattle.lfs_device.specs.declared.error.Error.TheVariants as error
 use Rattle.lfs_model.specs.Operations as ops
-use Rattle.lfs_fs.specs.GstateSeen.{reply_of_gstate}
+use Rattle.lfs_fs.specs.GstateView.{reply_of_gstate}
 use Rattle.lfs_fs.specs.Held.{held_of}
 use Rattle.lfs_fs.proofs.Questions.{failed_by, works_by, refused_kept, question_kept}
 use Rattle.lfs_fs.proofs.Answered.{sound_by}

@@ -1,22 +1,22 @@
 use Rattle.std.proofs.Common.{ap, map, refl, sym}
 use Rattle.lfs_model.specs.Operations as ops
-use Rattle.lfs_lookup.specs.Finds.{list_item_seen}
+use Rattle.lfs_lookup.specs.Finds.{list_item_view}
 use Rattle.lfs_fs.specs.Replies.{reply_in}
 use Rattle.lfs_fs.specs.Held.{held_of}
 use Rattle.lfs_fs.proofs.Answered.{question_call, files_asked, asked_by_checks, sound_by}
 use Rattle.lfs_fs.proofs.Stopping.{only_read, reads_of_checks}
 use Rattle.lfs_fs.proofs.Sparing.{asking_call}
 use Rattle.lfs_fs.proofs.Ending.{checked_ends}
-use Rattle.lfs_fs.proofs.Told.{between_checked}
+use Rattle.lfs_fs.proofs.DeviceLaws.{between_checked}
 use Rattle.lfs_fs.proofs.session.Session.list.Goals as goal
 
 pub returns : goal.returns
 returns g c =
     asking_call c.self.inside.tree c.self.inside.files _ (ops.ListAll c.args.path.now) _ _ c.self.view_is c.self.invariant.ready (λ s. refl) (λ k. absurd (cc))
     (record { few = λ l. c.check_list.ensures.few; none = λ l. c.check_list.ensures.kept; hand = λ path reply is same accepted s at ps a small. absurd (cc) })
-    (checked_ends c.self.inside.tree c.self.inside.files _ (ops.ListAll c.args.path.now) (λ items. ops.Items (map list_item_seen items.items)) _ c.check_list.result c.check_list.new.tree c.self.view_is refl c.check_list.ensures.checks)
-    (files_asked c.args.self.now (ops.ListAll c.args.path.now) (reply_in (λ items. ops.Items (map list_item_seen items.items)) c.check_list.result) c.self.inside.tree c.check_list.new.tree c.self.inside.files (asked_by_checks c.self.inside.tree c.self.inside.files (ops.ListAll c.args.path.now) _ c.check_list.result c.check_list.new.tree c.check_list.ensures.checks)
-    (question_call (held_of c.self.inside.tree c.self.inside.files) _ (ops.ListAll c.args.path.now) (λ items. ops.Items (map list_item_seen items.items)) _ c.check_list.result c.check_list.new.tree c.self.view_is
+    (checked_ends c.self.inside.tree c.self.inside.files _ (ops.ListAll c.args.path.now) (λ items. ops.Items (map list_item_view items.items)) _ c.check_list.result c.check_list.new.tree c.self.view_is refl c.check_list.ensures.checks)
+    (files_asked c.args.self.now (ops.ListAll c.args.path.now) (reply_in (λ items. ops.Items (map list_item_view items.items)) c.check_list.result) c.self.inside.tree c.check_list.new.tree c.self.inside.files (asked_by_checks c.self.inside.tree c.self.inside.files (ops.ListAll c.args.path.now) _ c.check_list.result c.check_list.new.tree c.check_list.ensures.checks)
+    (question_call (held_of c.self.inside.tree c.self.inside.files) _ (ops.ListAll c.args.path.now) (λ items. ops.Items (map list_item_view items.items)) _ c.check_list.result c.check_list.new.tree c.self.view_is
     (sound_by c.self.inside.tree c.self.inside.files c.self.invariant.ready) refl refl (λ x p. ap ops.Items (sym p)) c.check_list.ensures.checks))
     (only_read (held_of c.self.inside.tree c.self.inside.files) _ (ops.ListAll c.args.path.now) c.check_list.new.tree c.self.view_is (sound_by c.self.inside.tree c.self.inside.files c.self.invariant.ready) (reads_of_checks (held_of c.self.inside.tree c.self.inside.files) (ops.ListAll c.args.path.now) _ c.check_list.result c.check_list.new.tree c.check_list.ensures.checks))
 

@@ -6,9 +6,9 @@ use Rattle.lfs_fs.proofs.Errors.{given_on}
 use Rattle.lfs_fs.proofs.Staying.{mkdir_left}
 use Rattle.lfs_model.specs.TreeEdits.{added}
 use Rattle.lfs_model.specs.Tree.{DirectoryNode}
-use Rattle.lfs_tree.specs.Seen.{tree_seen}
+use Rattle.lfs_tree.specs.TreeState.{tree_view}
 use Rattle.lfs_fs.proofs.Called.{done_call, ended_as_call}
-use Rattle.lfs_fs.proofs.Told.{between_checked}
+use Rattle.lfs_fs.proofs.DeviceLaws.{between_checked}
 use Rattle.lfs_fs.proofs.session.Session.mkdir.Goals as goal
 
 pub mkdir-answer-requires : goal.mkdir-answer-requires
@@ -26,7 +26,7 @@ invariant_of-self-2 g c =
     let h = c.in_ok-path.ensures in
     record {
       ready = λ works. (mkdir_left _ c.self.inside.tree c.check_mkdir.new.tree c.mkdir-answer.new.self c.self.inside.files c.args.path.now _ c.mkdir-answer.result c.open_files_stay.ensures.stay c.self.invariant.ready h.0 h.1 h.2 (mkdir_can (held_of c.self.inside.tree c.self.inside.files) c.args.path.now _ _ (λ works. c.open_files_stay.ensures.few c.self.inside.tree c.self.inside.files (c.self.invariant.ready works)) h) c.mkdir-answer.ensures.done (λ f. f (ops.Mkdir c.args.path.now) (c.args.path.now, (refl, sym h.2))) c.mkdir-answer.ensures.broken works).ready;
-      told = λ works. c.device_tells.ensures;
+      reported = λ works. c.device_meets_laws.ensures;
     }
 
 -- a check ends it
@@ -40,6 +40,6 @@ returns g c =
     let h = c.in_ok-path.ensures in
     done_call _ _ c.self.inside.tree c.check_mkdir.new.tree c.mkdir-answer.new.self c.self.inside.files _ (ops.Mkdir c.args.path.now) c.mkdir-answer.result _ c.self.view_is c.self.invariant h.0 h.1 refl refl refl refl refl refl refl refl refl refl refl
     (passed_writable (held_of c.self.inside.tree c.self.inside.files) (ops.Mkdir c.args.path.now) _ refl h.1)
-    (mkdir_left _ c.self.inside.tree c.check_mkdir.new.tree c.mkdir-answer.new.self c.self.inside.files c.args.path.now _ c.mkdir-answer.result c.open_files_stay.ensures.stay c.self.invariant.ready h.0 h.1 h.2 (mkdir_can (held_of c.self.inside.tree c.self.inside.files) c.args.path.now _ _ (λ works. c.open_files_stay.ensures.few c.self.inside.tree c.self.inside.files (c.self.invariant.ready works)) h) c.mkdir-answer.ensures.done (λ f. f (ops.Mkdir c.args.path.now) (c.args.path.now, (refl, sym h.2))) c.mkdir-answer.ensures.broken) c.device_tells.ensures
+    (mkdir_left _ c.self.inside.tree c.check_mkdir.new.tree c.mkdir-answer.new.self c.self.inside.files c.args.path.now _ c.mkdir-answer.result c.open_files_stay.ensures.stay c.self.invariant.ready h.0 h.1 h.2 (mkdir_can (held_of c.self.inside.tree c.self.inside.files) c.args.path.now _ _ (λ works. c.open_files_stay.ensures.few c.self.inside.tree c.self.inside.files (c.self.invariant.ready works)) h) c.mkdir-answer.ensures.done (λ f. f (ops.Mkdir c.args.path.now) (c.args.path.now, (refl, sym h.2))) c.mkdir-answer.ensures.broken) c.device_meets_laws.ensures
     c.mkdir-answer.ensures.done (λ f. f (ops.Mkdir c.args.path.now) (c.args.path.now, (refl, sym h.2))) c.mkdir-answer.ensures.alone (λ f. f (ops.Mkdir c.args.path.now) (c.args.path.now, (refl, sym h.2))) c.mkdir-answer.ensures.broken c.mkdir-answer.ensures.errors c.mkdir-answer.ensures.survives
-    (ap₂ (λ p t. added p (DirectoryNode [] []) t) h.2 (ap tree_seen h.0.same))
+    (ap₂ (λ p t. added p (DirectoryNode [] []) t) h.2 (ap tree_view h.0.same))

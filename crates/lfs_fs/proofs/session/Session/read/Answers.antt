@@ -4,7 +4,7 @@ use Rattle.lfs_device.specs.declared.error.Error.TheVariants as error
 use Rattle.lfs_model.specs.Operations as ops
 use Rattle.lfs_model.specs.Session.{file_of, put_file}
 use Rattle.lfs_model.specs.Effects.{moved_to}
-use Rattle.lfs_fs.specs.FileSeen.{entry_of, files_seen, reader_seen, written_paths}
+use Rattle.lfs_fs.specs.FileView.{entry_of, files_view, reader_view, written_paths}
 use Rattle.lfs_fs.specs.Held.{IsRead, held_of}
 use Rattle.lfs_fs.specs.Replies.{reply_in}
 use Rattle.lfs_fs.proofs.OpenReaders.{one_of_all}
@@ -17,7 +17,7 @@ use Rattle.lfs_fs.proofs.ReaderReads.{a_reader, no_reader, read_answers, read_fa
 use Rattle.lfs_fs.proofs.Stopping.{only_read}
 use Rattle.lfs_fs.proofs.Sparing.{asking_call, asks_not, kept_asking}
 use Rattle.lfs_fs.proofs.Ending.{answer_ends, broken_ends, refused_ends}
-use Rattle.lfs_fs.proofs.Told.{told_asked}
+use Rattle.lfs_fs.proofs.DeviceLaws.{reported_asked}
 use Rattle.lfs_fs.proofs.session.Session.read.Goals as goal
 
 pub read_from-requires-clause-kept : goal.read_from-requires-clause-kept
@@ -42,7 +42,7 @@ pub returns-in_err-bytes : goal.returns-in_err-bytes
 returns-in_err-bytes g c =
     asking_call c.self.inside.tree c.self.inside.files _ (ops.Read c.args.fd c.args.count) _ _ c.self.view_is c.self.invariant.ready (λ s. refl) (λ k. absurd (cc)) (asks_not _ _ _ _ refl)
     (broken_ends (held_of c.self.inside.tree c.self.inside.files) _ (ops.Read c.args.fd c.args.count) (λ v. ops.Bytes v.items) _ c.from_residual.result _ c.self.view_is
-    (a_reader (held_of c.self.inside.tree c.self.inside.files) c.args.fd c.args.count (reader_seen c.in-Some.reader.now) c.if-has_failed.ensures (some_reader c.self.inside.tree c.self.inside.files c.args.fd c.in-Some.reader.now c.in-Some.ensures)) refl c.in_err-bytes.ensures.errors.errors (given_on _ c.from_residual.result c.from_residual.ensures.1))
+    (a_reader (held_of c.self.inside.tree c.self.inside.files) c.args.fd c.args.count (reader_view c.in-Some.reader.now) c.if-has_failed.ensures (some_reader c.self.inside.tree c.self.inside.files c.args.fd c.in-Some.reader.now c.in-Some.ensures)) refl c.in_err-bytes.ensures.errors.errors (given_on _ c.from_residual.result c.from_residual.ensures.1))
     (files_asked c.args.self.now (ops.Read c.args.fd c.args.count) (reply_in (λ v. ops.Bytes v.items) c.from_residual.result) c.self.inside.tree c.read_from.new.tree c.self.inside.files (λ works. absurd (let k = sym c.in_err-bytes.ensures.broken.failed ∙ works in cc))
     (read_fails (held_of c.self.inside.tree c.self.inside.files) _ (ops.Read c.args.fd c.args.count) (λ v. ops.Bytes v.items) _ c.read_from.new.tree c.from_residual.result c.self.view_is c.if-has_failed.ensures c.in_err-bytes.ensures.broken c.in_err-bytes.ensures.errors
     (given_on _ c.from_residual.result c.from_residual.ensures.1)))
@@ -53,18 +53,18 @@ invariant_of-self-2 g c = record {
   ready =
       moved_ready c.read_from.new.tree c.self.inside.files c.seek.new.self c.args.fd (c.in-Some.reader.now.position + c.len.result)
       (asked_ready c.self.inside.tree c.read_from.new.tree c.self.inside.files c.self.invariant.ready c.in_ok-bytes.ensures.asked) c.seek.ensures;
-  told = told_asked c.self.inside.tree c.read_from.new.tree c.self.invariant.told c.in_ok-bytes.ensures.asked;
+  reported = reported_asked c.self.inside.tree c.read_from.new.tree c.self.invariant.reported c.in_ok-bytes.ensures.asked;
 }
 
 pub returns : goal.returns
 returns g c =
     asking_call c.self.inside.tree c.self.inside.files _ (ops.Read c.args.fd c.args.count) _ _ c.self.view_is c.self.invariant.ready (λ s. refl) (λ k. absurd (cc)) (asks_not _ _ _ _ refl)
     (answer_ends (held_of c.self.inside.tree c.self.inside.files) _ (ops.Read c.args.fd c.args.count) (ops.Bytes c.in_ok-bytes.bytes.items) _ c.self.view_is
-    (a_reader (held_of c.self.inside.tree c.self.inside.files) c.args.fd c.args.count (reader_seen c.in-Some.reader.now) c.if-has_failed.ensures (some_reader c.self.inside.tree c.self.inside.files c.args.fd c.in-Some.reader.now c.in-Some.ensures)) c.in_ok-bytes.ensures.asked.no_fault)
-    (read_answers (held_of c.self.inside.tree c.self.inside.files) _ c.args.fd c.args.count (reader_seen c.in-Some.reader.now) c.read_from.new.tree (files_seen c.read_from.new.tree c.seek.new.self) c.in_ok-bytes.bytes.items (c.in-Some.reader.now.position + c.len.result)
+    (a_reader (held_of c.self.inside.tree c.self.inside.files) c.args.fd c.args.count (reader_view c.in-Some.reader.now) c.if-has_failed.ensures (some_reader c.self.inside.tree c.self.inside.files c.args.fd c.in-Some.reader.now c.in-Some.ensures)) c.in_ok-bytes.ensures.asked.no_fault)
+    (read_answers (held_of c.self.inside.tree c.self.inside.files) _ c.args.fd c.args.count (reader_view c.in-Some.reader.now) c.read_from.new.tree (files_view c.read_from.new.tree c.seek.new.self) c.in_ok-bytes.bytes.items (c.in-Some.reader.now.position + c.len.result)
     c.self.view_is (sound_by c.self.inside.tree c.self.inside.files c.self.invariant.ready) c.if-has_failed.ensures c.in_ok-bytes.ensures.asked (some_reader c.self.inside.tree c.self.inside.files c.args.fd c.in-Some.reader.now c.in-Some.ensures)
     c.in_ok-bytes.ensures.bytes
     (omega (arith, c.len.ensures, c.in_ok-bytes.bytes.ok.0))
-    (ap (files_seen c.read_from.new.tree) c.seek.ensures ∙ moved_is c.read_from.new.tree c.self.inside.files c.args.fd (c.in-Some.reader.now.position + c.len.result) (reader_there (entry_of c.self.inside.files c.args.fd) c.in-Some.reader.now c.in-Some.ensures)
-    ∙ ap (λ z. put_file (files_seen z c.self.inside.files) c.args.fd (option_map (moved_to (c.in-Some.reader.now.position + c.len.result)) (file_of (files_seen z c.self.inside.files) c.args.fd))) c.in_ok-bytes.ensures.asked.same))
+    (ap (files_view c.read_from.new.tree) c.seek.ensures ∙ moved_is c.read_from.new.tree c.self.inside.files c.args.fd (c.in-Some.reader.now.position + c.len.result) (reader_there (entry_of c.self.inside.files c.args.fd) c.in-Some.reader.now c.in-Some.ensures)
+    ∙ ap (λ z. put_file (files_view z c.self.inside.files) c.args.fd (option_map (moved_to (c.in-Some.reader.now.position + c.len.result)) (file_of (files_view z c.self.inside.files) c.args.fd))) c.in_ok-bytes.ensures.asked.same))
     (only_read (held_of c.self.inside.tree c.self.inside.files) _ (ops.Read c.args.fd c.args.count) c.read_from.new.tree c.self.view_is (sound_by c.self.inside.tree c.self.inside.files c.self.invariant.ready) (c.in_ok-bytes.ensures.asked.reads))

@@ -33,7 +33,7 @@ invariant_of-self g c = record {
   ready = λ works. (recovered_left c.self.inside.tree c.recover-answer.new.self c.self.inside.files c.recover-answer.result c.open_files_stay.ensures.stay c.self.invariant.ready
       (works_by (held_of c.self.inside.tree c.self.inside.files) ops.Recover None c.if-has_failed.ensures (is_writable _ c.if-not-is_writable.ensures))
       (ok_then c.recover-answer.result _ _ (λ k. k ops.Recover refl) c.recover-answer.ensures.does.done) c.recover-answer.ensures.does.broken works).ready;
-  told = λ works. c.device_tells.ensures;
+  reported = λ works. c.device_meets_laws.ensures;
 }
 
 pub returns : goal.returns
@@ -41,7 +41,7 @@ returns g c =
     let answers = recover_answers c.self.inside.tree c.recover-answer.new.self c.self.inside.files _ c.recover-answer.result c.open_files_stay.ensures.stay c.self.view_is c.self.invariant.ready
     (works_by (held_of c.self.inside.tree c.self.inside.files) ops.Recover None c.if-has_failed.ensures (is_writable _ c.if-not-is_writable.ensures))
     (ok_then c.recover-answer.result _ _ (λ k. k ops.Recover refl) c.recover-answer.ensures.does.done) c.recover-answer.ensures.does.broken c.recover-answer.ensures.does.errors in
-    changed_call c.self.inside.tree c.self.inside.files _ ops.Recover (λ u. ops.Done) c.recover-answer.result _ c.self.view_is c.self.invariant c.device_tells.ensures refl refl
+    changed_call c.self.inside.tree c.self.inside.files _ ops.Recover (λ u. ops.Done) c.recover-answer.result _ c.self.view_is c.self.invariant c.device_meets_laws.ensures refl refl
     (recovered_others c.args.self.now c.recover-answer.result _ answers)
     (carried_ends (held_of c.self.inside.tree c.self.inside.files) _ ops.Recover (λ u. ops.Done) c.self.inside.tree c.recover-answer.new.self _ c.recover-answer.result c.self.view_is
     (works_by (held_of c.self.inside.tree c.self.inside.files) ops.Recover None c.if-has_failed.ensures (is_writable _ c.if-not-is_writable.ensures)) refl (nothing_asked c.self.inside.tree) c.recover-answer.ensures.does.done (λ k. (k ops.Recover refl).no_fault) c.recover-answer.ensures.does.errors)

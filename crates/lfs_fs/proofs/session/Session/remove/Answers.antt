@@ -5,10 +5,10 @@ use Rattle.lfs_fs.proofs.Errors.{given_on}
 use Rattle.lfs_fs.proofs.RemoveAnswered.{removed_left}
 use Rattle.lfs_fs.proofs.RemoveChecks.{remove_can}
 use Rattle.lfs_model.specs.TreeEdits.{removed}
-use Rattle.lfs_tree.specs.Seen.{tree_seen}
+use Rattle.lfs_tree.specs.TreeState.{tree_view}
 use Rattle.lfs_fs.proofs.Checked.{passed_writable}
 use Rattle.lfs_fs.proofs.Called.{done_call, ended_as_call}
-use Rattle.lfs_fs.proofs.Told.{between_checked}
+use Rattle.lfs_fs.proofs.DeviceLaws.{between_checked}
 use Rattle.lfs_fs.proofs.session.Session.remove.Goals as goal
 
 pub remove-answer-requires : goal.remove-answer-requires
@@ -22,7 +22,7 @@ invariant_of-self-2 g c =
     let h = c.in_ok-path.ensures in
     record {
       ready = λ works. (removed_left _ c.self.inside.tree c.check_remove.new.tree c.remove-answer.new.self c.self.inside.files c.args.path.now c.remove-answer.result c.open_files_stay.ensures.stay c.self.invariant.ready h.0 h.1 c.remove-answer.ensures.done (λ f. f (ops.Remove c.args.path.now) (c.args.path.now, (refl, sym h.2))) c.remove-answer.ensures.broken works).ready;
-      told = λ works. c.device_tells.ensures;
+      reported = λ works. c.device_meets_laws.ensures;
     }
 
 -- a check ends it
@@ -36,6 +36,6 @@ returns g c =
     let h = c.in_ok-path.ensures in
     done_call _ _ c.self.inside.tree c.check_remove.new.tree c.remove-answer.new.self c.self.inside.files _ (ops.Remove c.args.path.now) c.remove-answer.result _ c.self.view_is c.self.invariant h.0 h.1 refl refl refl refl refl refl refl refl refl refl refl
     (passed_writable (held_of c.self.inside.tree c.self.inside.files) (ops.Remove c.args.path.now) _ refl h.1)
-    (removed_left _ c.self.inside.tree c.check_remove.new.tree c.remove-answer.new.self c.self.inside.files c.args.path.now c.remove-answer.result c.open_files_stay.ensures.stay c.self.invariant.ready h.0 h.1 c.remove-answer.ensures.done (λ f. f (ops.Remove c.args.path.now) (c.args.path.now, (refl, sym h.2))) c.remove-answer.ensures.broken) c.device_tells.ensures
+    (removed_left _ c.self.inside.tree c.check_remove.new.tree c.remove-answer.new.self c.self.inside.files c.args.path.now c.remove-answer.result c.open_files_stay.ensures.stay c.self.invariant.ready h.0 h.1 c.remove-answer.ensures.done (λ f. f (ops.Remove c.args.path.now) (c.args.path.now, (refl, sym h.2))) c.remove-answer.ensures.broken) c.device_meets_laws.ensures
     c.remove-answer.ensures.done (λ f. f (ops.Remove c.args.path.now) (c.args.path.now, (refl, sym h.2))) c.remove-answer.ensures.alone (λ f. f (ops.Remove c.args.path.now) (c.args.path.now, (refl, sym h.2))) c.remove-answer.ensures.broken c.remove-answer.ensures.errors c.remove-answer.ensures.survives
-    (ap₂ (λ p t. removed p t) h.2 (ap tree_seen h.0.same))
+    (ap₂ (λ p t. removed p t) h.2 (ap tree_view h.0.same))

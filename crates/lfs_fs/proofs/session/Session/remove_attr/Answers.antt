@@ -5,11 +5,11 @@ use Rattle.lfs_fs.proofs.EntryChecks.{remove_attr_can}
 use Rattle.lfs_fs.proofs.Errors.{given_on}
 use Rattle.lfs_fs.proofs.Staying.{remove_attr_left}
 use Rattle.lfs_model.specs.Content.{without_attribute}
-use Rattle.lfs_tree.specs.Seen.{tree_seen}
+use Rattle.lfs_tree.specs.TreeState.{tree_view}
 use Rattle.lfs_tree.specs.CarryingSlots.{with_attributes_changed}
 use Rattle.lfs_fs.proofs.Checked.{passed_writable}
 use Rattle.lfs_fs.proofs.Called.{done_call, ended_as_call}
-use Rattle.lfs_fs.proofs.Told.{between_checked}
+use Rattle.lfs_fs.proofs.DeviceLaws.{between_checked}
 use Rattle.lfs_fs.proofs.session.Session.remove_attr.Goals as goal
 
 pub remove_attr-answer-requires : goal.remove_attr-answer-requires
@@ -23,7 +23,7 @@ invariant_of-self-2 g c =
     let h = c.in_ok-path.ensures in
     record {
       ready = λ works. (remove_attr_left _ c.self.inside.tree c.check_remove_attr.new.tree c.remove_attr-answer.new.self c.self.inside.files c.args.path.now c.args.kind c.remove_attr-answer.result c.open_files_stay.ensures.stay c.self.invariant.ready h.0 h.1 c.remove_attr-answer.ensures.done (λ f. f (ops.RemoveAttr c.args.path.now c.args.kind) (c.args.path.now, (refl, sym h.2))) c.remove_attr-answer.ensures.broken works).ready;
-      told = λ works. c.device_tells.ensures;
+      reported = λ works. c.device_meets_laws.ensures;
     }
 
 -- a check ends it
@@ -37,6 +37,6 @@ returns g c =
     let h = c.in_ok-path.ensures in
     done_call _ _ c.self.inside.tree c.check_remove_attr.new.tree c.remove_attr-answer.new.self c.self.inside.files _ (ops.RemoveAttr c.args.path.now c.args.kind) c.remove_attr-answer.result _ c.self.view_is c.self.invariant h.0 h.1 refl refl refl refl refl refl refl refl refl refl refl
     (passed_writable (held_of c.self.inside.tree c.self.inside.files) (ops.RemoveAttr c.args.path.now c.args.kind) _ refl h.1)
-    (remove_attr_left _ c.self.inside.tree c.check_remove_attr.new.tree c.remove_attr-answer.new.self c.self.inside.files c.args.path.now c.args.kind c.remove_attr-answer.result c.open_files_stay.ensures.stay c.self.invariant.ready h.0 h.1 c.remove_attr-answer.ensures.done (λ f. f (ops.RemoveAttr c.args.path.now c.args.kind) (c.args.path.now, (refl, sym h.2))) c.remove_attr-answer.ensures.broken) c.device_tells.ensures
+    (remove_attr_left _ c.self.inside.tree c.check_remove_attr.new.tree c.remove_attr-answer.new.self c.self.inside.files c.args.path.now c.args.kind c.remove_attr-answer.result c.open_files_stay.ensures.stay c.self.invariant.ready h.0 h.1 c.remove_attr-answer.ensures.done (λ f. f (ops.RemoveAttr c.args.path.now c.args.kind) (c.args.path.now, (refl, sym h.2))) c.remove_attr-answer.ensures.broken) c.device_meets_laws.ensures
     c.remove_attr-answer.ensures.done (λ f. f (ops.RemoveAttr c.args.path.now c.args.kind) (c.args.path.now, (refl, sym h.2))) c.remove_attr-answer.ensures.alone (λ f. f (ops.RemoveAttr c.args.path.now c.args.kind) (c.args.path.now, (refl, sym h.2))) c.remove_attr-answer.ensures.broken c.remove_attr-answer.ensures.errors c.remove_attr-answer.ensures.survives
-    (ap₂ (λ p t. with_attributes_changed p (without_attribute c.args.kind) t) h.2 (ap tree_seen h.0.same))
+    (ap₂ (λ p t. with_attributes_changed p (without_attribute c.args.kind) t) h.2 (ap tree_view h.0.same))

@@ -6,13 +6,13 @@ use Rattle.lfs_fs.proofs.Errors.{given_on}
 use Rattle.lfs_fs.proofs.RenameAnswered.{renamed_left, same_answers}
 use Rattle.lfs_fs.proofs.RenameChecks.{rename_can}
 use Rattle.lfs_model.specs.Refusals.{as_path}
-use Rattle.lfs_tree.specs.Seen.{Seen, tree_seen}
+use Rattle.lfs_tree.specs.TreeState.{TreeState, tree_view}
 use Rattle.lfs_fs.proofs.Checked.{passed_writable}
 use Rattle.lfs_fs.proofs.Answered.{sound_by}
 use Rattle.lfs_fs.proofs.Called.{done_call, ended_as_call, still_call}
 use Rattle.lfs_fs.proofs.Ending.{answer_ends}
 use Rattle.lfs_fs.proofs.Stopping.{only_read}
-use Rattle.lfs_fs.proofs.Told.{between_checked}
+use Rattle.lfs_fs.proofs.DeviceLaws.{between_checked}
 use Rattle.lfs_fs.proofs.session.Session.rename.Goals as goal
 
 pub rename-answer-requires-clause-can : goal.rename-answer-requires-clause-can
@@ -33,7 +33,7 @@ invariant_of-self-2 g c =
     let h = c.in_ok-renaming.ensures in
     record {
       ready = λ works. (renamed_left _ c.self.inside.tree c.check_rename.new.tree c.rename-answer.new.self c.self.inside.files c.args.from.now c.args.to.now c.rename-answer.result c.open_files_stay.ensures.stay c.self.invariant.ready h.0 h.1 (sym h.2.same ∙ c.if-renaming.false) c.rename-answer.ensures.done (λ f. f (ops.Rename c.args.from.now c.args.to.now) (c.args.from.now, (c.args.to.now, (refl, (sym h.2.from, sym h.2.to))))) c.rename-answer.ensures.broken works).ready;
-      told = λ works. c.device_tells.ensures;
+      reported = λ works. c.device_meets_laws.ensures;
     }
 
 -- a check ends it
@@ -48,7 +48,7 @@ invariant_of-self-then-renaming g c = between_checked c.self.inside.tree c.self.
 pub returns-then-renaming : goal.returns-then-renaming
 returns-then-renaming g c =
     let h = c.in_ok-renaming.ensures in
-    still_call c.self.inside.tree c.self.inside.files _ (ops.Rename c.args.from.now c.args.to.now) _ _ c.self.view_is c.self.invariant.ready refl refl (ap (λ (t : Seen). t.disk) h.0.same)
+    still_call c.self.inside.tree c.self.inside.files _ (ops.Rename c.args.from.now c.args.to.now) _ _ c.self.view_is c.self.invariant.ready refl refl (ap (λ (t : TreeState). t.disk) h.0.same)
     (answer_ends (held_of c.self.inside.tree c.self.inside.files) _ (ops.Rename c.args.from.now c.args.to.now) ops.Done _ c.self.view_is h.1 h.0.no_fault)
     (same_answers c.self.inside.tree c.check_rename.new.tree c.self.inside.files _ c.args.from.now c.args.to.now c.self.view_is c.self.invariant.ready h.0 h.1 (sym h.2.same ∙ c.if-renaming.true))
     (only_read (held_of c.self.inside.tree c.self.inside.files) _ (ops.Rename c.args.from.now c.args.to.now) c.check_rename.new.tree c.self.view_is (sound_by c.self.inside.tree c.self.inside.files c.self.invariant.ready) h.0.reads)
@@ -59,6 +59,6 @@ returns g c =
     let h = c.in_ok-renaming.ensures in
     done_call _ _ c.self.inside.tree c.check_rename.new.tree c.rename-answer.new.self c.self.inside.files _ (ops.Rename c.args.from.now c.args.to.now) c.rename-answer.result _ c.self.view_is c.self.invariant h.0 h.1 refl refl refl refl refl refl refl refl refl refl (sym h.2.same ∙ c.if-renaming.false)
     (passed_writable (held_of c.self.inside.tree c.self.inside.files) (ops.Rename c.args.from.now c.args.to.now) _ refl h.1)
-    (renamed_left _ c.self.inside.tree c.check_rename.new.tree c.rename-answer.new.self c.self.inside.files c.args.from.now c.args.to.now c.rename-answer.result c.open_files_stay.ensures.stay c.self.invariant.ready h.0 h.1 (sym h.2.same ∙ c.if-renaming.false) c.rename-answer.ensures.done (λ f. f (ops.Rename c.args.from.now c.args.to.now) (c.args.from.now, (c.args.to.now, (refl, (sym h.2.from, sym h.2.to))))) c.rename-answer.ensures.broken) c.device_tells.ensures
+    (renamed_left _ c.self.inside.tree c.check_rename.new.tree c.rename-answer.new.self c.self.inside.files c.args.from.now c.args.to.now c.rename-answer.result c.open_files_stay.ensures.stay c.self.invariant.ready h.0 h.1 (sym h.2.same ∙ c.if-renaming.false) c.rename-answer.ensures.done (λ f. f (ops.Rename c.args.from.now c.args.to.now) (c.args.from.now, (c.args.to.now, (refl, (sym h.2.from, sym h.2.to))))) c.rename-answer.ensures.broken) c.device_meets_laws.ensures
     c.rename-answer.ensures.done (λ f. f (ops.Rename c.args.from.now c.args.to.now) (c.args.from.now, (c.args.to.now, (refl, (sym h.2.from, sym h.2.to))))) c.rename-answer.ensures.alone (λ f. f (ops.Rename c.args.from.now c.args.to.now) (c.args.from.now, (c.args.to.now, (refl, (sym h.2.from, sym h.2.to))))) c.rename-answer.ensures.broken c.rename-answer.ensures.errors c.rename-answer.ensures.survives
-    (ap₂ (λ p q. renamed p q (tree_seen c.check_rename.new.tree)) h.2.from h.2.to ∙ ap (λ t. renamed (as_path c.args.from.now) (as_path c.args.to.now) (tree_seen t)) h.0.same)
+    (ap₂ (λ p q. renamed p q (tree_view c.check_rename.new.tree)) h.2.from h.2.to ∙ ap (λ t. renamed (as_path c.args.from.now) (as_path c.args.to.now) (tree_view t)) h.0.same)

@@ -19,7 +19,7 @@ returns g c =
 pub invariant_of-self : goal.invariant_of-self
 invariant_of-self g c = record {
   ready = moved_ready c.self.inside.tree c.self.inside.files c.seek.new.self c.args.fd c.args.position c.self.invariant.ready c.seek.ensures;
-  told = c.self.invariant.told;
+  reported = c.self.invariant.reported;
 }
 
 pub returns-in_err-check_seek : goal.returns-in_err-check_seek

@@ -5,11 +5,11 @@ use Rattle.lfs_fs.proofs.Errors.{given_on}
 use Rattle.lfs_fs.proofs.SetAttrChecks.{set_attr_can}
 use Rattle.lfs_fs.proofs.Staying.{set_attr_left}
 use Rattle.lfs_model.specs.Content.{put_attribute}
-use Rattle.lfs_tree.specs.Seen.{tree_seen}
+use Rattle.lfs_tree.specs.TreeState.{tree_view}
 use Rattle.lfs_tree.specs.CarryingSlots.{with_attributes_changed}
 use Rattle.lfs_fs.proofs.Checked.{passed_writable}
 use Rattle.lfs_fs.proofs.Called.{done_call, ended_as_call}
-use Rattle.lfs_fs.proofs.Told.{between_checked}
+use Rattle.lfs_fs.proofs.DeviceLaws.{between_checked}
 use Rattle.lfs_fs.proofs.session.Session.set_attr.Goals as goal
 
 pub set_attr-answer-requires : goal.set_attr-answer-requires
@@ -26,7 +26,7 @@ invariant_of-self-2 g c =
     let h = c.in_ok-path.ensures in
     record {
       ready = λ works. (set_attr_left _ c.self.inside.tree c.check_set_attr.new.tree c.set_attr-answer.new.self c.self.inside.files c.args.path.now c.args.kind c.args.value.now c.set_attr-answer.result c.open_files_stay.ensures.stay c.self.invariant.ready h.0 h.1 c.set_attr-answer.ensures.done (λ f. f (ops.SetAttr c.args.path.now c.args.kind c.args.value.now) (c.args.path.now, (refl, sym h.2))) c.set_attr-answer.ensures.broken works).ready;
-      told = λ works. c.device_tells.ensures;
+      reported = λ works. c.device_meets_laws.ensures;
     }
 
 -- a check ends it
@@ -40,6 +40,6 @@ returns g c =
     let h = c.in_ok-path.ensures in
     done_call _ _ c.self.inside.tree c.check_set_attr.new.tree c.set_attr-answer.new.self c.self.inside.files _ (ops.SetAttr c.args.path.now c.args.kind c.args.value.now) c.set_attr-answer.result _ c.self.view_is c.self.invariant h.0 h.1 refl refl refl refl refl refl refl refl refl refl refl
     (passed_writable (held_of c.self.inside.tree c.self.inside.files) (ops.SetAttr c.args.path.now c.args.kind c.args.value.now) _ refl h.1)
-    (set_attr_left _ c.self.inside.tree c.check_set_attr.new.tree c.set_attr-answer.new.self c.self.inside.files c.args.path.now c.args.kind c.args.value.now c.set_attr-answer.result c.open_files_stay.ensures.stay c.self.invariant.ready h.0 h.1 c.set_attr-answer.ensures.done (λ f. f (ops.SetAttr c.args.path.now c.args.kind c.args.value.now) (c.args.path.now, (refl, sym h.2))) c.set_attr-answer.ensures.broken) c.device_tells.ensures
+    (set_attr_left _ c.self.inside.tree c.check_set_attr.new.tree c.set_attr-answer.new.self c.self.inside.files c.args.path.now c.args.kind c.args.value.now c.set_attr-answer.result c.open_files_stay.ensures.stay c.self.invariant.ready h.0 h.1 c.set_attr-answer.ensures.done (λ f. f (ops.SetAttr c.args.path.now c.args.kind c.args.value.now) (c.args.path.now, (refl, sym h.2))) c.set_attr-answer.ensures.broken) c.device_meets_laws.ensures
     c.set_attr-answer.ensures.done (λ f. f (ops.SetAttr c.args.path.now c.args.kind c.args.value.now) (c.args.path.now, (refl, sym h.2))) c.set_attr-answer.ensures.alone (λ f. f (ops.SetAttr c.args.path.now c.args.kind c.args.value.now) (c.args.path.now, (refl, sym h.2))) c.set_attr-answer.ensures.broken c.set_attr-answer.ensures.errors c.set_attr-answer.ensures.survives
-    (ap₂ (λ p t. with_attributes_changed p (put_attribute c.args.kind c.args.value.now) t) h.2 (ap tree_seen h.0.same))
+    (ap₂ (λ p t. with_attributes_changed p (put_attribute c.args.kind c.args.value.now) t) h.2 (ap tree_view h.0.same))

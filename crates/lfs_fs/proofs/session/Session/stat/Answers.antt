@@ -6,7 +6,7 @@ use Rattle.lfs_fs.proofs.Answered.{checked_ready, question_call, files_asked, as
 use Rattle.lfs_fs.proofs.Stopping.{only_read, reads_of_checks}
 use Rattle.lfs_fs.proofs.Sparing.{asking_call, stat_asks}
 use Rattle.lfs_fs.proofs.Ending.{checked_ends}
-use Rattle.lfs_fs.proofs.Told.{between_checked}
+use Rattle.lfs_fs.proofs.DeviceLaws.{between_checked}
 use Rattle.lfs_fs.proofs.session.Session.stat.Goals as goal
 
 pub returns : goal.returns

@@ -1,10 +1,10 @@
 use Rattle.std.proofs.Common.{refl, sym, Ok, ap}
 use Rattle.lfs_model.specs.Operations as ops
-use Rattle.lfs_fs.specs.FileSeen.{files_seen, entry_of}
+use Rattle.lfs_fs.specs.FileView.{files_view, entry_of}
 use Rattle.lfs_fs.specs.Held.{Held, held_of}
 use Rattle.lfs_fs.proofs.Answered.{not_failed, sound_by}
 use Rattle.lfs_fs.proofs.Errors.{given_on}
-use Rattle.lfs_fs.proofs.SavedTurns.{can_save, left_free, left_inside, left_none, sync_answers, sync_idle, sync_ready, taken, dirty_at, unsaved_writer}
+use Rattle.lfs_fs.proofs.SavedSteps.{can_save, left_free, left_inside, left_none, sync_answers, sync_idle, sync_ready, taken, dirty_at, unsaved_writer}
 use Rattle.lfs_fs.proofs.Stopping.{kept_call, tree_changed}
 use Rattle.lfs_fs.proofs.StoppedCalls.{saved_tree}
 use Rattle.lfs_fs.proofs.Sparing.{stored_others}
@@ -47,7 +47,7 @@ pub invariant_of-self-2 : goal.invariant_of-self-2
 invariant_of-self-2 g c = record {
   ready = λ works. sync_ready c.self.inside.tree c.save-answer.new.tree c.self.inside.files c.take.new.self c.put_back.new.self c.args.fd c.in-Some-Writing.writer c.in_ok-writer.writer _ c.self.invariant.ready c.in_ok-check_sync.ensures.0
       (taken _ _ _ _ c.in-Some-Writing.is c.in-Some-Writing.field-0-is c.take.ensures.file) c.in_ok-writer.ensures.stored c.in_ok-writer.ensures.saved c.take.ensures.left c.put_back.ensures;
-  told = λ works. c.device_tells.ensures;
+  reported = λ works. c.device_meets_laws.ensures;
 }
 
 pub returns-in_err-writer : goal.returns-in_err-writer
@@ -55,13 +55,13 @@ returns-in_err-writer g c =
     let works = not_failed (held_of c.self.inside.tree c.self.inside.files) (ops.Sync c.args.fd) c.in_ok-check_sync.ensures.0 in
     let can = can_save c.self.inside.tree c.self.inside.files c.args.fd c.in-Some-Writing.writer works (c.self.invariant.ready works) (sym c.if-not-is_unsaved_at.ensures) (taken _ _ _ _ c.in-Some-Writing.is c.in-Some-Writing.field-0-is c.take.ensures.file) in
     let is = taken _ _ _ _ c.in-Some-Writing.is c.in-Some-Writing.field-0-is c.take.ensures.file in
-    saving_call c.self.inside.tree c.save-answer.new.tree c.self.inside.files (files_seen c.save-answer.new.tree c.take.new.self) _ (ops.Sync c.args.fd) (λ u. ops.Done) _ c.from_residual-in_err-writer.result _ c.self.view_is c.self.invariant c.in_ok-check_sync.ensures.0 refl refl refl refl refl
-    (dirty_at c.self.inside.tree c.self.inside.files c.args.fd c.in-Some-Writing.writer is (unsaved_writer (entry_of c.self.inside.files c.args.fd) c.in-Some-Writing.writer (sym c.if-not-is_unsaved_at.ensures) is)) can.written.writable c.device_tells.ensures c.in_err-writer.ensures.broken c.in_err-writer.ensures.errors (given_on _ c.from_residual-in_err-writer.result c.from_residual-in_err-writer.ensures.1)
+    saving_call c.self.inside.tree c.save-answer.new.tree c.self.inside.files (files_view c.save-answer.new.tree c.take.new.self) _ (ops.Sync c.args.fd) (λ u. ops.Done) _ c.from_residual-in_err-writer.result _ c.self.view_is c.self.invariant c.in_ok-check_sync.ensures.0 refl refl refl refl refl
+    (dirty_at c.self.inside.tree c.self.inside.files c.args.fd c.in-Some-Writing.writer is (unsaved_writer (entry_of c.self.inside.files c.args.fd) c.in-Some-Writing.writer (sym c.if-not-is_unsaved_at.ensures) is)) can.written.writable c.device_meets_laws.ensures c.in_err-writer.ensures.broken c.in_err-writer.ensures.errors (given_on _ c.from_residual-in_err-writer.result c.from_residual-in_err-writer.ensures.1)
     c.save-answer.ensures.survives (saved_tree c.self.inside.tree c.self.inside.files c.args.fd c.in-Some-Writing.writer (sym c.if-not-is_unsaved_at.ensures) (taken _ _ _ _ c.in-Some-Writing.is c.in-Some-Writing.field-0-is c.take.ensures.file))
 
 pub returns : goal.returns
 returns g c =
-    changed_call {A = Unit {0}} c.self.inside.tree c.self.inside.files _ (ops.Sync c.args.fd) (λ u. ops.Done) (Ok tt) _ c.self.view_is c.self.invariant c.device_tells.ensures refl refl
+    changed_call {A = Unit {0}} c.self.inside.tree c.self.inside.files _ (ops.Sync c.args.fd) (λ u. ops.Done) (Ok tt) _ c.self.view_is c.self.invariant c.device_meets_laws.ensures refl refl
     (stored_others c.self.inside.tree c.save-answer.new.tree c.self.inside.files _ (ops.Sync c.args.fd) c.args.fd c.in-Some-Writing.writer _ c.self.view_is c.self.invariant.ready
     (taken _ _ _ _ c.in-Some-Writing.is c.in-Some-Writing.field-0-is c.take.ensures.file) (λ s. refl) c.in_ok-writer.ensures.stored)
     (answer_ends (held_of c.self.inside.tree c.self.inside.files) _ (ops.Sync c.args.fd) ops.Done _ c.self.view_is c.in_ok-check_sync.ensures.0 c.in_ok-writer.ensures.stored.no_fault)

@@ -1,8 +1,8 @@
 use Rattle.std.proofs.Common.{◌<◌, ◌∙◌, Some, length, ap, is_some, refl, sym, subst, Ok}
 use Rattle.lfs_model.specs.Operations as ops
-use Rattle.lfs_model.specs.Run.{IsTurn}
-use Rattle.lfs_fs.specs.FileSeen.{entry_of, files_seen, writer_in, writer_seen, writers_in}
-use Rattle.lfs_fs.specs.Held.{Held, IsReady, held_of, moment_of}
+use Rattle.lfs_model.specs.Run.{IsSessionStep}
+use Rattle.lfs_fs.specs.FileView.{entry_of, files_view, writer_in, writer_view, writers_in}
+use Rattle.lfs_fs.specs.Held.{Held, IsReady, held_of, system_state_of}
 use Rattle.lfs_fs.proofs.Answered.{sound_by, not_failed}
 use Rattle.lfs_fs.proofs.Errors.{given_on}
 use Rattle.lfs_fs.proofs.WriterPaths.{truncate_path}
@@ -62,9 +62,9 @@ invariant_of-self-2 g c =
     let all = alone t fs c.args.fd c.args.size c.in-Some-Writing.writer e h.0 (c.self.invariant.ready (works_now t fs c.args.fd c.args.size c.in-Some-Writing.writer e h.0)) in
     record {
       ready = λ f. subst (IsReady c.truncate_by-answer.new.tree) (sym (put_again fs c.take.new.self c.put_back.new.self c.args.fd c.in_ok-writer.writer c.take.ensures.left c.put_back.ensures))
-          (ready_with t c.truncate_by-answer.new.tree fs c.args.fd c.in-Some-Writing.writer c.in_ok-writer.writer _ all c.in_ok-writer.ensures.written c.in_ok-writer.ensures.beside (truncate_path (writer_seen t c.in-Some-Writing.writer) c.args.size)
+          (ready_with t c.truncate_by-answer.new.tree fs c.args.fd c.in-Some-Writing.writer c.in_ok-writer.writer _ all c.in_ok-writer.ensures.written c.in_ok-writer.ensures.beside (truncate_path (writer_view t c.in-Some-Writing.writer) c.args.size)
           (c.self.invariant.ready (works_now t fs c.args.fd c.args.size c.in-Some-Writing.writer e h.0)));
-      told = λ f. c.device_tells.ensures;
+      reported = λ f. c.device_meets_laws.ensures;
     }
 
 pub returns-in_err-writer : goal.returns-in_err-writer
@@ -74,8 +74,8 @@ returns-in_err-writer g c =
     let t = c.self.inside.tree in
     let fs = c.self.inside.files in
     let can = can_now t fs c.args.fd c.args.size c.in-Some-Writing.writer e h.0 (c.self.invariant.ready (works_now t fs c.args.fd c.args.size c.in-Some-Writing.writer e h.0)) (sym (c.has_size.ensures c.in-Some-Writing.writer (ap writer_in e)) ∙ c.if-has_size.false) in
-    saving_call c.self.inside.tree c.truncate_by-answer.new.tree c.self.inside.files (files_seen c.truncate_by-answer.new.tree c.take.new.self) _ (ops.Truncate c.args.fd c.args.size) (λ u. ops.Done) _ c.from_residual-in_err-writer.result _ c.self.view_is c.self.invariant h.0 refl refl refl refl refl
-    (other_needed t fs c.args.fd c.args.size c.in-Some-Writing.writer e can.can.written (sym (c.has_size.ensures c.in-Some-Writing.writer (ap writer_in e)) ∙ c.if-has_size.false)) can.can.written.writable c.device_tells.ensures c.in_err-writer.ensures.broken c.in_err-writer.ensures.errors (given_on _ c.from_residual-in_err-writer.result c.from_residual-in_err-writer.ensures.1)
+    saving_call c.self.inside.tree c.truncate_by-answer.new.tree c.self.inside.files (files_view c.truncate_by-answer.new.tree c.take.new.self) _ (ops.Truncate c.args.fd c.args.size) (λ u. ops.Done) _ c.from_residual-in_err-writer.result _ c.self.view_is c.self.invariant h.0 refl refl refl refl refl
+    (other_needed t fs c.args.fd c.args.size c.in-Some-Writing.writer e can.can.written (sym (c.has_size.ensures c.in-Some-Writing.writer (ap writer_in e)) ∙ c.if-has_size.false)) can.can.written.writable c.device_meets_laws.ensures c.in_err-writer.ensures.broken c.in_err-writer.ensures.errors (given_on _ c.from_residual-in_err-writer.result c.from_residual-in_err-writer.ensures.1)
     (c.truncate_by-answer.ensures.survives (sound_by c.self.inside.tree c.self.inside.files c.self.invariant.ready (not_failed (held_of c.self.inside.tree c.self.inside.files) (ops.Truncate c.args.fd c.args.size) c.in_ok-check_truncate.ensures.0))) refl
 
 pub returns : goal.returns
@@ -84,10 +84,10 @@ returns g c =
     let e = sym c.take.ensures.file ∙ c.in-Some-Writing.is ∙ ap Some c.in-Some-Writing.field-0-is in
     let t = c.self.inside.tree in
     let fs = c.self.inside.files in
-    changed_call {A = Unit {0}} c.self.inside.tree c.self.inside.files _ (ops.Truncate c.args.fd c.args.size) (λ u. ops.Done) (Ok tt) _ c.self.view_is c.self.invariant c.device_tells.ensures refl refl
+    changed_call {A = Unit {0}} c.self.inside.tree c.self.inside.files _ (ops.Truncate c.args.fd c.args.size) (λ u. ops.Done) (Ok tt) _ c.self.view_is c.self.invariant c.device_meets_laws.ensures refl refl
     (beside_others c.self.inside.tree c.truncate_by-answer.new.tree c.self.inside.files _ (ops.Truncate c.args.fd c.args.size) c.self.view_is c.self.invariant.ready c.in_ok-writer.ensures.beside)
     (answer_ends (held_of c.self.inside.tree c.self.inside.files) _ (ops.Truncate c.args.fd c.args.size) ops.Done _ c.self.view_is c.in_ok-check_truncate.ensures.0 c.in_ok-writer.ensures.beside.no_fault)
-    (subst (λ xs. IsTurn (moment_of c.args.self.now) (ops.Truncate c.args.fd c.args.size) ops.Done (moment_of (held_of c.truncate_by-answer.new.tree xs))) (sym (put_again fs c.take.new.self c.put_back.new.self c.args.fd c.in_ok-writer.writer c.take.ensures.left c.put_back.ensures))
+    (subst (λ xs. IsSessionStep (system_state_of c.args.self.now) (ops.Truncate c.args.fd c.args.size) ops.Done (system_state_of (held_of c.truncate_by-answer.new.tree xs))) (sym (put_again fs c.take.new.self c.put_back.new.self c.args.fd c.in_ok-writer.writer c.take.ensures.left c.put_back.ensures))
     (other_size t c.truncate_by-answer.new.tree fs c.args.fd c.args.size _ c.in-Some-Writing.writer c.in_ok-writer.writer c.self.view_is c.self.invariant.ready h.0 e (sym (c.has_size.ensures c.in-Some-Writing.writer (ap writer_in e)) ∙ c.if-has_size.false) c.in_ok-writer.ensures.written c.in_ok-writer.ensures.beside))
     (tree_changed (held_of c.self.inside.tree c.self.inside.files) _ (ops.Truncate c.args.fd c.args.size) c.truncate_by-answer.new.tree _ c.self.view_is (sound_by c.self.inside.tree c.self.inside.files c.self.invariant.ready) c.in_ok-check_truncate.ensures.0
     (c.truncate_by-answer.ensures.survives (sound_by c.self.inside.tree c.self.inside.files c.self.invariant.ready (not_failed (held_of c.self.inside.tree c.self.inside.files) (ops.Truncate c.args.fd c.args.size) c.in_ok-check_truncate.ensures.0))) refl)

@@ -1,13 +1,13 @@
 use Rattle.std.proofs.Common.{rules, ◌<◌, ◌∙◌, Some, length, ap, is_some, refl, sym, subst, Ok}
 use Rattle.lfs_model.specs.Operations as ops
-use Rattle.lfs_model.specs.Run.{IsTurn}
-use Rattle.lfs_fs.specs.FileSeen.{entry_of, files_seen, writer_seen, writers_in}
-use Rattle.lfs_fs.specs.Held.{Held, IsReady, held_of, moment_of}
+use Rattle.lfs_model.specs.Run.{IsSessionStep}
+use Rattle.lfs_fs.specs.FileView.{entry_of, files_view, writer_view, writers_in}
+use Rattle.lfs_fs.specs.Held.{Held, IsReady, held_of, system_state_of}
 use Rattle.lfs_fs.proofs.Answered.{sound_by, not_failed}
 use Rattle.lfs_fs.proofs.Errors.{given_on}
 use Rattle.lfs_fs.proofs.WriterPaths.{write_path}
 use Rattle.lfs_fs.proofs.Truncating.{length_left, let_go, put_again, ready_with, some_writer}
-use Rattle.lfs_fs.proofs.WrittenTurns.{alone, can_now, few_bytes, nothing_put, some_put, some_taken}
+use Rattle.lfs_fs.proofs.WrittenSteps.{alone, can_now, few_bytes, nothing_put, some_put, some_taken}
 use Rattle.lfs_fs.proofs.Stopping.{kept_call, tree_changed}
 use Rattle.lfs_fs.proofs.Sparing.{beside_others}
 use Rattle.lfs_fs.proofs.Called.{changed_call, saving_call, still_call, unread_call}
@@ -60,26 +60,26 @@ invariant_of-self-2 g c =
     let all = alone c.self.inside.tree c.self.inside.files c.args.fd c.args.bytes.now c.in-Some-Writing.writer e c.in_ok-check_write.ensures.0 c.self.invariant.ready in
     record {
       ready = λ f. subst (IsReady c.write_by-answer.new.tree) (sym (put_again c.self.inside.files c.take.new.self c.put_back.new.self c.args.fd c.in_ok-writer.writer c.take.ensures.left c.put_back.ensures))
-          (ready_with c.self.inside.tree c.write_by-answer.new.tree c.self.inside.files c.args.fd c.in-Some-Writing.writer c.in_ok-writer.writer _ all c.in_ok-writer.ensures.written c.in_ok-writer.ensures.beside (write_path (writer_seen c.self.inside.tree c.in-Some-Writing.writer) c.args.bytes.now)
+          (ready_with c.self.inside.tree c.write_by-answer.new.tree c.self.inside.files c.args.fd c.in-Some-Writing.writer c.in_ok-writer.writer _ all c.in_ok-writer.ensures.written c.in_ok-writer.ensures.beside (write_path (writer_view c.self.inside.tree c.in-Some-Writing.writer) c.args.bytes.now)
           (c.self.invariant.ready (not_failed (held_of c.self.inside.tree c.self.inside.files) (ops.Write c.args.fd c.args.bytes.now) c.in_ok-check_write.ensures.0)));
-      told = λ f. c.device_tells.ensures;
+      reported = λ f. c.device_meets_laws.ensures;
     }
 
 pub returns-in_err-writer : goal.returns-in_err-writer
 returns-in_err-writer g c =
     let e = sym c.take.ensures.file ∙ c.in-Some-Writing.is ∙ ap Some c.in-Some-Writing.field-0-is in
     let can = can_now c.self.inside.tree c.self.inside.files c.args.fd c.args.bytes.now c.in-Some-Writing.writer e c.in_ok-check_write.ensures.0 c.self.invariant.ready (sym c.is_empty.ensures ∙ c.if-is_empty.false) in
-    saving_call c.self.inside.tree c.write_by-answer.new.tree c.self.inside.files (files_seen c.write_by-answer.new.tree c.take.new.self) _ (ops.Write c.args.fd c.args.bytes.now) ops.Count _ c.from_residual-in_err-writer.result _ c.self.view_is c.self.invariant c.in_ok-check_write.ensures.0 refl refl refl refl refl
-    (some_taken c.self.inside.tree c.self.inside.files c.args.fd c.args.bytes.now (sym c.is_empty.ensures ∙ c.if-is_empty.false)) can.can.written.writable c.device_tells.ensures c.in_err-writer.ensures.broken c.in_err-writer.ensures.errors (given_on _ c.from_residual-in_err-writer.result c.from_residual-in_err-writer.ensures.1)
+    saving_call c.self.inside.tree c.write_by-answer.new.tree c.self.inside.files (files_view c.write_by-answer.new.tree c.take.new.self) _ (ops.Write c.args.fd c.args.bytes.now) ops.Count _ c.from_residual-in_err-writer.result _ c.self.view_is c.self.invariant c.in_ok-check_write.ensures.0 refl refl refl refl refl
+    (some_taken c.self.inside.tree c.self.inside.files c.args.fd c.args.bytes.now (sym c.is_empty.ensures ∙ c.if-is_empty.false)) can.can.written.writable c.device_meets_laws.ensures c.in_err-writer.ensures.broken c.in_err-writer.ensures.errors (given_on _ c.from_residual-in_err-writer.result c.from_residual-in_err-writer.ensures.1)
     (c.write_by-answer.ensures.survives (sound_by c.self.inside.tree c.self.inside.files c.self.invariant.ready (not_failed (held_of c.self.inside.tree c.self.inside.files) (ops.Write c.args.fd c.args.bytes.now) c.in_ok-check_write.ensures.0))) refl
 
 pub returns : goal.returns
 returns g c =
     let e = sym c.take.ensures.file ∙ c.in-Some-Writing.is ∙ ap Some c.in-Some-Writing.field-0-is in
-    changed_call c.self.inside.tree c.self.inside.files _ (ops.Write c.args.fd c.args.bytes.now) ops.Count (Ok (length c.args.bytes.now)) _ c.self.view_is c.self.invariant c.device_tells.ensures refl refl
+    changed_call c.self.inside.tree c.self.inside.files _ (ops.Write c.args.fd c.args.bytes.now) ops.Count (Ok (length c.args.bytes.now)) _ c.self.view_is c.self.invariant c.device_meets_laws.ensures refl refl
     (beside_others c.self.inside.tree c.write_by-answer.new.tree c.self.inside.files _ (ops.Write c.args.fd c.args.bytes.now) c.self.view_is c.self.invariant.ready c.in_ok-writer.ensures.beside)
     (answer_ends (held_of c.self.inside.tree c.self.inside.files) _ (ops.Write c.args.fd c.args.bytes.now) (ops.Count (length c.args.bytes.now)) _ c.self.view_is c.in_ok-check_write.ensures.0 c.in_ok-writer.ensures.beside.no_fault)
-    (subst (λ xs. IsTurn (moment_of c.args.self.now) (ops.Write c.args.fd c.args.bytes.now) (ops.Count (length c.args.bytes.now)) (moment_of (held_of c.write_by-answer.new.tree xs)))
+    (subst (λ xs. IsSessionStep (system_state_of c.args.self.now) (ops.Write c.args.fd c.args.bytes.now) (ops.Count (length c.args.bytes.now)) (system_state_of (held_of c.write_by-answer.new.tree xs)))
     (sym (put_again c.self.inside.files c.take.new.self c.put_back.new.self c.args.fd c.in_ok-writer.writer c.take.ensures.left c.put_back.ensures))
     (some_put c.self.inside.tree c.write_by-answer.new.tree c.self.inside.files c.args.fd c.args.bytes.now _ c.in-Some-Writing.writer c.in_ok-writer.writer c.self.view_is c.self.invariant.ready c.in_ok-check_write.ensures.0 e (sym c.is_empty.ensures ∙ c.if-is_empty.false) c.in_ok-writer.ensures.written c.in_ok-writer.ensures.beside))
     (tree_changed (held_of c.self.inside.tree c.self.inside.files) _ (ops.Write c.args.fd c.args.bytes.now) c.write_by-answer.new.tree _ c.self.view_is (sound_by c.self.inside.tree c.self.inside.files c.self.invariant.ready) c.in_ok-check_write.ensures.0

@@ -1,5 +1,5 @@
 use Rattle.std.proofs.Common.{rules, length, sym, ap, ◌∙◌}
-use Rattle.lfs_tag.specs.Seen.{seen}
+use Rattle.lfs_tag.specs.LogEntryView.{log_entry_view}
 use Rattle.lfs_tag.proofs.Runs.{run_past, run_none, run_on, run_rest}
 use Rattle.lfs_tag.proofs.entries.EntriesIterator.next.Goals as goal
 
@@ -18,13 +18,13 @@ returns-in_default-clause-steps c =
 pub invariant_of-self : goal.invariant_of-self
 invariant_of-self c =
     let s = c.self.inside in
-    let e = seen c.in-Some.entry in
+    let e = log_entry_view c.in-Some.entry in
     rw c.carried-self-inside.ensures (record { run = run_rest s.block.now s.at s.before s.end s.last e c.if-self.false (sym c.in-Some.ensures.value) c.self.invariant.run })
 
 steps : goal.returns-clause-steps
 steps c =
     let s = c.self.inside in
-    let e = seen c.in-Some.entry in
+    let e = log_entry_view c.in-Some.entry in
     rw c.carried-self-inside.ensures (sym c.self.view_is ∙ run_on s.block.now s.at s.before s.end e c.if-self.false (sym c.in-Some.ensures.value))
 
 pub returns-clause-steps : goal.returns-clause-steps

@@ -1,13 +1,13 @@
 use Rattle.std.proofs.Common.{◌∙◌, ap, sym, length}
 use Rattle.std.specs.List.{list_all}
 use Rattle.std.proofs.lemmas.List.{length-map}
-use Rattle.lfs_tag.specs.Summary.{is_whole, mark_of, outline_seen}
+use Rattle.lfs_tag.specs.Summary.{is_whole, mark_of, outline_view}
 use Rattle.lfs_tag.proofs.Summaries.{of_content, whole_content}
 use Rattle.lfs_tag.proofs.summary.Summary.read.Goals as goal
 
 pub returns-clause-summary : goal.returns-clause-summary
 returns-clause-summary c =
-    let held = of_content c.args.log.now (outline_seen c.in-Ok.outline) c.in-Ok.ensures.outline in
+    let held = of_content c.args.log.now (outline_view c.in-Ok.outline) c.in-Ok.ensures.outline in
     let same = held.2 in (
       held.0,
       record {

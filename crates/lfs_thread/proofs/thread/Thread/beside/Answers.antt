@@ -1,7 +1,7 @@
 use Rattle.std.proofs.Common.{refl, sym, ap, subst, ◌∙◌}
 use Rattle.lfs_thread.specs.Kept.{State}
 use Rattle.lfs_thread.specs.Beside.{LeavesPairs}
-use Rattle.lfs_thread.proofs.Beside.{kept_left, none_at_hand, pairs_left}
+use Rattle.lfs_thread.proofs.Beside.{kept_left, none_is_cached, pairs_left}
 use Rattle.lfs_thread.proofs.thread.Thread.beside.Goals as goal
 
 pub work-x-requires : goal.work-x-requires
@@ -18,7 +18,7 @@ invariant_of-self g c _ =
     (record { shown = _; shows = refl; shown_map = _; shows_map = refl; left = _; left_map = _; met = c.work-x.ensures; leaves = refl; leaves_map = refl }) in
     let here = subst (λ (v : State). LeavesPairs g.D.BlockDevice v.kept c.self.inside.device c.self.inside.map c.work-x.new.arg2 c.work-x.new.arg3) (sym c.self.view_is) leaves in (
       kept_left g.D.BlockDevice c.self.inside.device c.self.inside.map c.work-x.new.arg2 c.work-x.new.arg3 c.self.inside.pairs.items (c.self.invariant works).0 here,
-      none_at_hand (g.D.BlockDevice.blocks c.work-x.new.arg2) c.in_ok-cache.cache c.in_ok-cache.ensures.empty,
+      none_is_cached (g.D.BlockDevice.blocks c.work-x.new.arg2) c.in_ok-cache.cache c.in_ok-cache.ensures.empty,
     )
 
 pub returns-clause-ran : goal.returns-clause-ran

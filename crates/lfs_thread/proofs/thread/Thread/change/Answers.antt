@@ -1,20 +1,20 @@
 use Rattle.std.proofs.Common.{◌+◌, sym, ap, ap₂, subst, ◌∙◌, inl, inr, set}
 use Rattle.lfs_device.specs.Shown.{disk_of}
-use Rattle.lfs_pair.specs.ChangeSeen.{changes_seen}
+use Rattle.lfs_pair.specs.ChangeView.{changes_view}
 use Rattle.lfs_model.proofs.Histories.{LeavesOnly-weaker}
 use Rattle.lfs_thread.specs.Device.{StopsLeave, two_of}
-use Rattle.lfs_thread.specs.Kept.{State, disk_on, seen_on}
-use Rattle.lfs_thread.specs.Lent.{at_hand, read_if_missing}
-use Rattle.lfs_thread.specs.Steps.{CanChange, HasTold, IsChanged, IsLeft, IsRefused, WritesReading, pair_in}
+use Rattle.lfs_thread.specs.Kept.{State, disk_on, kept_view_on}
+use Rattle.lfs_thread.specs.CachedLog.{cached_log, read_if_missing}
+use Rattle.lfs_thread.specs.Steps.{CanChange, HasReported, IsChanged, IsLeftByChange, IsRefused, WritesReading, pair_in}
 use Rattle.lfs_thread.proofs.Changing.{at_there, can_commit, device_kept, device_changed, ok_outcome, full_kept, refused, left_in_thread}
-use Rattle.lfs_thread.proofs.Lending.{reading_there}
-use Rattle.lfs_thread.proofs.Told.{told_from, reading_from}
+use Rattle.lfs_thread.proofs.CachedPair.{reading_there}
+use Rattle.lfs_thread.proofs.Reported.{reported_from, reading_from}
 use Rattle.lfs_thread.proofs.thread.Thread.change.Goals as goal
 
 pub commit_to-outcome-requires-clause-can : goal.commit_to-outcome-requires-clause-can
 commit_to-outcome-requires-clause-can g c =
     let works = ap (λ (v : State). v.failed) c.self.view_is ∙ c.requires.works in
-    let can = subst (λ (v : State). CanChange v.kept c.args.index (changes_seen c.args.changes.now)) (sym c.self.view_is) c.requires.can in
+    let can = subst (λ (v : State). CanChange v.kept c.args.index (changes_view c.args.changes.now)) (sym c.self.view_is) c.requires.can in
     let a = at_there (disk_on g.D.BlockDevice c.self.inside.device) c.self.inside.pairs.items c.args.index c.index_mut.result.now can.below c.index_mut.ensures.value in
     can_commit _ _ c.self.inside.pairs.items c.self.inside.map c.args.index c.index_mut.result.now _ a (c.self.invariant works).0 can.content can.made
 
@@ -26,7 +26,7 @@ commit_to-outcome-requires-clause-current g c =
 pub invariant_of-self : goal.invariant_of-self
 invariant_of-self g c ok =
     let works = ap (λ (v : State). v.failed) c.self.view_is ∙ c.requires.works in
-    let can = subst (λ (v : State). CanChange v.kept c.args.index (changes_seen c.args.changes.now)) (sym c.self.view_is) c.requires.can in
+    let can = subst (λ (v : State). CanChange v.kept c.args.index (changes_view c.args.changes.now)) (sym c.self.view_is) c.requires.can in
     let a = at_there (disk_on g.D.BlockDevice c.self.inside.device) c.self.inside.pairs.items c.args.index c.index_mut.result.now can.below c.index_mut.ensures.value in
     let e = c.commit_to-outcome.ensures in (
       elim (ok_outcome c.commit_to-outcome.result (sym c.is_err-self-inside.ensures.value ∙ ok)) [
@@ -39,42 +39,42 @@ invariant_of-self g c ok =
 pub returns-clause-done : goal.returns-clause-done
 returns-clause-done g c done =
     let works = ap (λ (v : State). v.failed) c.self.view_is ∙ c.requires.works in
-    let can = subst (λ (v : State). CanChange v.kept c.args.index (changes_seen c.args.changes.now)) (sym c.self.view_is) c.requires.can in
+    let can = subst (λ (v : State). CanChange v.kept c.args.index (changes_view c.args.changes.now)) (sym c.self.view_is) c.requires.can in
     let a = at_there (disk_on g.D.BlockDevice c.self.inside.device) c.self.inside.pairs.items c.args.index c.index_mut.result.now can.below c.index_mut.ensures.value in
     let e = c.commit_to-outcome.ensures in
-    subst (λ (v : State). IsChanged v.kept c.args.index (changes_seen c.args.changes.now) (seen_on g.D.BlockDevice c.commit_to-outcome.new.device (set c.self.inside.pairs.items c.args.index c.commit_to-outcome.new.pair) c.self.inside.map)) c.self.view_is
+    subst (λ (v : State). IsChanged v.kept c.args.index (changes_view c.args.changes.now) (kept_view_on g.D.BlockDevice c.commit_to-outcome.new.device (set c.self.inside.pairs.items c.args.index c.commit_to-outcome.new.pair) c.self.inside.map)) c.self.view_is
     (device_changed _ _ _ _ _ _ c.self.inside.pairs.items _ c.args.index _ _ _ e.device.only.geometry a (c.self.invariant works).0 can (e.done done) e.device.only.others e.device.only.elsewhere)
 
 pub returns-clause-full : goal.returns-clause-full
 returns-clause-full g c full =
-    let can = subst (λ (v : State). CanChange v.kept c.args.index (changes_seen c.args.changes.now)) (sym c.self.view_is) c.requires.can in
+    let can = subst (λ (v : State). CanChange v.kept c.args.index (changes_view c.args.changes.now)) (sym c.self.view_is) c.requires.can in
     let a = at_there (disk_on g.D.BlockDevice c.self.inside.device) c.self.inside.pairs.items c.args.index c.index_mut.result.now can.below c.index_mut.ensures.value in
     let e = c.commit_to-outcome.ensures in
-    subst (λ (v : State). IsRefused v.kept c.args.index (changes_seen c.args.changes.now) (seen_on g.D.BlockDevice c.commit_to-outcome.new.device (set c.self.inside.pairs.items c.args.index c.commit_to-outcome.new.pair) c.self.inside.map)) c.self.view_is
+    subst (λ (v : State). IsRefused v.kept c.args.index (changes_view c.args.changes.now) (kept_view_on g.D.BlockDevice c.commit_to-outcome.new.device (set c.self.inside.pairs.items c.args.index c.commit_to-outcome.new.pair) c.self.inside.map)) c.self.view_is
     (refused _ _ _ _ c.self.inside.pairs.items _ c.args.index _ _ _ can.content a can.made (e.full full).completed (ap₂ disk_of (e.full full).device.geometry (e.full full).device.same) (e.full full).pair (e.full full).device.reads)
 
 pub returns-clause-errors : goal.returns-clause-errors
 returns-clause-errors g c =
-    subst (λ (v : State). HasTold v.kept (seen_on g.D.BlockDevice c.commit_to-outcome.new.device (set c.self.inside.pairs.items c.args.index c.commit_to-outcome.new.pair) c.self.inside.map) c.commit_to-outcome.result) c.self.view_is
-    (told_from g.D.BlockDevice c.self.inside.device c.commit_to-outcome.new.device c.self.inside.pairs.items (set c.self.inside.pairs.items c.args.index c.commit_to-outcome.new.pair) c.self.inside.map c.self.inside.map c.commit_to-outcome.result c.commit_to-outcome.ensures.errors)
+    subst (λ (v : State). HasReported v.kept (kept_view_on g.D.BlockDevice c.commit_to-outcome.new.device (set c.self.inside.pairs.items c.args.index c.commit_to-outcome.new.pair) c.self.inside.map) c.commit_to-outcome.result) c.self.view_is
+    (reported_from g.D.BlockDevice c.self.inside.device c.commit_to-outcome.new.device c.self.inside.pairs.items (set c.self.inside.pairs.items c.args.index c.commit_to-outcome.new.pair) c.self.inside.map c.self.inside.map c.commit_to-outcome.result c.commit_to-outcome.ensures.errors)
 
 pub returns-clause-device : goal.returns-clause-device
 returns-clause-device g c =
     let works = ap (λ (v : State). v.failed) c.self.view_is ∙ c.requires.works in
-    let can = subst (λ (v : State). CanChange v.kept c.args.index (changes_seen c.args.changes.now)) (sym c.self.view_is) c.requires.can in
+    let can = subst (λ (v : State). CanChange v.kept c.args.index (changes_view c.args.changes.now)) (sym c.self.view_is) c.requires.can in
     let disk = disk_on g.D.BlockDevice c.self.inside.device in
     let a = at_there disk c.self.inside.pairs.items c.args.index c.index_mut.result.now can.below c.index_mut.ensures.value in
     let new = c.commit_to-outcome.new in
     let reading = reading_there disk (g.D.BlockDevice.history c.self.inside.device) c.self.inside.pairs.items c.self.inside.map c.args.index c.index_mut.result.now a (c.self.invariant works).0
     g.D.BlockDevice c.self.inside.device new.device two_of 1 c.self.inside.cache c.commit_to-outcome.ensures.device in
-    subst (λ (v : State). WritesReading (1 + read_if_missing (at_hand v c.args.index)) (two_of (pair_in v.kept c.args.index).at) v.kept (seen_on g.D.BlockDevice new.device (set c.self.inside.pairs.items c.args.index new.pair) c.self.inside.map)) c.self.view_is
+    subst (λ (v : State). WritesReading (1 + read_if_missing (cached_log v c.args.index)) (two_of (pair_in v.kept c.args.index).at) v.kept (kept_view_on g.D.BlockDevice new.device (set c.self.inside.pairs.items c.args.index new.pair) c.self.inside.map)) c.self.view_is
     (reading_from g.D.BlockDevice c.self.inside.device new.device c.self.inside.pairs.items (set c.self.inside.pairs.items c.args.index new.pair) c.self.inside.map c.self.inside.map _ reading)
 
 pub returns-clause-stops : goal.returns-clause-stops
 returns-clause-stops g c cleanly =
     let works = ap (λ (v : State). v.failed) c.self.view_is ∙ c.requires.works in
-    let can = subst (λ (v : State). CanChange v.kept c.args.index (changes_seen c.args.changes.now)) (sym c.self.view_is) c.requires.can in
+    let can = subst (λ (v : State). CanChange v.kept c.args.index (changes_view c.args.changes.now)) (sym c.self.view_is) c.requires.can in
     let a = at_there (disk_on g.D.BlockDevice c.self.inside.device) c.self.inside.pairs.items c.args.index c.index_mut.result.now can.below c.index_mut.ensures.value in
-    subst (λ (v : State). StopsLeave v.kept.history (g.D.BlockDevice.history c.commit_to-outcome.new.device) (IsLeft v.kept c.args.index (changes_seen c.args.changes.now))) c.self.view_is
+    subst (λ (v : State). StopsLeave v.kept.history (g.D.BlockDevice.history c.commit_to-outcome.new.device) (IsLeftByChange v.kept c.args.index (changes_view c.args.changes.now))) c.self.view_is
     (λ clean. LeavesOnly-weaker (λ left l. left_in_thread _ _ c.self.inside.pairs.items c.self.inside.map c.args.index _ _ left a (c.self.invariant works).0 can.content can.made l) (c.commit_to-outcome.ensures.stops clean))
     cleanly

@@ -3,10 +3,10 @@ use Rattle.lfs_device.specs.Bytes.{AreBytes}
 use Rattle.lfs_model.specs.Cache.{cached}
 use Rattle.lfs_model.specs.Content.{holder_at}
 use Rattle.lfs_thread.specs.Kept.{State, disk_on}
-use Rattle.lfs_thread.specs.Lent.{IsBlockOf, at_hand}
+use Rattle.lfs_thread.specs.CachedLog.{IsBlockOf, cached_log}
 use Rattle.lfs_thread.specs.Steps.{pair_in}
 use Rattle.lfs_thread.proofs.Changing.{at_there}
-use Rattle.lfs_thread.proofs.Lending.{active_is, active_there, block_there, end_there, holder_there, last_there}
+use Rattle.lfs_thread.proofs.CachedPair.{active_is, active_there, block_there, end_there, holder_there, last_there}
 use Rattle.lfs_thread.proofs.thread.Thread.lend.Goals as goal
 
 pub known-requires-clause-end : goal.known-requires-clause-end
@@ -34,7 +34,7 @@ returns-in-Some-clause-lent g c =
     let disk = disk_on g.D.BlockDevice c.self.inside.device in
     let a = at_there disk c.self.inside.pairs.items c.args.index c.index-pair.result.now below c.index-pair.ensures in
     ap Some c.known.ensures ∙ c.in-Some.ensures ∙ ap (cached c.self.inside.cache) (active_is disk (g.D.BlockDevice.history c.self.inside.device) c.self.inside.pairs.items c.self.inside.map c.args.index c.index-pair.result.now a (c.self.invariant works).0)
-    ∙ ap (λ (v : State). at_hand v c.args.index) c.self.view_is
+    ∙ ap (λ (v : State). cached_log v c.args.index) c.self.view_is
 
 pub returns-in-None-clause-lent : goal.returns-in-None-clause-lent
 returns-in-None-clause-lent g c =
@@ -43,7 +43,7 @@ returns-in-None-clause-lent g c =
     let disk = disk_on g.D.BlockDevice c.self.inside.device in
     let a = at_there disk c.self.inside.pairs.items c.args.index c.index-pair.result.now below c.index-pair.ensures in
     c.in-None.ensures ∙ ap (cached c.self.inside.cache) (active_is disk (g.D.BlockDevice.history c.self.inside.device) c.self.inside.pairs.items c.self.inside.map c.args.index c.index-pair.result.now a (c.self.invariant works).0)
-    ∙ ap (λ (v : State). at_hand v c.args.index) c.self.view_is
+    ∙ ap (λ (v : State). cached_log v c.args.index) c.self.view_is
 
 pub returns-in-Some-clause-holds : goal.returns-in-Some-clause-holds
 returns-in-Some-clause-holds g c =

@@ -3,7 +3,7 @@ use Rattle.lfs_model.specs.Thread.{is_hard}
 use Rattle.lfs_thread.specs.Kept.{State, disk_on}
 use Rattle.lfs_thread.specs.Steps.{pair_in}
 use Rattle.lfs_thread.proofs.Changing.{at_there}
-use Rattle.lfs_thread.proofs.Lending.{next_there, tail_there}
+use Rattle.lfs_thread.proofs.CachedPair.{next_there, tail_there}
 use Rattle.lfs_thread.proofs.thread.Thread.next.Goals as goal
 
 pub returns-then-is_hard-clause-next : goal.returns-then-is_hard-clause-next

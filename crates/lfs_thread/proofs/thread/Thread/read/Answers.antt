@@ -11,10 +11,10 @@ use Rattle.lfs_thread.proofs.thread.Thread.read.Goals as goal
 
 pub returns-in-Ok-read_pairs-clause-read : goal.returns-in-Ok-read_pairs-clause-read
 returns-in-Ok-read_pairs-clause-read g c =
-    let told = c.in-Ok-read_pairs.ensures.told in
+    let reported = c.in-Ok-read_pairs.ensures.reported in
     let disk : Disk = disk_on g.D.BlockDevice c.args.device in
     let ps = pairs_on (disk_on g.D.BlockDevice c.read_pairs.new.device) c.read_pairs.new.pairs.items in
-    let same : disk_on g.D.BlockDevice c.read_pairs.new.device ≡ disk = ap₂ disk_of told.device.geometry told.device.same in
+    let same : disk_on g.D.BlockDevice c.read_pairs.new.device ≡ disk = ap₂ disk_of reported.device.geometry reported.device.same in
     let thread : IsThread (content_at disk) (g.D.BlockDevice.geometry c.args.device).block_count ps =
     subst (λ k. IsThread (content_at disk) k ps) (g.met.D.BlockDevice.shape c.args.device).count
     (subst (λ (d : Disk). IsThread (content_at d) (block_count d) ps) same (kept_thread _ _ _ _ c.in-Ok-read_pairs.ensures.kept)) in
@@ -26,7 +26,7 @@ returns-in-Ok-read_pairs-clause-read g c =
       used = c.in-Ok-read_pairs.ensures.marked.0;
       none_in_flight = c.in-Ok-read_pairs.ensures.marked.1;
       disk = same;
-      only = told.device.reads;
-      no_fault = told.faults.no_fault (λ e. absurd (cc));
+      only = reported.device.reads;
+      no_fault = reported.faults.no_fault (λ e. absurd (cc));
       few = omega (arith, many, read);
     }

@@ -2,7 +2,7 @@ use Rattle.std.proofs.Common.{ap, sym, subst, ◌∙◌, ◌<◌, length}
 use Rattle.lfs_thread.specs.Kept.{State, disk_on}
 use Rattle.lfs_thread.specs.Steps.{pair_in}
 use Rattle.lfs_thread.proofs.Changing.{at_there}
-use Rattle.lfs_thread.proofs.Lending.{count_there}
+use Rattle.lfs_thread.proofs.CachedPair.{count_there}
 use Rattle.lfs_thread.proofs.thread.Thread.slot_count.Goals as goal
 
 pub returns : goal.returns

@@ -2,7 +2,7 @@ use Rattle.std.proofs.Common.{ap, sym, subst, ◌∙◌, ◌<◌, length}
 use Rattle.lfs_thread.specs.Kept.{State, disk_on}
 use Rattle.lfs_thread.specs.Steps.{pair_in}
 use Rattle.lfs_thread.proofs.Changing.{at_there}
-use Rattle.lfs_thread.proofs.Lending.{tail_there}
+use Rattle.lfs_thread.proofs.CachedPair.{tail_there}
 use Rattle.lfs_thread.proofs.thread.Thread.tail.Goals as goal
 
 pub returns : goal.returns

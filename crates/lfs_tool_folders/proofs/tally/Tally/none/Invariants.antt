@@ -1,4 +1,4 @@
 use Rattle.lfs_tool_folders.proofs.tally.Tally.none.Given as goal
 
-abbrev pub ghost-told_by : goal.ghost-told_by
-ghost-told_by a = 0
+abbrev pub ghost-from_proof : goal.ghost-from_proof
+ghost-from_proof a = 0

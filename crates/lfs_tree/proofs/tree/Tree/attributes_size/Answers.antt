@@ -1,10 +1,10 @@
 use Rattle.std.proofs.Common.{subst, sym}
 use Rattle.std.specs.Prelude.{IfOk}
-use Rattle.lfs_model.specs.Discipline.{parents}
+use Rattle.lfs_model.specs.Frame.{parents}
 use Rattle.lfs_model.specs.TreeEdits.{attributes_of}
 use Rattle.lfs_lookup.specs.AttributeAt.{IsAttributesSize}
 use Rattle.lfs_tree.specs.Reads.{ReadsOnce}
-use Rattle.lfs_tree.specs.Seen.{Seen, tree_seen}
+use Rattle.lfs_tree.specs.TreeState.{TreeState, tree_view}
 use Rattle.lfs_thread.specs.Kept.{State}
 use Rattle.lfs_tree.proofs.Asking.{asking, held, rooted_held}
 use Rattle.lfs_tree.proofs.tree.Tree.attributes_size.Goals as goal
@@ -19,9 +19,9 @@ returns-clause-asks g c =
 
 pub returns-clause-size : goal.returns-clause-size
 returns-clause-size g c =
-    subst (λ (s : Seen). IfOk c.attributes_size_at-size.result (IsAttributesSize (attributes_of (tree_seen s c.args.path.now)))) c.self.view_is c.attributes_size_at-size.ensures.is
+    subst (λ (s : TreeState). IfOk c.attributes_size_at-size.result (IsAttributesSize (attributes_of (tree_view s c.args.path.now)))) c.self.view_is c.attributes_size_at-size.ensures.is
 
 pub returns-clause-few : goal.returns-clause-few
 returns-clause-few g c =
     subst (λ (t : State). ReadsOnce (parents c.args.path.now) c.args.self.now t.kept.history) (sym c.note_error.ensures)
-    (subst (λ (s : Seen). ReadsOnce (parents c.args.path.now) s c.attributes_size_at-size.new.thread.kept.history) c.self.view_is (record { few = c.attributes_size_at-size.ensures.few; none = c.attributes_size_at-size.ensures.kept }))
+    (subst (λ (s : TreeState). ReadsOnce (parents c.args.path.now) s c.attributes_size_at-size.new.thread.kept.history) c.self.view_is (record { few = c.attributes_size_at-size.ensures.few; none = c.attributes_size_at-size.ensures.kept }))

@@ -6,7 +6,7 @@ use Rattle.lfs_thread.specs.Kept.{State}
 use Rattle.lfs_tree.specs.Allowed.{CanAddImage}
 use Rattle.lfs_tree.specs.Calls as call
 use Rattle.lfs_tree.specs.Reads.{ReadsToCreate}
-use Rattle.lfs_tree.specs.Seen.{Seen, kept_of}
+use Rattle.lfs_tree.specs.TreeState.{TreeState, kept_of}
 use Rattle.lfs_tree.proofs.Operated.{plain_create}
 use Rattle.lfs_tree.proofs.RecoveredFirst.{add_after}
 use Rattle.lfs_tree.proofs.TreeCalls.{allowed, held_noted, operates_noted, recovery_failed, rests_behind, settled_here}
@@ -18,7 +18,7 @@ returns-in_err-recover-clause-does g c =
     recovery_failed c.args.self.now c.recover.new.self (call.Create c.args.path.now) c.recover.result c.from_residual.result _ p.0 c.in_err-recover.was p.1 p.2 c.recover.ensures.does
 
 pub returns-in_err-recover-clause-few : goal.returns-in_err-recover-clause-few
-returns-in_err-recover-clause-few g c none = let same = ap (λ (s : Seen). reads s.history) (c.recover.ensures.idle none) in omega (arith, same)
+returns-in_err-recover-clause-few g c none = let same = ap (λ (s : TreeState). reads s.history) (c.recover.ensures.idle none) in omega (arith, same)
 
 pub create_at-created-requires-clause-rests : goal.create_at-created-requires-clause-rests
 create_at-created-requires-clause-rests g c = rests_behind c.args.self.now c.recover.new.self c.requires.works c.requires.writable (c.in_ok-recover.ensures.does.done ops.Recover refl) c.in_ok-recover.ensures.settled c.self.inside.thread c.self.inside.root c.self.inside.is_writable c.self.invariant c.self.view_is
@@ -40,6 +40,6 @@ returns-clause-does g c =
 
 pub returns-clause-few : goal.returns-clause-few
 returns-clause-few g c none =
-    let few = subst (λ (s : Seen). ReadsToCreate c.args.path.now s c.create_at-created.new.thread.kept.history) (c.self.view_is ∙ c.recover.ensures.idle none) (λ settled. c.create_at-created.ensures.few) none in
+    let few = subst (λ (s : TreeState). ReadsToCreate c.args.path.now s c.create_at-created.new.thread.kept.history) (c.self.view_is ∙ c.recover.ensures.idle none) (λ settled. c.create_at-created.ensures.few) none in
     let same = ap (λ (t : State). reads t.kept.history) c.note_error.ensures in
     omega (arith, few, same)

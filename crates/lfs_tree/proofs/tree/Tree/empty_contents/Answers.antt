@@ -3,7 +3,7 @@ use Rattle.std.specs.Prelude.{IfOk}
 use Rattle.lfs_model.specs.TreeEdits.{is_file}
 use Rattle.lfs_model.specs.BlockSets.{in_flight_count}
 use Rattle.lfs_tree.specs.OpenContents.{IsOverFile}
-use Rattle.lfs_tree.specs.Seen.{Seen, tree_seen}
+use Rattle.lfs_tree.specs.TreeState.{TreeState, tree_view}
 use Rattle.lfs_thread.specs.Kept.{State}
 use Rattle.lfs_tree.proofs.Asking.{rooted_held}
 use Rattle.lfs_tree.proofs.OpenedFiles.{idle_is, over_empty}
@@ -12,9 +12,9 @@ use Rattle.lfs_tree.proofs.tree.Tree.empty_contents.Goals as goal
 pub no_contents-contents-requires : goal.no_contents-contents-requires
 no_contents-contents-requires g c =
     let held = rooted_held c.self.inside.thread c.self.inside.root c.self.inside.is_writable c.args.self.now c.self.invariant c.self.view_is c.requires.works in
-    idle_is c.self.inside.thread.kept (ap (λ (s : Seen). in_flight_count s.map) c.self.view_is ∙ c.requires.idle) held.sound.size
+    idle_is c.self.inside.thread.kept (ap (λ (s : TreeState). in_flight_count s.map) c.self.view_is ∙ c.requires.idle) held.sound.size
 
 pub returns-clause-over : goal.returns-clause-over
 returns-clause-over g c path file =
     subst (λ (t : State). IfOk c.no_contents-contents.result (IsOverFile t.kept path)) (sym c.note_error.ensures)
-    (over_empty c.self.inside.thread.kept path c.no_contents-contents.result (subst (λ (s : Seen). is_file (tree_seen s path) ≡ true) (sym c.self.view_is) file) c.no_contents-contents.ensures.opened)
+    (over_empty c.self.inside.thread.kept path c.no_contents-contents.result (subst (λ (s : TreeState). is_file (tree_view s path) ≡ true) (sym c.self.view_is) file) c.no_contents-contents.ensures.opened)

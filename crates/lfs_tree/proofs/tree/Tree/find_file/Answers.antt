@@ -1,10 +1,10 @@
 use Rattle.std.proofs.Common.{subst, sym}
 use Rattle.std.specs.Prelude.{IfOk}
-use Rattle.lfs_model.specs.Discipline.{parents}
+use Rattle.lfs_model.specs.Frame.{parents}
 use Rattle.lfs_thread.specs.Kept.{State}
 use Rattle.lfs_lookup.specs.FileContents.{AreFoundAt}
 use Rattle.lfs_tree.specs.Reads.{ReadsOnce}
-use Rattle.lfs_tree.specs.Seen.{Seen, kept_of}
+use Rattle.lfs_tree.specs.TreeState.{TreeState, kept_of}
 use Rattle.lfs_tree.proofs.Asking.{asking, held, rooted_held}
 use Rattle.lfs_tree.proofs.tree.Tree.find_file.Goals as goal
 
@@ -18,9 +18,9 @@ returns-clause-asks g c =
 
 pub returns-clause-contents : goal.returns-clause-contents
 returns-clause-contents g c =
-    subst (λ (s : Seen). IfOk c.file_at-found.result (λ found. AreFoundAt (kept_of s) c.args.path.now found.contents)) c.self.view_is c.file_at-found.ensures.contents
+    subst (λ (s : TreeState). IfOk c.file_at-found.result (λ found. AreFoundAt (kept_of s) c.args.path.now found.contents)) c.self.view_is c.file_at-found.ensures.contents
 
 pub returns-clause-few : goal.returns-clause-few
 returns-clause-few g c =
     subst (λ (t : State). ReadsOnce (parents c.args.path.now) c.args.self.now t.kept.history) (sym c.note_error.ensures)
-    (subst (λ (s : Seen). ReadsOnce (parents c.args.path.now) s c.file_at-found.new.thread.kept.history) c.self.view_is (record { few = c.file_at-found.ensures.few; none = c.file_at-found.ensures.kept }))
+    (subst (λ (s : TreeState). ReadsOnce (parents c.args.path.now) s c.file_at-found.new.thread.kept.history) c.self.view_is (record { few = c.file_at-found.ensures.few; none = c.file_at-found.ensures.kept }))

@@ -1,9 +1,9 @@
 use Rattle.std.proofs.Common.{ap, subst, sym}
 use Rattle.lfs_model.specs.TreeEdits.{attributes_of}
 use Rattle.lfs_model.specs.Shown.{tree_in}
-use Rattle.lfs_model.specs.Discipline.{parents}
+use Rattle.lfs_model.specs.Frame.{parents}
 use Rattle.lfs_tree.specs.Reads.{ReadsOnce}
-use Rattle.lfs_tree.specs.Seen.{Seen, tree_seen}
+use Rattle.lfs_tree.specs.TreeState.{TreeState, tree_view}
 use Rattle.lfs_thread.specs.Kept.{State}
 use Rattle.lfs_tree.proofs.Asking.{asking, held, rooted_held}
 use Rattle.lfs_lookup.proofs.AttributeAtSlots.{attribute_given, attribute_then}
@@ -20,12 +20,12 @@ returns-clause-asks g c =
 pub returns-clause-bytes : goal.returns-clause-bytes
 returns-clause-bytes g c =
     let t = c.self.inside.thread.kept in
-    attribute_given c.args.kind (attributes_of (tree_seen c.args.self.now c.args.path.now)) c.attribute_at-found.result
-    (attribute_then c.args.kind (attributes_of (tree_in t.disk t.pairs c.args.path.now)) (attributes_of (tree_seen c.args.self.now c.args.path.now)) c.attribute_at-found.result
-    (ap (λ (s : Seen). attributes_of (tree_seen s c.args.path.now)) c.self.view_is) c.attribute_at-found.ensures.is)
+    attribute_given c.args.kind (attributes_of (tree_view c.args.self.now c.args.path.now)) c.attribute_at-found.result
+    (attribute_then c.args.kind (attributes_of (tree_in t.disk t.pairs c.args.path.now)) (attributes_of (tree_view c.args.self.now c.args.path.now)) c.attribute_at-found.result
+    (ap (λ (s : TreeState). attributes_of (tree_view s c.args.path.now)) c.self.view_is) c.attribute_at-found.ensures.is)
     c.attribute_at-found.ensures.short
 
 pub returns-clause-few : goal.returns-clause-few
 returns-clause-few g c =
     subst (λ (t : State). ReadsOnce (parents c.args.path.now) c.args.self.now t.kept.history) (sym c.note_error.ensures)
-    (subst (λ (s : Seen). ReadsOnce (parents c.args.path.now) s c.attribute_at-found.new.thread.kept.history) c.self.view_is (record { few = c.attribute_at-found.ensures.few; none = c.attribute_at-found.ensures.kept }))
+    (subst (λ (s : TreeState). ReadsOnce (parents c.args.path.now) s c.attribute_at-found.new.thread.kept.history) c.self.view_is (record { few = c.attribute_at-found.ensures.few; none = c.attribute_at-found.ensures.kept }))

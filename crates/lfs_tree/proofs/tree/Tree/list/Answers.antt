@@ -1,7 +1,7 @@
 use Rattle.std.proofs.Common.{◌++◌, ◌∷◌, [], subst, sym}
-use Rattle.lfs_model.specs.Discipline.{parents}
+use Rattle.lfs_model.specs.Frame.{parents}
 use Rattle.lfs_tree.specs.Reads.{ReadsOnce}
-use Rattle.lfs_tree.specs.Seen.{Seen}
+use Rattle.lfs_tree.specs.TreeState.{TreeState}
 use Rattle.lfs_thread.specs.Kept.{State}
 use Rattle.lfs_tree.proofs.Asking.{asking, held, rooted_held}
 use Rattle.lfs_tree.proofs.tree.Tree.list.Goals as goal
@@ -17,4 +17,4 @@ returns-clause-asks g c =
 pub returns-clause-few : goal.returns-clause-few
 returns-clause-few g c =
     subst (λ (t : State). ReadsOnce (parents c.args.path.now ++ c.args.path.now ∷ []) c.args.self.now t.kept.history) (sym c.note_error.ensures)
-    (subst (λ (s : Seen). ReadsOnce (parents c.args.path.now ++ c.args.path.now ∷ []) s c.list_at-listing.new.thread.kept.history) c.self.view_is (record { few = c.list_at-listing.ensures.few; none = c.list_at-listing.ensures.kept }))
+    (subst (λ (s : TreeState). ReadsOnce (parents c.args.path.now ++ c.args.path.now ∷ []) s c.list_at-listing.new.thread.kept.history) c.self.view_is (record { few = c.list_at-listing.ensures.few; none = c.list_at-listing.ensures.kept }))

@@ -1,8 +1,8 @@
 use Rattle.std.proofs.Common.{◌≤◌, ◌+◌, ◌++◌, ◌∷◌, [], subst, sym}
 use Rattle.std.specs.Prelude.{sum_by}
-use Rattle.lfs_model.specs.Discipline.{pairs_of_path, parents}
+use Rattle.lfs_model.specs.Frame.{pairs_of_path, parents}
 use Rattle.lfs_model.specs.History.{reads}
-use Rattle.lfs_tree.specs.Seen.{Seen}
+use Rattle.lfs_tree.specs.TreeState.{TreeState}
 use Rattle.lfs_thread.specs.Kept.{State}
 use Rattle.lfs_tree.proofs.Asking.{asking, held, rooted_held}
 use Rattle.lfs_tree.proofs.tree.Tree.look_inside.Goals as goal
@@ -18,4 +18,4 @@ returns-clause-asks g c =
 pub returns-clause-few : goal.returns-clause-few
 returns-clause-few g c =
     subst (λ (t : State). reads t.kept.history ≤ reads c.args.self.now.history + sum_by (pairs_of_path c.args.self.now.pairs) (parents c.args.path.now ++ c.args.path.now ∷ [])) (sym c.note_error.ensures)
-    (subst (λ (s : Seen). reads c.look_inside_at-inside.new.thread.kept.history ≤ reads s.history + sum_by (pairs_of_path s.pairs) (parents c.args.path.now ++ c.args.path.now ∷ [])) c.self.view_is c.look_inside_at-inside.ensures.few)
+    (subst (λ (s : TreeState). reads c.look_inside_at-inside.new.thread.kept.history ≤ reads s.history + sum_by (pairs_of_path s.pairs) (parents c.args.path.now ++ c.args.path.now ∷ [])) c.self.view_is c.look_inside_at-inside.ensures.few)

@@ -3,7 +3,7 @@ use Rattle.std.proofs.lemmas.Result.{err_from_is_err_and}
 use Rattle.lfs_model.specs.Operations as ops
 use Rattle.lfs_tree.specs.Allowed.{CanRemoveAttrImage}
 use Rattle.lfs_tree.specs.Calls as call
-use Rattle.lfs_tree.specs.Seen.{kept_of}
+use Rattle.lfs_tree.specs.TreeState.{kept_of}
 use Rattle.lfs_tree.proofs.Operated.{plain_clear}
 use Rattle.lfs_tree.proofs.RecoveredFirst.{remove_attr_after}
 use Rattle.lfs_tree.proofs.TreeCalls.{allowed, held_noted, operates_noted, recovery_failed, rests_behind, settled_here}

@@ -5,18 +5,18 @@ use Rattle.lfs_model.specs.Thread.{gstate_of}
 use Rattle.lfs_model.specs.TreeEdits.{change_at}
 use Rattle.lfs_tree.specs.Held.{IsHeld, IsRooted}
 use Rattle.lfs_tree.specs.OpenContents.{CanStoreAt, bytes_held}
-use Rattle.lfs_tree.specs.Seen.{Seen}
+use Rattle.lfs_tree.specs.TreeState.{TreeState}
 use Rattle.lfs_tree.specs.Storing.{HasStored}
 use Rattle.lfs_tree.proofs.Asking.{rooted_held, seen_working}
 use Rattle.lfs_tree.proofs.NotedErrors.{noted, noted_failed, noted_held}
 use Rattle.lfs_tree.proofs.StoreContents.{all_stored_working, survives_stored}
-use Rattle.lfs_tree.proofs.TreeCalls.{breaks, tells}
+use Rattle.lfs_tree.proofs.TreeCalls.{breaks, reports}
 use Rattle.lfs_tree.proofs.tree.Tree.store.Goals as goal
 
 pub store_at-stored-requires-clause-rests : goal.store_at-stored-requires-clause-rests
 store_at-stored-requires-clause-rests g c = record {
-  held = subst (λ a. IsRooted c.self.inside.thread c.self.inside.root a) (ap (λ (s : Seen). s.writable) c.self.view_is ∙ c.requires.writable) (rooted_held c.self.inside.thread c.self.inside.root c.self.inside.is_writable c.args.self.now c.self.invariant c.self.view_is c.requires.works);
-  settled = ap (λ (s : Seen). gstate_of s.pairs) c.self.view_is ∙ c.requires.settled;
+  held = subst (λ a. IsRooted c.self.inside.thread c.self.inside.root a) (ap (λ (s : TreeState). s.writable) c.self.view_is ∙ c.requires.writable) (rooted_held c.self.inside.thread c.self.inside.root c.self.inside.is_writable c.args.self.now c.self.invariant c.self.view_is c.requires.works);
+  settled = ap (λ (s : TreeState). gstate_of s.pairs) c.self.view_is ∙ c.requires.settled;
 }
 
 pub store_at-stored-requires-clause-can : goal.store_at-stored-requires-clause-can
@@ -26,7 +26,7 @@ store_at-stored-requires-clause-can g c =
 pub invariant_of-self : goal.invariant_of-self
 invariant_of-self g c =
     let t = c.self.inside.thread in
-    let writes = ap (λ (s : Seen). s.writable) c.self.view_is ∙ c.requires.writable in
+    let writes = ap (λ (s : TreeState). s.writable) c.self.view_is ∙ c.requires.writable in
     subst (λ a. IsHeld c.note_error.new.thread c.self.inside.root a) (sym writes)
     (noted_held t c.store_at-stored.new.thread c.note_error.new.thread (HasStored t.kept c.args.path.now (bytes_held t.kept c.args.contents)) (change_at c.args.path.now (with_bytes (bytes_held t.kept c.args.contents)) (tree_in t.kept.disk t.kept.pairs)) c.store_at-stored.result c.store_at-stored.ensures c.note_error.ensures c.self.inside.root
     (subst (λ a. IsRooted c.self.inside.thread c.self.inside.root a) writes (rooted_held c.self.inside.thread c.self.inside.root c.self.inside.is_writable c.args.self.now c.self.invariant c.self.view_is c.requires.works)))
@@ -47,7 +47,7 @@ pub returns-clause-errors : goal.returns-clause-errors
 returns-clause-errors g c =
     let t = c.self.inside.thread in
     let w = noted t c.store_at-stored.new.thread c.note_error.new.thread (HasStored t.kept c.args.path.now (bytes_held t.kept c.args.contents)) (change_at c.args.path.now (with_bytes (bytes_held t.kept c.args.contents)) (tree_in t.kept.disk t.kept.pairs)) c.store_at-stored.result c.store_at-stored.ensures c.note_error.ensures in
-    tells t c.self.inside.is_writable c.args.self.now c.self.view_is (HasStored t.kept c.args.path.now (bytes_held t.kept c.args.contents)) (change_at c.args.path.now (with_bytes (bytes_held t.kept c.args.contents)) (tree_in t.kept.disk t.kept.pairs)) c.store_at-stored.result c.note_error.new.thread w
+    reports t c.self.inside.is_writable c.args.self.now c.self.view_is (HasStored t.kept c.args.path.now (bytes_held t.kept c.args.contents)) (change_at c.args.path.now (with_bytes (bytes_held t.kept c.args.contents)) (tree_in t.kept.disk t.kept.pairs)) c.store_at-stored.result c.note_error.new.thread w
 
 pub returns-clause-survives : goal.returns-clause-survives
 returns-clause-survives g c =

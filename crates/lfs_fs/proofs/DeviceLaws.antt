@@ -1,0 +1,60 @@
+-- What a session's device tells behind its calls.
+use Rattle.std.proofs.Common.{◌≡◌, false, List, [], ◌∷◌, ◌++◌, Result, refl, sym, ap, subst, ◌∙◌}
+use Rattle.lfs_device.specs.declared.device.BlockDevice.{Ghosts}
+use Rattle.lfs_device.specs.declared.error.Error.{Error}
+use Rattle.lfs_model.specs.Blocks.{Blocks}
+use Rattle.lfs_model.specs.Disk.{Disk}
+use Rattle.lfs_model.specs.History.{Event, EachEvent, IsNewest, IsReadOf, OnlyReads, reads_in}
+use Rattle.lfs_model.specs.Conformance.{AllConform, Conforms}
+use Rattle.lfs_model.specs.Operations.{Operation}
+use Rattle.lfs_model.proofs.Conformance.{conforms_next}
+use Rattle.lfs_tree.specs.TreeState.{IsAsked, TreeState}
+use Rattle.lfs_fs.specs.FileView.{OpenFiles}
+use Rattle.lfs_fs.specs.Held.{Checks, held_of}
+use Rattle.lfs_fs.proofs.Answered.{asked_by_checks, checked_ready}
+use Rattle.lfs_fs.specs.DeviceLaws.{IsBetweenCalls, MeetsDeviceLaws}
+
+-- of the device that is lent
+pub laws_met : {D : Type 0} (g : Ghosts D) (device : D) (t : TreeState) → g.blocks device ≡ t.disk.blocks → g.history device ≡ t.history → IsNewest (g.history device) (g.blocks device) → AllConform (g.history device) → MeetsDeviceLaws t
+laws_met g device t blocks history newest conforms = record {
+  newest = subst (λ (bs : Blocks). IsNewest t.history bs) blocks (subst (λ (h : List Event). IsNewest h (g.blocks device)) history newest);
+  conforms = subst AllConform history conforms;
+}
+
+-- ---- behind reads
+
+conforming_reads : (blocks : Blocks) (e : Event) → IsReadOf blocks e → Conforms e
+conforming_reads blocks e read = record {
+  reads = λ b o n is ok. read.after ∙ sym read.before;
+  programs = λ b o bytes is ok. absurd (let k = sym (ap reads_in is) ∙ read.reads in cc);
+  others = λ b o bytes is ok. absurd (let k = sym (ap reads_in is) ∙ read.reads in cc);
+  erases = λ b is ok. absurd (let k = sym (ap reads_in is) ∙ read.reads in cc);
+}
+
+abbrev left_by : List Event → Blocks
+left_by [] = []
+left_by (e ∷ older) = e.after
+
+reported_later : (t new : TreeState) → MeetsDeviceLaws t → OnlyReads t.disk.blocks t.history new.history → new.disk ≡ t.disk → MeetsDeviceLaws new
+reported_later t new reported reads same = record {
+  newest = subst (λ (d : Disk). IsNewest new.history d.blocks) (sym same) (subst (λ h. IsNewest h t.disk.blocks) (sym reads.extends) (newest_on reads.events reads.each));
+  conforms = subst AllConform (sym reads.extends) (conforming_on reads.events reads.each);
+}
+  where
+    newest_on : (events : List Event) → EachEvent (IsReadOf t.disk.blocks) events → IsNewest (events ++ t.history) t.disk.blocks
+    newest_on [] each = reported.newest
+    newest_on (e ∷ events) each = λ first older is. ap left_by (sym is) ∙ each.0.after
+
+    conforming_on : (events : List Event) → EachEvent (IsReadOf t.disk.blocks) events → AllConform (events ++ t.history)
+    conforming_on [] each = reported.conforms
+    conforming_on (e ∷ events) each = conforms_next refl (conforming_reads t.disk.blocks e each.0) (conforming_on events each.1)
+
+pub reported_asked : (t new : TreeState) → (t.failed ≡ false → MeetsDeviceLaws t) → IsAsked t new → new.failed ≡ false → MeetsDeviceLaws new
+reported_asked t new reported asked works = reported_later t new (reported (sym (ap (λ (s : TreeState). s.failed) asked.same) ∙ works)) asked.reads (ap (λ (s : TreeState). s.disk) asked.same)
+
+-- behind checks
+pub between_checked : {A : Type 0} (t : TreeState) (files : OpenFiles) (op : Operation) (P : A → Type 0) (r : Result A Error) (tree : TreeState) → IsBetweenCalls t files → Checks (held_of t files) op P r tree → IsBetweenCalls tree files
+between_checked t files op P r tree between h = record {
+  ready = checked_ready t files op P r tree between.ready h;
+  reported = λ works. reported_asked t tree between.reported (asked_by_checks t files op P r tree h works) works;
+}

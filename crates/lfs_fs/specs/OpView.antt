@@ -1,0 +1,56 @@
+-- What contracts see of operations and replies.
+use Rattle.std.specs.Prelude.{◌≡◌, true, map, Result, Ok, Err}
+use Rattle.lfs_device.specs.declared.error.Error.{Error}
+use Rattle.lfs_model.specs.Operations as ops
+use Rattle.lfs_model.specs.Operations.{Operation}
+use Rattle.lfs_lookup.specs.Refusals.{is_refusal, refusal_in}
+use Rattle.lfs_lookup.specs.Finds.{list_item_view}
+use Rattle.lfs_fs.specs.GstateView.{gstate_reply}
+use Rattle.lfs_fs.specs.FlagsView.{flags_view}
+use Rattle.lfs_fs.specs.declared.run.Op.{Op}
+use Rattle.lfs_fs.specs.declared.run.Op.TheVariants as op
+use Rattle.lfs_fs.specs.declared.run.Reply.{Reply}
+use Rattle.lfs_fs.specs.declared.run.Reply.TheVariants as reply
+
+abbrev pub op_view : Op → Operation
+op_view (op.Open path flags) = ops.Open path.now (flags_view flags)
+op_view (op.Read fd count) = ops.Read fd count
+op_view (op.Write fd bytes) = ops.Write fd bytes.now
+op_view (op.Seek fd position) = ops.Seek fd position
+op_view (op.Truncate fd size) = ops.Truncate fd size
+op_view (op.Sync fd) = ops.Sync fd
+op_view (op.Close fd) = ops.Close fd
+op_view (op.Mkdir path) = ops.Mkdir path.now
+op_view (op.List path) = ops.ListAll path.now
+op_view (op.Stat path) = ops.Stat path.now
+op_view (op.GetAttr path kind) = ops.GetAttr path.now kind
+op_view (op.Remove path) = ops.Remove path.now
+op_view (op.Rename from to) = ops.Rename from.now to.now
+op_view (op.SetAttr path kind value) = ops.SetAttr path.now kind value.now
+op_view (op.RemoveAttr path kind) = ops.RemoveAttr path.now kind
+op_view op.Gstate = ops.AskGstate
+op_view (op.IsUsed block) = ops.IsUsed block
+op_view op.UsedCount = ops.UsedCount
+op_view op.Recover = ops.Recover
+op_view op.Remount = ops.Remount
+
+abbrev pub reply_view : Reply → ops.Reply
+reply_view reply.Done = ops.Done
+reply_view (reply.Fd fd) = ops.Opened fd
+reply_view (reply.Bytes bytes) = ops.Bytes bytes.items
+reply_view (reply.Count count) = ops.Count count
+reply_view (reply.Items items) = ops.Items (map list_item_view items.items)
+reply_view (reply.Stat size) = ops.StatIs size
+reply_view (reply.Gstate gstate) = gstate_reply gstate
+reply_view (reply.Yes is) = ops.Yes is
+reply_view (reply.Refused error) = ops.Refused (refusal_in error)
+
+-- a reply that refuses names an error that is a refusal
+abbrev pub IsNamed : Reply → Type 0
+IsNamed (reply.Refused error) = is_refusal error ≡ true
+IsNamed _ = Unit {0}
+
+-- the reply, or the error in its place
+abbrev pub performed : Result Reply Error → Result ops.Reply Error
+performed (Ok r) = Ok (reply_view r)
+performed (Err e) = Err e

@@ -1,0 +1,89 @@
+-- A question to a session on a fresh disk.
+use Rattle.std.proofs.Common.{◌≡◌, true, List, [], ◌∷◌, None, refl, subst, ap, arith}
+use Rattle.std.specs.Prelude.{codes}
+use Rattle.lfs_model.specs.Disk.{block_count}
+use Rattle.lfs_model.specs.Content.{content_at}
+use Rattle.lfs_model.specs.Slots.{no_gstate}
+use Rattle.lfs_model.specs.Thread.{Pair}
+use Rattle.lfs_model.specs.View.{IsAccepted}
+use Rattle.lfs_model.specs.Profile.{IsWritable}
+use Rattle.lfs_model.specs.Fresh.{fresh_pair, empty_tree}
+use Rattle.lfs_model.specs.History.{reads}
+use Rattle.lfs_model.specs.State.{Healthy, mounted}
+use Rattle.lfs_model.specs.Performed.{IsPerformed}
+use Rattle.lfs_model.specs.Operations as ops
+use Rattle.lfs_model.specs.Session.{Session, Surroundings}
+use Rattle.lfs_model.specs.Recovery.{IsRecovered}
+use Rattle.lfs_model.specs.Run.{IsSessionStep, IsEffectOnDisk}
+use Rattle.lfs_model.specs.examples.Images.{small_image}
+use Rattle.lfs_model.specs.examples.Runs.{fresh_system}
+use Rattle.lfs_model.proofs.Uniqueness.{one_thread}
+use Rattle.lfs_model.proofs.Fresh.{accepted, writable}
+use Rattle.lfs_model.proofs.Example.{fresh}
+use Rattle.lfs_model.proofs.SessionSteps.{fresh_agrees}
+use Rattle.lfs_model.proofs.FreshSession.{surviving}
+
+abbrev pub op : ops.Operation
+op = ops.Stat (codes "/")
+
+abbrev around : Surroundings
+around = record { writable = true; block_size = 1024; page = 128; block_count = 2; used = 0 ∷ 1 ∷ []; gstate = no_gstate }
+
+pub carried : (s : Session) (ps qs : List Pair) → IsAccepted small_image ps → IsAccepted small_image qs → IsEffectOnDisk small_image ps s op [] small_image qs
+carried s ps qs a b =
+    let same = one_thread (content_at small_image) (block_count small_image) ps qs a.thread b.thread in
+    record {
+      asks = λ e. (refl, (refl, refl));
+      opens = λ e. absurd (cc);
+      fills = λ e. absurd (cc);
+      recovered = λ e. absurd (cc);
+      stays = subst IsRecovered same;
+      arranged = λ e. absurd (cc);
+      profile = subst (IsWritable small_image) same;
+      silent = λ e. (refl, refl);
+      itself = λ e. absurd (cc);
+      nothing_left = λ e. absurd (cc);
+    }
+
+pub turn : IsSessionStep fresh_system op (ops.StatIs None) fresh_system
+turn = record {
+  answered = record {
+    around = around;
+    shown = None;
+    surrounds = λ session e. (
+      fresh_pair small_image ∷ [],
+      (
+        accepted small_image fresh,
+        record { block_size = refl; page = refl; block_count = refl; used = refl; gstate = refl; writable = ((λ e. writable small_image fresh), λ w. refl) },
+      ),
+    );
+    shows = λ e. absurd (cc);
+    answers = refl;
+  };
+  agrees = fresh_agrees small_image fresh;
+  geometry = record { block_size = refl; page = refl; order = refl; count = refl };
+  calls = [];
+  called = refl;
+  refused = λ e. absurd (cc);
+  remounted = λ e. absurd (cc);
+  failed = λ e f. absurd (cc);
+  effect_on_disk = λ r s e. carried s;
+}
+
+-- without a call
+pub silent : turn.calls ≡ []
+unfolding turn
+silent = refl
+
+-- a stop in it leaves the disk as it is, and it reads nothing
+pub asked : IsPerformed None fresh_system op (ops.StatIs None) fresh_system
+asked = record {
+  turn = turn;
+  survives_loss = surviving op (Healthy (mounted empty_tree));
+  read_bounds = record {
+    alone = λ s e ps qs a b g. record { files = λ k d l i f m. refl; pairs = λ p a b n. (refl, refl) };
+    asked = λ e. absurd (cc);
+    few = λ s e ps a f. let n = ap reads silent in omega arith;
+    kept = λ s e ps a. tt;
+  };
+}

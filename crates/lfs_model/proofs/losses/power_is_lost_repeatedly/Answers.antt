@@ -1,0 +1,51 @@
+use Rattle.std.proofs.Common.{inl, false, [], ◌∷◌, None, refl, sym, ◌∙◌, subst, append-nil}
+use Rattle.std.specs.Prelude.{Any, codes}
+use Rattle.lfs_model.specs.History.{Read, event}
+use Rattle.lfs_model.specs.Stops.{Stops}
+use Rattle.lfs_model.proofs.Sites.{any_from, among_from}
+use Rattle.lfs_model.specs.Fresh.{empty_tree}
+use Rattle.lfs_model.specs.Operations as ops
+use Rattle.lfs_model.specs.RepeatedPowerLoss.{LosesPower}
+use Rattle.lfs_model.specs.examples.Images.{small_image}
+use Rattle.lfs_model.specs.examples.Runs.{fresh_system, no_disk}
+use Rattle.lfs_model.proofs.Fresh.{shows}
+use Rattle.lfs_model.proofs.AskedStep.{asked}
+use Rattle.lfs_model.proofs.Survived.{again_survived}
+use Rattle.lfs_model.proofs.FreshSession.{pairs, are_accepted, none_accepted}
+use Rattle.lfs_model.proofs.SafeImage.{is_safe}
+use Rattle.lfs_model.proofs.losses.power_is_lost_repeatedly.Goals as goal
+
+-- power is lost before the first call of a stat
+once : LosesPower small_image small_image
+once = record {
+  other = small_image;
+  same = refl;
+  begin = fresh_system;
+  mounts = record { on = refl; tree = empty_tree; shows = (pairs, (are_accepted, sym (shows small_image))); healthy = refl };
+  operations = ops.Stat (codes "/") ∷ [];
+  to = fresh_system;
+  run = inl (ops.StatIs None ∷ [], (fresh_system, (asked, refl)));
+  cleanly = record { events = []; extends = refl; each = tt };
+  stop = inl refl;
+}
+
+pub returns-clause-once : goal.returns-clause-once
+returns-clause-once c = once
+
+pub returns-clause-again : goal.returns-clause-again
+returns-clause-again c = (once, (once, tt))
+
+pub returns-clause-not_all : goal.returns-clause-not_all
+returns-clause-not_all c = λ o.
+    let s = again_survived small_image empty_tree (no_disk ∷ []) is_safe (o, tt) in
+    none_accepted s.0.safe.pairs s.0.safe.accepted
+
+pub returns-clause-in_a_read : goal.returns-clause-in_a_read
+returns-clause-in_a_read c = λ blocks. record {
+  events = event (Read 0 0 4) blocks blocks false ∷ [];
+  extends = refl;
+  stopped = any_from (λ e. Stops e blocks) (event (Read 0 0 4) blocks blocks false ∷ []) (inl refl);
+}
+
+pub returns-clause-not_in_none : goal.returns-clause-not_in_none
+returns-clause-not_in_none c = λ blocks h. among_from (λ e. Stops e blocks) [] (subst (λ es. Any (λ e. Stops e blocks) es) (sym (h.extends ∙ append-nil h.events)) h.stopped)

@@ -1,0 +1,51 @@
+-- What the steps of a mkdir tell, together.
+use Rattle.std.proofs.Common.{ℕ, ◌≡◌, ◌⊎◌, inl, inr, List, Result, Ok, Err, arith, refl, sym, ap, subst, ◌∙◌}
+use Rattle.std.specs.Prelude.{IfErr, is_err}
+use Rattle.lfs_device.specs.declared.error.Error.{Error}
+use Rattle.lfs_device.specs.declared.error.Error.TheVariants.{Io, NoMemory, NoSpace}
+use Rattle.lfs_model.specs.BlockSets.{BlockSets}
+use Rattle.lfs_model.specs.History.{faults}
+use Rattle.lfs_thread.specs.Kept.{Kept, State}
+use Rattle.lfs_thread.specs.Steps.{HasReportedBeside}
+use Rattle.lfs_operations.specs.Changing.{Reports, has_failed}
+use Rattle.lfs_operations.specs.Making.{ReportsOfSteps}
+use Rattle.lfs_operations.proofs.Putting.{with_map}
+
+same_err : {A : Type 0} (a b : Error) (r : Result A Error) → r ≡ Err a → r ≡ Err b → a ≡ b
+same_err a b r h k = cc
+
+-- the same answer, passed on
+pub reported_again : {X Y : Type 0} (bs : List ℕ) (old new : Kept) (e : Error) (result : Result X Error) (given : Result Y Error) → result ≡ Err e → given ≡ Err e → HasReportedBeside bs old new result
+    → HasReportedBeside bs old new given
+reported_again bs old new e result given is same reported = record {
+  errors = subst (λ r. IfErr r (λ x. (x ≡ Io) ⊎ (x ≡ NoMemory))) (sym same) (subst (λ r. IfErr r (λ x. (x ≡ Io) ⊎ (x ≡ NoMemory))) is reported.errors);
+  fault = λ io. reported.fault (is ∙ ap Err (same_err e Io given same io));
+  no_fault = λ other. reported.no_fault (λ io. other (same ∙ ap Err (same_err e Io result is io)));
+  beside = λ none. reported.beside (is ∙ ap Err (same_err e NoMemory given same none));
+}
+
+-- the first step failed
+pub reports_first : {X : Type 0} (old new : State) (sets : BlockSets) (bs : List ℕ) (result : Result X Error) → new.failed ≡ is_err result → HasReportedBeside bs (with_map old.kept sets) new.kept result
+    → ReportsOfSteps old new result
+reports_first old new sets bs result failed reported = record { failed = failed; errors = reported.errors; fault = reported.fault; no_fault = reported.no_fault }
+
+-- the second one tells, and never that there is no space
+pub reports_second : {X : Type 0} (old mid new : State) (result : Result X Error) → faults mid.kept.history ≡ faults old.kept.history → (result ≡ Err NoSpace → ⊥) → Reports mid new result → ReportsOfSteps old new result
+reports_second {X = X} old mid new result same room reported = record {
+  failed = reported.failed ∙ failing result room reported.reports.errors;
+  errors = narrow result room reported.reports.errors;
+  fault = λ io. (let k = reported.reports.fault io in omega (arith, k, same));
+  no_fault = λ other. reported.reports.no_fault other ∙ same;
+}
+  where
+    narrow : (r : Result X Error) → (r ≡ Err NoSpace → ⊥) → IfErr r (λ e. (e ≡ Io) ⊎ ((e ≡ NoMemory) ⊎ (e ≡ NoSpace))) → IfErr r (λ e. (e ≡ Io) ⊎ (e ≡ NoMemory))
+    narrow (Ok x) n h = h
+    narrow (Err e) n (inl h) = inl h
+    narrow (Err e) n (inr (inl h)) = inr h
+    narrow (Err e) n (inr (inr h)) = absurd (n (ap Err h))
+
+    failing : (r : Result X Error) → (r ≡ Err NoSpace → ⊥) → IfErr r (λ e. (e ≡ Io) ⊎ ((e ≡ NoMemory) ⊎ (e ≡ NoSpace))) → has_failed r ≡ is_err r
+    failing (Ok x) n h = refl
+    failing (Err e) n (inl h) = ap (λ (k : Error). has_failed {X = X} (Err k)) h
+    failing (Err e) n (inr (inl h)) = ap (λ (k : Error). has_failed {X = X} (Err k)) h
+    failing (Err e) n (inr (inr h)) = absurd (n (ap Err h))

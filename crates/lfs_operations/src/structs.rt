@@ -1,0 +1,44 @@
+// Structs of files, which are set.
+
+ghost use Rattle.std.specs.Prelude.{◌≡◌, ◌∷◌, [], false, OnOk};
+ghost use Rattle.lfs_model.specs.Changes.{PutStruct};
+ghost use Rattle.lfs_model.specs.PowerLoss.{Survives};
+ghost use Rattle.lfs_model.specs.Shown.{tree_in};
+ghost use Rattle.lfs_operations.specs.Changing.{ReportsPut, WritesIn};
+ghost use Rattle.lfs_operations.specs.Storing.{CanStore, IsStructSet, with_contents_at};
+
+use crate::changes::put;
+use lfs_device::{BlockDevice, Error};
+use lfs_pair::Change;
+use lfs_thread::Thread;
+use std::alloc::Global;
+
+/// Sets the struct of the file at the id of a pair: its bytes themselves, or the head and the size
+/// of a list that is on the device (SPEC.md of littlefs, "0x2xx LFS_TYPE_STRUCT"). A pair without
+/// room for it is split into itself and two free blocks.
+///
+/// The map isn't changed for the lists: the new list's blocks that were in flight stay so, and
+/// blocks that only the old list has stay used. The caller settles them.
+///
+/// Errors are those of [`create`](crate::create).
+pub fn set_struct<D: BlockDevice>(
+    alloc: Global,
+    thread: &mut Thread<D>,
+    pair: usize,
+    id: u16,
+    kind: u16,
+    bytes: &[u8],
+) -> Result<(), Error>
+    requires works { thread.old.failed ≡ false }
+    requires can { CanStore thread.old.kept pair id kind bytes.now }
+    ensures is_stored { OnOk result ((store : CanStore thread.old.kept pair id kind bytes.now)
+        → IsStructSet thread.old.kept thread.new.kept store.can.path store.can.name store.contents store.gone store.come) }
+    ensures errors { ReportsPut thread.old thread.new pair (PutStruct id kind bytes.now ∷ []) result }
+    ensures device { WritesIn thread.old.kept pair thread.new.kept }
+    ensures survives { (store : CanStore thread.old.kept pair id kind bytes.now) → Survives thread.old.kept.disk thread.old.kept.history thread.new.kept.history
+        (tree_in thread.old.kept.disk thread.old.kept.pairs) (with_contents_at thread.old.kept store.can.path store.can.name store.contents) }
+{
+    let changes = [Change::Struct { id, kind, bytes }];
+    put(alloc, thread, pair, &changes)?;
+    Ok(())
+}

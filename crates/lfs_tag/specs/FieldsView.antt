@@ -1,0 +1,18 @@
+-- The fields of the code, in the words of the definitions.
+use Rattle.lfs_model.specs.Slots.{Gstate, address_of}
+use Rattle.lfs_model.specs.EntryTypes.{SuperblockFields}
+use Rattle.lfs_tag.specs.declared.fields.Superblock.{Superblock}
+use Rattle.lfs_tag.specs.declared.fields.MoveState.{MoveState}
+
+abbrev pub superblock_view : Superblock → SuperblockFields
+superblock_view s = record {
+  version = s.version;
+  block_size = s.block_size;
+  block_count = s.block_count;
+  name_max = s.name_max;
+  file_max = s.file_max;
+  attr_max = s.attr_max;
+}
+
+abbrev pub move_view : MoveState → Gstate
+move_view m = record { sync = m.sync; kind = m.kind; id = m.id; pair = address_of m.pair }

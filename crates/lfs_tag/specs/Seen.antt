@@ -1,6 +1,0 @@
--- An entry, without where it lies in memory.
-use Rattle.lfs_tag.specs.declared.entry.Entry.{Entry}
-use Rattle.lfs_model.specs.Log.{LogEntry}
-
-abbrev pub seen : Entry → LogEntry
-seen e = record { tag = e.tag; bytes = e.bytes.now }

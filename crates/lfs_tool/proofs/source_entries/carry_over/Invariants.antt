@@ -1,0 +1,7 @@
+use Rattle.std.proofs.Common.{take}
+use Rattle.lfs_fs.specs.Held.{system_state_of}
+use Rattle.lfs_tool.specs.Applied.{AreAllAccepted, operations_of_all}
+use Rattle.lfs_tool.proofs.source_entries.carry_over.Given as goal
+
+abbrev pub invariant-loop-entry : goal.invariant-loop-entry
+invariant-loop-entry l = AreAllAccepted (system_state_of l.initial.session) (operations_of_all (take l.entry-index l.entries)) (system_state_of l.session)

@@ -1,0 +1,21 @@
+-- What callers see of an excerpt, and of a cutter.
+use Rattle.std.specs.Prelude.{ℕ, List, length}
+use Rattle.lfs_device.specs.declared.geometry.Geometry.{Geometry}
+use Rattle.lfs_model.specs.Blocks.{Blocks}
+use Rattle.lfs_model.specs.History.{Event}
+use Rattle.lfs_tool.specs.declared.cutter.Cutter.{Cutter}
+use Rattle.lfs_tool.specs.declared.excerpt.Excerpt.{Excerpt}
+use Rattle.lfs_tool.specs.ExcerptBlocks.{blocks_shown}
+
+-- the size of the blocks that it cuts
+abbrev pub size_of : Cutter → ℕ
+size_of c = length c.padded.items
+
+abbrev pub geometry_of : Excerpt → Geometry
+geometry_of e = e.geometry
+
+abbrev pub excerpt_blocks : Excerpt → Blocks
+excerpt_blocks e = blocks_shown e.blocks.items
+
+abbrev pub history_of : Excerpt → List Event
+history_of e = e.trace.events

@@ -1,0 +1,72 @@
+// Entries of a source, carried over into an image.
+
+ghost use Rattle.std.specs.Prelude.{[], ◌≡◌, ◌≢◌, IfErr, OnOk};
+ghost use Rattle.lfs_model.specs.Fresh.{IsFresh, empty_tree};
+ghost use Rattle.lfs_model.specs.Listing.{new_file_flags, operations_for};
+ghost use Rattle.lfs_model.specs.State.{Healthy, mounted};
+ghost use Rattle.lfs_model.specs.Tree.{FileNode};
+ghost use Rattle.lfs_fs.specs.FlagsView.{flags_view};
+ghost use Rattle.lfs_fs.specs.Held.{system_state_of};
+ghost use Rattle.lfs_tool.specs.Applied.{AreAllAccepted, AppliesAll, HasNoFile, IsFirstRefusal, operations_of, operations_of_all};
+
+use bitflags::Flags;
+use lfs_device::{Error, RamDevice};
+use lfs_fs::{OpenFlags, Session};
+use lfs_tool_folders::Entry;
+use std::alloc::Global;
+
+// How a file is opened that is to be made.
+fn for_new() -> OpenFlags
+    ensures { flags_view result ≡ new_file_flags }
+{
+    let mut flags = OpenFlags::WRITE;
+    flags.insert(OpenFlags::CREATE);
+    flags
+}
+
+// Makes a file with these bytes.
+fn put_file(
+    alloc: Global,
+    session: &mut Session<RamDevice>,
+    path: &[u8],
+    bytes: &[u8],
+) -> Result<(), Error>
+    requires { HasNoFile (system_state_of session.old) }
+    ensures { AppliesAll (system_state_of session.old) (operations_for path.now (FileNode [] bytes.now)) result (system_state_of session.new) }
+{
+    let fd = session.open(alloc, path, for_new())?;
+    session.write(alloc, fd, bytes)?;
+    session.close(alloc, fd)
+}
+
+// Makes a file with its bytes, or a folder without names.
+fn carry(alloc: Global, session: &mut Session<RamDevice>, entry: &Entry) -> Result<(), Error>
+    requires { HasNoFile (system_state_of session.old) }
+    ensures { AppliesAll (system_state_of session.old) (operations_of entry.now) result (system_state_of session.new) }
+{
+    match &entry.bytes {
+        Some(bytes) => put_file(alloc, session, &entry.path, bytes),
+        None => session.mkdir(alloc, &entry.path),
+    }
+}
+
+// Carries the entries over in turn, up to the first that is refused.
+pub(crate) fn carry_over(
+    alloc: Global,
+    session: &mut Session<RamDevice>,
+    entries: &[Entry],
+) -> Result<(), Error>
+    requires fresh { IsFresh (system_state_of session.old).disk }
+    requires mounts { (system_state_of session.old).state ≡ Healthy (mounted empty_tree) }
+    ensures carried { OnOk result (AreAllAccepted (system_state_of session.old) (operations_of_all entries.now) (system_state_of session.new)) }
+    ensures refused { IfErr result (λ e. e ≢ Error.NoMemory → IsFirstRefusal (system_state_of session.old) (operations_of_all entries.now) e) }
+{
+    for entry in entries {
+        if let Err(error) = carry(alloc, session, entry) {
+            // The device has met no fault, so memory ran out where nothing was refused.
+            let _device = session.device();
+            return Err(error);
+        }
+    }
+    Ok(())
+}

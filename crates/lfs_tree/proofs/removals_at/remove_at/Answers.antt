@@ -1,0 +1,49 @@
+use Rattle.std.proofs.Common.{subst, sym}
+use Rattle.std.proofs.lemmas.Result.{err_from_is_err_and}
+use Rattle.lfs_model.specs.TreeEdits.{removed}
+use Rattle.lfs_model.specs.Shown.{tree_in}
+use Rattle.lfs_operations.specs.MovingSteps.{WritesAmong}
+use Rattle.lfs_tree.specs.Carrying.{SurvivesTo}
+use Rattle.lfs_tree.specs.Going.{CanGo, HasGone, HasSpared}
+use Rattle.lfs_tree.proofs.Carried.{read_is}
+use Rattle.lfs_tree.proofs.CarryFreed.{ok_then}
+use Rattle.lfs_tree.proofs.CarryGone.{can_go, entry_on, entry_to_remove, remove_does}
+use Rattle.lfs_tree.proofs.Operated.{only_read_change, works_reported}
+use Rattle.lfs_lookup.proofs.Reading.{answered, passed}
+use Rattle.lfs_tree.proofs.removals_at.remove_at.Goals as goal
+
+pub take_found-requires-clause-can : goal.take_found-requires-clause-can
+take_found-requires-clause-can g c =
+    let t = c.args.thread.now in
+    let mid = c.find_target.new.thread in
+    let found = c.in_ok-target.target.found in
+    let entry = entry_on t.kept c.args.path.now found (entry_to_remove t.kept c.args.path.now c.requires.can) c.in_ok-target.ensures.target.leads in (
+      c.args.path.now,
+      subst (λ k. CanGo k c.args.path.now found) (sym (read_is t.kept mid.kept c.find_target.ensures.reading.only))
+          (can_go t c.args.root c.requires.rests c.args.path.now c.know_device.ensures.large c.know_device.ensures.bytes c.requires.can mid.kept.history found entry),
+    )
+
+pub returns-in_err-target : goal.returns-in_err-target
+returns-in_err-target g c =
+    let p = err_from_is_err_and c.from_residual.result c.from_residual.ensures.1 in
+    only_read_change c.args.thread.now c.args.root c.requires.rests c.find_target.new.thread _ _ c.from_residual.result p.0 p.1
+    (passed _ _ c.find_target.result c.from_residual.result _ p.0 c.in_err-target.was p.1 p.2 c.find_target.ensures.reading)
+
+pub returns : goal.returns
+returns g c =
+    let t = c.args.thread.now in
+    let mid = c.find_target.new.thread in
+    let new = c.take_found.new.thread in
+    let path = c.args.path.now in
+    let found = c.in_ok-target.target.found in
+    let entry = entry_on t.kept path found (entry_to_remove t.kept path c.requires.can) c.in_ok-target.ensures.target.leads in
+    let can = can_go t c.args.root c.requires.rests path c.know_device.ensures.large c.know_device.ensures.bytes c.requires.can mid.kept.history found entry in
+    let read = answered t mid c.find_target.result c.in_ok-target.target c.in_ok-target.was c.find_target.ensures.reading in
+    let is = read_is t.kept mid.kept read.only in
+    let e = c.take_found.ensures in
+    let old = subst (λ k. CanGo k path found) (sym is) can in
+    let gone = ok_then c.take_found.result _ _ (λ h. subst (λ k. HasGone k path new.kept) is (h path old)) e.gone in
+    let spared = ok_then c.take_found.result _ _ (λ h. subst (λ k. HasSpared k path new.kept) is (h path old)) e.alone in
+    remove_does t c.args.root c.requires.rests path mid.kept.history new read.only.reads (subst (λ k. WritesAmong k new.kept) is e.device) c.take_found.result c.know_bytes.ensures.0 c.know_bytes.ensures.1
+    read.same gone spared (record { errors = e.errors.errors; fault = e.errors.fault; no_fault = e.errors.no_fault }) (works_reported new c.take_found.result e.errors.failed)
+    (subst (λ k. SurvivesTo k new.kept (removed path (tree_in k.disk k.pairs))) is (e.survives path old))

@@ -1,0 +1,209 @@
+// Entries at paths that get another one, in a thread of which nothing is to be recovered.
+
+ghost use Rattle.std.specs.Prelude.{◌≡◌, ◌≢◌, false, true, OnOk};
+ghost use Rattle.lfs_model.specs.TreeEdits.{renamed, same_path};
+ghost use Rattle.lfs_model.specs.Tree.{Path};
+ghost use Rattle.lfs_model.specs.Shown.{tree_in};
+ghost use Rattle.lfs_operations.specs.MovingSteps.{WritesAmong};
+ghost use Rattle.lfs_tree.specs.Allowed.{CanRename};
+ghost use Rattle.lfs_tree.specs.Calls as call;
+ghost use Rattle.lfs_tree.specs.Carrying.{IsAtRest, IsOperationOn, SurvivesTo};
+ghost use Rattle.lfs_tree.specs.CarryingSlots.{has_slot};
+ghost use Rattle.lfs_tree.specs.Held.{tree_state_of};
+ghost use Rattle.lfs_tree.specs.Shifting.{CanShiftFound, CanShiftOnto, CanShiftOver, CanShiftTo, HasShifted, HasShiftedOnto, IsSourceIn, ReportsOfWork};
+
+use crate::entries_at::{find_target, know_device};
+use crate::removals_at::free_list;
+use lfs_device::{BlockDevice, Error};
+use lfs_lookup::{Contents, Found, Path, Spot};
+use lfs_operations::{
+    rename, rename_across, rename_onto_directory, rename_onto_directory_across, rename_onto_file,
+    rename_onto_file_across,
+};
+use lfs_thread::Thread;
+use std::alloc::Global;
+
+// An entry's slot, and the number of the first pair of its directory.
+#[derive(Clone, Copy, Drop)]
+pub(crate) struct Source {
+    pub(crate) slot: Spot,
+    pub(crate) first: usize,
+}
+
+// The slot of an entry that is found.
+fn source_in(found: Found) -> Source
+    requires { has_slot found ≡ true }
+    ensures { IsSourceIn found result }
+{
+    match found {
+        Found::Directory { parent, slot, .. } | Found::File { parent, slot, .. } => Source {
+            slot,
+            first: parent,
+        },
+        _ => unreachable!(),
+    }
+}
+
+// Gives an entry a name that isn't there, and belongs at the place.
+fn move_to<D: BlockDevice>(
+    alloc: Global,
+    thread: &mut Thread<D>,
+    source: Source,
+    place: Spot,
+    name: &[u8],
+) -> Result<(), Error>
+    requires works { thread.old.failed ≡ false }
+    requires can { (from to : Path) × CanShiftTo thread.old.kept from to source place name.now }
+    ensures shifted { OnOk result ((from to : Path) → CanShiftTo thread.old.kept from to source place name.now → HasShifted thread.old.kept from to thread.new.kept) }
+    ensures errors { ReportsOfWork thread.old thread.new result }
+    ensures device { WritesAmong thread.old.kept thread.new.kept }
+    ensures survives { (from to : Path) → CanShiftTo thread.old.kept from to source place name.now → SurvivesTo thread.old.kept thread.new.kept (renamed from to (tree_in thread.old.kept.disk thread.old.kept.pairs)) }
+{
+    let Source { slot, first } = source;
+    if slot.pair == place.pair {
+        rename(alloc, thread, slot.pair, slot.id, place.id, name)
+    } else {
+        rename_across(
+            alloc, thread, slot.pair, slot.id, first, place.pair, place.id, name,
+        )
+    }
+}
+
+// Puts an entry in the place of a file, whose list is left in the map.
+fn replace_file<D: BlockDevice>(
+    alloc: Global,
+    thread: &mut Thread<D>,
+    source: Source,
+    slot: Spot,
+    _contents: Contents,
+    name: &[u8],
+) -> Result<(), Error>
+    requires works { thread.old.failed ≡ false }
+    requires can { (from to : Path) × CanShiftOnto thread.old.kept from to source slot _contents name.now }
+    ensures shifted { OnOk result ((from to : Path) → CanShiftOnto thread.old.kept from to source slot _contents name.now → HasShiftedOnto thread.old.kept from to _contents thread.new.kept) }
+    ensures errors { ReportsOfWork thread.old thread.new result }
+    ensures device { WritesAmong thread.old.kept thread.new.kept }
+    ensures survives { (from to : Path) → CanShiftOnto thread.old.kept from to source slot _contents name.now → SurvivesTo thread.old.kept thread.new.kept (renamed from to (tree_in thread.old.kept.disk thread.old.kept.pairs)) }
+{
+    let from = source.slot;
+    if from.pair == slot.pair {
+        rename_onto_file(alloc, thread, from.pair, from.id, slot.id, name)
+    } else {
+        rename_onto_file_across(
+            alloc,
+            thread,
+            from.pair,
+            from.id,
+            source.first,
+            slot.pair,
+            slot.id,
+            name,
+        )
+    }
+}
+
+// Puts an entry in the place of a file.
+fn move_onto_file<D: BlockDevice>(
+    alloc: Global,
+    thread: &mut Thread<D>,
+    source: Source,
+    slot: Spot,
+    contents: Contents,
+    name: &[u8],
+) -> Result<(), Error>
+    requires works { thread.old.failed ≡ false }
+    requires can { (from to : Path) × CanShiftOnto thread.old.kept from to source slot contents name.now }
+    ensures shifted { OnOk result ((from to : Path) → CanShiftOnto thread.old.kept from to source slot contents name.now → HasShifted thread.old.kept from to thread.new.kept) }
+    ensures errors { ReportsOfWork thread.old thread.new result }
+    ensures device { WritesAmong thread.old.kept thread.new.kept }
+    ensures survives { (from to : Path) → CanShiftOnto thread.old.kept from to source slot contents name.now → SurvivesTo thread.old.kept thread.new.kept (renamed from to (tree_in thread.old.kept.disk thread.old.kept.pairs)) }
+{
+    replace_file(alloc, thread, source, slot, contents, name)?;
+    free_list(alloc, thread, contents)
+}
+
+// Puts an entry in the place of a directory without entries, whose own pair has number `gone`.
+fn move_onto_directory<D: BlockDevice>(
+    alloc: Global,
+    thread: &mut Thread<D>,
+    source: Source,
+    slot: Spot,
+    gone: usize,
+    name: &[u8],
+) -> Result<(), Error>
+    requires works { thread.old.failed ≡ false }
+    requires can { (from to : Path) × CanShiftOver thread.old.kept from to source slot gone name.now }
+    ensures shifted { OnOk result ((from to : Path) → CanShiftOver thread.old.kept from to source slot gone name.now → HasShifted thread.old.kept from to thread.new.kept) }
+    ensures errors { ReportsOfWork thread.old thread.new result }
+    ensures device { WritesAmong thread.old.kept thread.new.kept }
+    ensures survives { (from to : Path) → CanShiftOver thread.old.kept from to source slot gone name.now → SurvivesTo thread.old.kept thread.new.kept (renamed from to (tree_in thread.old.kept.disk thread.old.kept.pairs)) }
+{
+    let from = source.slot;
+    if from.pair == slot.pair {
+        rename_onto_directory(alloc, thread, from.pair, from.id, slot.id, name, gone)
+    } else {
+        rename_onto_directory_across(
+            alloc,
+            thread,
+            from.pair,
+            from.id,
+            source.first,
+            slot.pair,
+            slot.id,
+            name,
+            gone,
+        )
+    }
+}
+
+// Gives an entry the path at which that was found.
+fn move_found<D: BlockDevice>(
+    alloc: Global,
+    thread: &mut Thread<D>,
+    source: Source,
+    found: Found,
+    name: &[u8],
+) -> Result<(), Error>
+    requires works { thread.old.failed ≡ false }
+    requires can { (from to : Path) × CanShiftFound thread.old.kept from to source found name.now }
+    ensures shifted { OnOk result ((from to : Path) → CanShiftFound thread.old.kept from to source found name.now → HasShifted thread.old.kept from to thread.new.kept) }
+    ensures errors { ReportsOfWork thread.old thread.new result }
+    ensures device { WritesAmong thread.old.kept thread.new.kept }
+    ensures survives { (from to : Path) → CanShiftFound thread.old.kept from to source found name.now → SurvivesTo thread.old.kept thread.new.kept (renamed from to (tree_in thread.old.kept.disk thread.old.kept.pairs)) }
+{
+    match found {
+        Found::Nothing { place, .. } => move_to(alloc, thread, source, place, name),
+        Found::File { slot, contents, .. } => {
+            move_onto_file(alloc, thread, source, slot, contents, name)
+        }
+        Found::Directory { slot, first, .. } => {
+            move_onto_directory(alloc, thread, source, slot, first, name)
+        }
+        _ => unreachable!(),
+    }
+}
+
+// Gives an entry another path, at which nothing is, a file, or a directory without entries.
+//
+// `Io` where a call of the device failed, and `NoMemory` where memory isn't granted.
+pub(crate) fn rename_at<D: BlockDevice>(
+    alloc: Global,
+    thread: &mut Thread<D>,
+    root: usize,
+    from: &Path<'_>,
+    to: &Path<'_>,
+) -> Result<(), Error>
+    requires rests { IsAtRest thread.old root }
+    requires can { CanRename (tree_state_of thread.old.kept true false) from.now to.now }
+    requires apart { same_path from.now to.now ≡ false }
+    ensures { IsOperationOn thread.old (call.Rename from.now to.now) result thread.new }
+{
+    from.know_bytes();
+    to.know_bytes();
+    to.know_names();
+    know_device(thread);
+    let entry = find_target(alloc, thread, root, from)?;
+    let source = source_in(entry.found);
+    let target = find_target(alloc, thread, root, to)?;
+    move_found(alloc, thread, source, target.found, target.name)
+}

@@ -1,0 +1,28 @@
+use Rattle.std.proofs.Common.{rules, sym, subst}
+use Rattle.lfs_model.specs.Blocks.{Blocks}
+use Rattle.lfs_writer.specs.Owned.{AreOwned, blocks_in}
+use Rattle.lfs_writer.specs.declared.stored.Stored.{Stored}
+use Rattle.lfs_writer.proofs.Owning.{owned_all}
+use Rattle.lfs_writer.proofs.Called.{used_read}
+use Rattle.lfs_writer.proofs.other_places.turn_to.Goals as goal
+
+pub returns-in_err-hand-clause-device : goal.returns-in_err-hand-clause-device
+returns-in_err-hand-clause-device g c = used_read g.D.BlockDevice c.end_hand.ensures.device c.begin_over.ensures.device
+
+pub returns-clause-device : goal.returns-clause-device
+returns-clause-device g c = used_read g.D.BlockDevice c.end_hand.ensures.device c.begin_over.ensures.device
+
+pub returns-then-size-place-clause-over : goal.returns-then-size-place-clause-over
+returns-then-size-place-clause-over g c = record { over = search rules; owned = owned_all _ _ }
+
+pub returns-clause-over : goal.returns-clause-over
+returns-clause-over g c =
+    let hand = c.args.hand in
+    let d = g.D.BlockDevice.blocks c.args.dev.now in
+    let n = (g.D.BlockDevice.geometry c.args.dev.now).block_size in
+    let m = c.end_hand.new.map in
+    record {
+      over = search rules;
+      owned = subst (λ (x : Blocks). AreOwned m (blocks_in d n hand.base) (blocks_in x n c.in_ok-hand.hand.base)) (sym c.begin_over.ensures.device.same)
+          (subst (λ (v : Stored). AreOwned m (blocks_in d n hand.base) (blocks_in (g.D.BlockDevice.blocks c.end_hand.new.dev) n v)) (sym c.in_ok-hand.ensures.base) c.in_ok-base.ensures.own.owned);
+    }

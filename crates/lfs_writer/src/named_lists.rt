@@ -1,0 +1,106 @@
+// Lists that a commit names.
+
+ghost use Rattle.std.specs.Prelude.{◌≡◌, ◌≤◌, ◌<◌, ◌+◌, ◌-◌, ◌*◌, ◌∷◌, ◌++◌, ℕ, [], drop, length, OnOk};
+ghost use Rattle.lfs_device.specs.Calls.{ReadsOnly};
+ghost use Rattle.lfs_model.specs.BlockSets.{Used};
+ghost use Rattle.lfs_model.specs.History.{reads};
+ghost use Rattle.lfs_model.specs.SkipLists.{AreListBlocks, blocks_back};
+ghost use Rattle.lfs_ctz.specs.Calls.{ReportsIo};
+ghost use Rattle.lfs_writer.specs.Based.{IsBase, list_blocks};
+ghost use Rattle.lfs_writer.specs.Settled.{IsMapSettled, KeepsOthers, Puts, SharesUsed, settled_as};
+ghost use Rattle.lfs_writer.specs.Shared.{IsSharedCount, apart_count};
+
+use crate::sharing::shared_count;
+use crate::stored::Stored;
+use lfs_alloc::BlockMap;
+use lfs_ctz::{blocks_for, head_before};
+use lfs_device::{BlockDevice, Error};
+
+// Makes a block used, whatever it was.
+fn use_one(map: &mut BlockMap, block: u32)
+    requires { block < length map.old }
+    ensures { Puts Used map.old map.new (block ∷ []) }
+{
+    if map.is_in_flight(block) {
+        map.settle(block);
+        return;
+    }
+    map.mark(block);
+}
+
+// Makes a block used, or free.
+fn put_one(map: &mut BlockMap, block: u32, used: bool)
+    requires { block < length map.old }
+    ensures { Puts (settled_as used) map.old map.new (block ∷ []) }
+{
+    if used {
+        use_one(map, block);
+        return;
+    }
+    map.release(block);
+}
+
+// Makes each block of a list from an index on used, or free, the last one first.
+fn put_blocks<D: BlockDevice>(
+    dev: &mut D,
+    map: &mut BlockMap,
+    head: u32,
+    count: u32,
+    from: u32,
+    used: bool,
+) -> Result<(), Error>
+    requires chain { AreListBlocks (D.blocks dev.old) count head }
+    requires map { length map.old ≡ length (D.blocks dev.old) }
+    requires within { from ≤ count }
+    ensures put { OnOk result (Puts (settled_as used) map.old map.new (drop from (blocks_back (D.blocks dev.old) count head))) }
+    ensures others { KeepsOthers map.old map.new (blocks_back (D.blocks dev.old) count head) }
+    ensures device { ReadsOnly D.BlockDevice dev.old dev.new }
+    ensures reports { ReportsIo D.BlockDevice dev.old dev.new result }
+    ensures few { OnOk result (reads (D.history dev.new) ≤ reads (D.history dev.old) + (count - from)) }
+{
+    let mut block = head;
+    let mut index = count;
+    'putting: while index > from {
+        put_one(map, block, used);
+        index -= 1;
+        block = head_before(dev, block, index - from)?;
+    }
+    Ok(())
+}
+
+/// Settles a finished list once a commit names it: its blocks are used, and those that only the
+/// list before it had are free. Blocks that both lists have are used before.
+///
+/// Either list may have no bytes, and then has no block. The blocks that they share at their
+/// beginnings aren't read, and each other one at most twice. After `Error::Io`, which comes where the
+/// device failed, the map is of no use any more for these blocks: the image is to be read anew.
+pub fn settle_list<D: BlockDevice>(
+    dev: &mut D,
+    map: &mut BlockMap,
+    before: Stored,
+    stored: Stored,
+) -> Result<(), Error>
+    requires before { IsBase (D.blocks dev.old) (D.geometry dev.old).block_size before.head before.size }
+    requires stored { IsBase (D.blocks dev.old) (D.geometry dev.old).block_size stored.head stored.size }
+    requires map { length map.old ≡ length (D.blocks dev.old) }
+    requires shared { SharesUsed map.old (list_blocks (D.blocks dev.old) (D.geometry dev.old).block_size before.head before.size)
+        (list_blocks (D.blocks dev.old) (D.geometry dev.old).block_size stored.head stored.size) }
+    ensures settled { OnOk result (IsMapSettled map.old map.new (list_blocks (D.blocks dev.old) (D.geometry dev.old).block_size before.head before.size)
+        (list_blocks (D.blocks dev.old) (D.geometry dev.old).block_size stored.head stored.size)) }
+    ensures others { KeepsOthers map.old map.new (list_blocks (D.blocks dev.old) (D.geometry dev.old).block_size before.head before.size
+        ++ list_blocks (D.blocks dev.old) (D.geometry dev.old).block_size stored.head stored.size) }
+    ensures device { ReadsOnly D.BlockDevice dev.old dev.new }
+    ensures reports { ReportsIo D.BlockDevice dev.old dev.new result }
+    ensures few { (n : ℕ) → IsSharedCount (list_blocks (D.blocks dev.old) (D.geometry dev.old).block_size before.head before.size)
+        (list_blocks (D.blocks dev.old) (D.geometry dev.old).block_size stored.head stored.size) n
+        → OnOk result (reads (D.history dev.new) ≤ reads (D.history dev.old) + 2 * apart_count (list_blocks (D.blocks dev.old) (D.geometry dev.old).block_size before.head before.size)
+        (list_blocks (D.blocks dev.old) (D.geometry dev.old).block_size stored.head stored.size) n) }
+{
+    let block_size = dev.geometry().block_size;
+    let gone = blocks_for(block_size, before.size);
+    let kept = blocks_for(block_size, stored.size);
+    let shared = shared_count(dev, before.head, gone, stored.head, kept)?;
+    put_blocks(dev, map, before.head, gone, shared, false)?;
+    put_blocks(dev, map, stored.head, kept, shared, true)?;
+    Ok(())
+}

@@ -161,13 +161,15 @@ fresh_begins from fresh mounts =
 pub mount_begins : (disk : Disk) (at : SystemState) → IsMounted disk at → AgreesWithDisk at
 mount_begins disk at m = record { session = mounted m.tree; healthy = m.healthy; shows = subst (λ d. Shows d (Some m.tree)) (sym m.on) m.shows }
 
--- with a remount, also of a session that had failed
-pub remount_begins : (from to : SystemState) → IsSessionStep from ops.Remount ops.Done to → AgreesWithDisk to
-remount_begins from to turn = true_from to (go turn.answered.shown turn.answered.answers) turn.agrees
+-- a remount is a mount, also of a session that had failed
+pub remount_mounts : (from to : SystemState) → IsSessionStep from ops.Remount ops.Done to → IsMounted to.disk to
+remount_mounts from to turn = go turn.answered.shown turn.answered.answers
   where
-    go : (shown : Option Tree) → remounted shown ≡ (Some ops.Done, to.state) → IsHealthy to.state
+    go : (shown : Option Tree) → remounted shown ≡ (Some ops.Done, to.state) → IsMounted to.disk to
     go None e = absurd (let k = ap (λ (z : Option Reply × State). z.0) e in cc)
-    go (Some tree) e = subst IsHealthy (ap (λ (z : Option Reply × State). z.1) e) tt
+    go (Some tree) e =
+        let healthy = sym (ap (λ (z : Option Reply × State). z.1) e) in
+        record { on = refl; tree = tree; shows = subst (Agrees to.disk) healthy turn.agrees; healthy = healthy }
 
 -- ---- from a fresh disk
 

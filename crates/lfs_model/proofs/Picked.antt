@@ -2,7 +2,7 @@
 use mathlib.Core.Path.{refl, sym, subst}
 use mathlib.Core.List.{List, [], ◌∷◌, ◌++◌}
 use seplogic.Ra.Ura.{Ura}
-use mir.Syntax.{Callee, Fn, Sym, Ty, a_type, aggregate, assign, imm, local, named, place, return, seq, tnil, ty_param, ty_ref, ty_struct, value_local}
+use mir.Syntax.{Callee, Fn, Sym, a_type, aggregate, assign, imm, local, named, place, return, seq, tnil, ty_param, ty_ref, ty_struct, value_local}
 use mir.Val.{Val, vptr, vstruct, vnil}
 use mir.MapTy.{inst_fn}
 use base.Logic.{SProp, ent, emp, via, fst∗, snd∗}
@@ -23,7 +23,7 @@ use denote.Exit.{yes}
 use denote.Laws.{Are, Ises, owns_show, showss}
 use denote.Param.{param, layouts}
 use denote.Builtin.{RefOf}
-use denote.Signature.{Signature, types_at, type_at, plain}
+use denote.Signature.{Signature, types_at, plain}
 use denote.Steps.{nothing}
 use denote.Triple.Clauses.{AtExit, Clauses, Ended, closing}
 use denote.Triple.Entry.{Args, on_entry, alive}

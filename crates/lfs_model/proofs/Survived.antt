@@ -1,5 +1,5 @@
 -- What a loss of power in a run leaves, and what a mount and a recovery make of it. So it is for any number of them.
-use Rattle.std.proofs.Common.{◌≡◌, ◌⊎◌, inl, inr, ℕ, true, not, List, [], ◌∷◌, ◌++◌, Option, Some, None, refl, sym, ap, ap₂, subst, ◌∙◌, append_assoc, append-nil}
+use Rattle.std.proofs.Common.{◌≡◌, ◌⊎◌, inl, inr, ℕ, true, not, List, [], ◌∷◌, ◌++◌, Option, Some, None, refl, sym, ap, ap₂, subst, ◌∙◌, append_assoc}
 use Rattle.std.specs.Prelude.{Any}
 use Rattle.std.proofs.lemmas.Option.{same_Some}
 use Rattle.std.proofs.lemmas.List.{append_cancel_right}
@@ -23,7 +23,7 @@ use Rattle.lfs_model.specs.Headline.{AgreesWithDisk}
 use Rattle.lfs_model.specs.Stops.{Stops, ErasesCleanly}
 use Rattle.lfs_model.specs.PowerLoss.{IsLeftByStop, with_blocks, IsAtWork, SurvivesLoss}
 use Rattle.lfs_model.specs.Performed.{IsPerformed, ArePerformed, IsRun}
-use Rattle.lfs_model.specs.RepeatedPowerLoss.{IsMounted, SameBytes, IsRestored, IsSafe, IsStoppedSince, IsStopped, Ends, IsCutAt, tree_behind, IsSurvived, LosesPowerRepeatedly, AreSurvived, MayLosePower, SurvivesPowerLoss}
+use Rattle.lfs_model.specs.RepeatedPowerLoss.{IsMounted, SameBytes, IsRestored, IsSafe, IsStoppedSince, IsStopped, IsCutIn, IsCutAtEnd, IsCutAmong, IsSurvived, LosesPowerRepeatedly, AreSurvived, MayLosePower, SurvivesPowerLoss}
 use Rattle.lfs_model.specs.History.{Event, EachEvent, EachSince, LeavesOnly}
 use Rattle.lfs_model.specs.ReadBounds.{if_accepted}
 use Rattle.lfs_model.proofs.AfterStops.{left_before}
@@ -162,77 +162,34 @@ stop_leaves from to op s ps around left agrees work survives_loss cleanly stop =
 
 -- ---- a stop in a run
 
--- the disk that was left, from where it was cut
-survived : (from : SystemState) (operations : List Operation) (left : Disk) (cut : IsCutAt from operations left) → IsLeftByStop left cut.session.tree (tree_behind cut.around cut.session cut.others) → IsSurvived from operations left
-survived from operations left cut k = record { cut = cut; tree = tree_in left k.pairs; either = k.tree; safe = safe_with left k.pairs k.accepted k.writable }
+-- a disk that was left, with the tree that it has where it was cut
+record IsSurvivedWith (Cut : Tree → Type 0) (left : Disk) : Type 0 where
+  tree : Tree
+  cut : Cut tree
+  safe : IsSafe tree left
 
--- behind an operation more
-later : (from next : SystemState) (op : Operation) (reply : Reply) (operations : List Operation) (left : Disk) → IsSessionStep from op reply next → IsSurvived next operations left → IsSurvived from (op ∷ operations) left
-later from next op reply operations left turn k = record {
-  cut = record {
-    done = op ∷ k.cut.done;
-    others = k.cut.others;
-    are = ap (λ z. op ∷ z) k.cut.are;
-    replies = reply ∷ k.cut.replies;
-    at = k.cut.at;
-    session_steps = (next, (turn, k.cut.session_steps));
-    session = k.cut.session;
-    pairs = k.cut.pairs;
-    around = k.cut.around;
-    work = k.cut.work;
-    next = k.cut.next;
-    ends = k.cut.ends;
-    stop = k.cut.stop;
-  };
-  tree = k.tree;
-  either = k.either;
-  safe = k.safe;
-}
-
--- in the first operation
-first_cut : (from next : SystemState) (op : Operation) (others : List Operation) (left : Disk) → AgreesWithDisk from → IsInProfile from.disk → Ends from (op ∷ others) next → SurvivesLoss from op next →
-    EachSince ErasesCleanly from.calls next.calls → IsStopped from next left → IsSurvived from (op ∷ others) left
-first_cut from next op others left agrees profile ends survives_loss cleanly stop =
+-- in one operation
+in_one : (from next : SystemState) (op : Operation) (left : Disk) → AgreesWithDisk from → IsInProfile from.disk → SurvivesLoss from op next →
+    EachSince ErasesCleanly from.calls next.calls → IsStopped from next left → IsSurvivedWith (IsCutIn from op next left) left
+in_one from next op left agrees profile survives_loss cleanly stop =
     let work = at_work from agrees profile in
-    survived from (op ∷ others) left
-    (record {
-      done = [];
-      others = op ∷ others;
-      are = refl;
-      replies = [];
-      at = from;
-      session_steps = refl;
-      session = agrees.session;
-      pairs = profile.0;
-      around = around_of from.disk profile.0;
-      work = work;
-      next = next;
-      ends = ends;
-      stop = stop;
-    })
-    (stop_leaves from next op agrees.session profile.0 (around_of from.disk profile.0) left agrees work survives_loss cleanly stop)
+    let k = stop_leaves from next op agrees.session profile.0 (around_of from.disk profile.0) left agrees work survives_loss cleanly stop in
+    record {
+      tree = tree_in left k.pairs;
+      cut = record { stop = stop; session = agrees.session; pairs = profile.0; around = around_of from.disk profile.0; work = work; either = k.tree };
+      safe = safe_with left k.pairs k.accepted k.writable;
+    }
 
--- behind the last
-none_cut : (at : SystemState) (left : Disk) → AgreesWithDisk at → IsInProfile at.disk → IsStopped at at left → IsSurvived at [] left
-none_cut at left agrees profile stop =
+-- at the end
+at_end : (at : SystemState) (left : Disk) → AgreesWithDisk at → IsInProfile at.disk → IsStopped at at left → IsSurvivedWith (IsCutAtEnd at left) left
+at_end at left agrees profile stop =
     let work = at_work at agrees profile in
-    survived at [] left
-    (record {
-      done = [];
-      others = [];
-      are = refl;
-      replies = [];
-      at = at;
-      session_steps = refl;
-      session = agrees.session;
-      pairs = profile.0;
-      around = around_of at.disk profile.0;
-      work = work;
-      next = at;
-      ends = refl;
-      stop = stop;
-    })
-    (subst (λ d. IsLeftByStop d agrees.session.tree agrees.session.tree) (sym (here stop)) (stays at agrees.session profile.0 (around_of at.disk profile.0) agrees.session.tree agrees work))
+    let k = subst (λ d. IsLeftByStop d agrees.session.tree agrees.session.tree) (sym (here stop)) (stays at agrees.session profile.0 (around_of at.disk profile.0) agrees.session.tree agrees work) in
+    record {
+      tree = tree_in left k.pairs;
+      cut = record { stays = here stop; session = agrees.session; healthy = agrees.healthy; is = either_is k.tree };
+      safe = safe_with left k.pairs k.accepted k.writable;
+    }
   where
     here : IsStopped at at left → left ≡ at.disk
     here (inl e) = e
@@ -240,6 +197,10 @@ none_cut at left agrees profile stop =
         let none = append_cancel_right since.events [] at.calls (sym since.extends) in
         absurd (among_from (λ e. Stops e blocks) [] (subst (λ es. Any (λ e. Stops e blocks) es) none since.stopped))
     here (inr (inr (e, fails))) = e
+
+    either_is : {tree other : Tree} → (tree ≡ other) ⊎ (tree ≡ other) → tree ≡ other
+    either_is (inl e) = e
+    either_is (inr e) = e
 
 -- ---- where in the calls it was
 
@@ -268,10 +229,13 @@ same_blocks disk new blocks g =
 -- ---- the run
 
 -- one operation in front of others that are survived
-further : (before : Option Operation) (op : Operation) (reply : Reply) (others : List Operation) (from next to : SystemState) (left : Disk) → IsPerformed before from op reply next → EachSince IsAny next.calls to.calls →
-    (MayLosePower next to → IsStopped next to left → IsSurvived next others left) → MayLosePower from to → IsStopped from to left → IsSurvived from (op ∷ others) left
-further before op reply others from next to left one second last may stop = go stop
+further : (before : Option Operation) (op : Operation) (reply : Reply) (Others : Tree → Type 0) (from next to : SystemState) (left : Disk) → IsPerformed before from op reply next → EachSince IsAny next.calls to.calls →
+    (MayLosePower next to → IsStopped next to left → IsSurvivedWith Others left) → MayLosePower from to → IsStopped from to left → IsSurvivedWith (λ tree. IsCutIn from op next left tree ⊎ Others tree) left
+further before op reply Others from next to left one second last may stop = go stop
   where
+    Here : Type 0
+    Here = IsSurvivedWith (λ tree. IsCutIn from op next left tree ⊎ Others tree) left
+
     first : EachSince IsAny from.calls next.calls
     first = calls_since from.calls next.calls one.turn.calls one.turn.called
 
@@ -285,39 +249,42 @@ further before op reply others from next to left one second last may stop = go s
       cleanly = EachSince-behind may.cleanly first second;
     }
 
-    here : IsStopped from next left → IsSurvived from (op ∷ others) left
-    here = first_cut from next op others left may.agrees may.profile (inl (reply, one.turn)) one.survives_loss (EachSince-until may.cleanly first second)
+    here : IsStopped from next left → Here
+    here k =
+        let s = in_one from next op left may.agrees may.profile one.survives_loss (EachSince-until may.cleanly first second) k in
+        record { tree = s.tree; cut = inl s.cut; safe = s.safe }
 
-    there : IsStopped next to left → IsSurvived from (op ∷ others) left
-    there k = later from next op reply others left one.turn (last may_later k)
+    there : IsStopped next to left → Here
+    there k = let s = last may_later k in record { tree = s.tree; cut = inr s.cut; safe = s.safe }
 
-    in_part : (blocks : Blocks) → left ≡ with_blocks blocks from.disk → IsEither from next to blocks → IsSurvived from (op ∷ others) left
+    in_part : (blocks : Blocks) → left ≡ with_blocks blocks from.disk → IsEither from next to blocks → Here
     in_part blocks e (inl k) = here (inr (inl (blocks, (e, k))))
     in_part blocks e (inr k) = there (inr (inl (blocks, (e ∙ same_blocks from.disk next.disk blocks one.turn.geometry, k))))
 
-    go : IsStopped from to left → IsSurvived from (op ∷ others) left
+    go : IsStopped from to left → Here
     go (inl e) = here (inl e)
     go (inr (inl (blocks, (e, since)))) = in_part blocks e (either_part from next to blocks first second since)
     go (inr (inr (e, fails))) = there (inr (inr (e, EachSince-behind fails first second)))
 
--- what comes behind these operations is survived, so they are
-run_survived : (before : Option Operation) (operations more : List Operation) (replies : List Reply) (from at to : SystemState) (left : Disk) → ArePerformed before from operations replies at → EachSince IsAny at.calls to.calls →
-    (MayLosePower at to → IsStopped at to left → IsSurvived at more left) → MayLosePower from to → IsStopped from to left → IsSurvived from (operations ++ more) left
-run_survived before [] more [] from at to left h tail last may stop = subst (λ m. IsSurvived m more left) (sym h) (last (subst (λ m. MayLosePower m to) h may) (subst (λ m. IsStopped m to left) h stop))
-run_survived before [] more (reply ∷ replies) from at to left h tail last may stop = absurd h
-run_survived before (op ∷ operations) more [] from at to left h tail last may stop = absurd h
-run_survived before (op ∷ operations) more (reply ∷ replies) from at to left (next, (one, rest)) tail last may stop =
-    further before op reply (operations ++ more) from next to left one (goes_on_by (performed_since (if_accepted op reply) operations replies next at rest) tail)
-    (λ may stop. run_survived (if_accepted op reply) operations more replies next at to left rest tail last may stop) may stop
+-- what comes after these operations is survived, so they are
+run_survived : (before : Option Operation) (operations : List Operation) (replies : List Reply) (AtEnd : Tree → Type 0) (from at to : SystemState) (left : Disk) (h : ArePerformed before from operations replies at) → EachSince IsAny at.calls to.calls →
+    (MayLosePower at to → IsStopped at to left → IsSurvivedWith AtEnd left) → MayLosePower from to → IsStopped from to left → IsSurvivedWith (λ tree. IsCutAmong before from operations replies at h left tree (AtEnd tree)) left
+run_survived before [] [] AtEnd from at to left h tail last may stop = last (subst (λ m. MayLosePower m to) h may) (subst (λ m. IsStopped m to left) h stop)
+run_survived before [] (reply ∷ replies) AtEnd from at to left h tail last may stop = absurd h
+run_survived before (op ∷ operations) [] AtEnd from at to left h tail last may stop = absurd h
+run_survived before (op ∷ operations) (reply ∷ replies) AtEnd from at to left (next, (one, rest)) tail last may stop =
+    further before op reply (λ tree. IsCutAmong (if_accepted op reply) next operations replies at rest left tree (AtEnd tree)) from next to left one
+    (goes_on_by (performed_since (if_accepted op reply) operations replies next at rest) tail)
+    (λ may stop. run_survived (if_accepted op reply) operations replies AtEnd next at to left rest tail last may stop) may stop
 
-once_survived : (from : SystemState) (operations : List Operation) (to : SystemState) (left : Disk) → IsRun from operations to → MayLosePower from to → IsStopped from to left → IsSurvived from operations left
+once_survived : (from : SystemState) (operations : List Operation) (to : SystemState) (left : Disk) (run : IsRun from operations to) → MayLosePower from to → IsStopped from to left → IsSurvived from operations to run left
 once_survived from operations to left (inl (replies, h)) may stop =
-    subst (λ os. IsSurvived from os left) (append-nil operations)
-    (run_survived None operations [] replies from to to left h began (λ may stop. none_cut to left may.agrees may.profile stop) may stop)
+    let s = run_survived None operations replies (IsCutAtEnd to left) from to to left h began (λ may stop. at_end to left may.agrees may.profile stop) may stop in
+    record { tree = s.tree; cut = s.cut; safe = s.safe }
 once_survived from operations to left (inr c) may stop =
-    subst (λ os. IsSurvived from os left) (sym c.are)
-    (run_survived None c.done (c.next ∷ c.others) c.replies from c.at to left c.performed (calls_since c.at.calls to.calls c.fails.calls c.fails.called)
-    (λ may stop. first_cut c.at to c.next c.others left may.agrees may.profile (inr c.fails) c.survives_loss may.cleanly stop) may stop)
+    let s = run_survived None c.done c.replies (IsCutIn c.at c.next to left) from c.at to left c.performed (calls_since c.at.calls to.calls c.fails.calls c.fails.called)
+    (λ may stop. in_one c.at to c.next left may.agrees may.profile c.survives_loss may.cleanly stop) may stop in
+    record { tree = s.tree; cut = s.cut; safe = s.safe }
 
 -- ---- any number of them
 
@@ -328,12 +295,13 @@ again_survived disk tree (left ∷ others) safe (o, more) = (one, again_survived
     f : IsFound disk safe.pairs o.begin
     f = found disk o.other safe.pairs o.begin safe.accepted safe.writable o.same o.mounts
 
-    one : IsSurvived o.begin o.operations left
+    one : IsSurvived o.begin o.operations o.to o.run left
     one = once_survived o.begin o.operations o.to left o.run
         (record { agrees = mount_begins o.other o.begin o.mounts; profile = (safe.pairs, (f.accepted, f.writable)); cleanly = o.cleanly }) o.stop
 
 pub run_survives : (from : SystemState) (operations : List Operation) (to : SystemState) → IsRun from operations to → MayLosePower from to → SurvivesPowerLoss from operations to
 run_survives from operations to run may = record {
+  run = run;
   once = λ left stop. once_survived from operations to left run may stop;
   again = λ left lefts stop losses. let k = once_survived from operations to left run may stop in again_survived left k.tree lefts k.safe losses;
 }

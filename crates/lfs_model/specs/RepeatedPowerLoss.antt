@@ -1,5 +1,6 @@
 -- Losses of power in runs, any number of them one after another.
-use Rattle.std.specs.Prelude.{◌≡◌, ◌⊎◌, List, [], ◌∷◌, ◌++◌, Some, Any}
+use Rattle.std.proofs.Common.{inl, inr}
+use Rattle.std.specs.Prelude.{◌≡◌, ◌⊎◌, List, [], ◌∷◌, ◌++◌, Option, Some, None, Any}
 use Rattle.lfs_model.specs.Blocks.{Blocks}
 use Rattle.lfs_model.specs.Disk.{Disk}
 use Rattle.lfs_model.specs.Thread.{Pair}
@@ -15,10 +16,10 @@ use Rattle.lfs_model.specs.Session.{Session, Surroundings}
 use Rattle.lfs_model.specs.Effects.{applied}
 use Rattle.lfs_model.specs.State.{Healthy, mounted}
 use Rattle.lfs_model.specs.Recovery.{IsRecovered}
-use Rattle.lfs_model.specs.Run.{SystemState, Shows, IsSessionStep, AreSessionSteps}
-use Rattle.lfs_model.specs.Failure.{Fails}
+use Rattle.lfs_model.specs.Run.{SystemState, Shows, IsSessionStep}
 use Rattle.lfs_model.specs.Headline.{AgreesWithDisk}
-use Rattle.lfs_model.specs.Performed.{IsRun}
+use Rattle.lfs_model.specs.Performed.{ArePerformed, IsRun}
+use Rattle.lfs_model.specs.ReadBounds.{if_accepted}
 use Rattle.lfs_model.specs.PowerLoss.{with_blocks, FailsAsStopped, IsAtWork}
 
 -- ---- a mount and a recovery
@@ -69,39 +70,40 @@ IsStopped from to left =
     ⊎ (((blocks : Blocks) × ((left ≡ with_blocks blocks from.disk) × IsStoppedSince from.calls to.calls blocks))
     ⊎ ((left ≡ to.disk) × EachSince FailsAsStopped from.calls to.calls))
 
--- the first of the operations, if there is one, ends there
-abbrev pub Ends : SystemState → List Operation → SystemState → Type 0
-Ends at [] next = at ≡ next
-Ends at (op ∷ others) next = ((reply : Reply) × IsSessionStep at op reply next) ⊎ Fails at op next
-
--- Where in a run a stop left the disk: these operations were done, and the first of the others, if there is one, was cut.
-pub record IsCutAt (from : SystemState) (operations : List Operation) (left : Disk) : Type 0 where
-  pub done : List Operation
-  pub others : List Operation
-  pub are : operations ≡ done ++ others
-  pub replies : List Reply
-  pub at : SystemState
-  pub session_steps : AreSessionSteps from done replies at
+-- Power was lost in this operation of a run. The tree is the one from before the operation, or the one from after it.
+pub record IsCutIn (from : SystemState) (op : Operation) (next : SystemState) (left : Disk) (tree : Tree) : Type 0 where
+  pub stop : IsStopped from next left
   pub session : Session
   pub pairs : List Pair
   pub around : Surroundings
-  pub work : IsAtWork at session pairs around
-  pub next : SystemState
-  pub ends : Ends at others next
-  pub stop : IsStopped at next left
+  pub work : IsAtWork from session pairs around
+  pub either : (tree ≡ session.tree) ⊎ (tree ≡ (applied around session op).1.tree)
+
+-- Power was lost where every operation of a run was done. The tree is the session's.
+pub record IsCutAtEnd (at : SystemState) (left : Disk) (tree : Tree) : Type 0 where
+  pub stays : left ≡ at.disk
+  pub session : Session
+  pub healthy : at.state ≡ Healthy session
+  pub is : tree ≡ session.tree
+
+-- Power was lost in one of the operations that were performed, or at the end of them.
+abbrev pub IsCutAmong : (before : Option Operation) (from : SystemState) (operations : List Operation) (replies : List Reply) (to : SystemState) → ArePerformed before from operations replies to → Disk → Tree → Type 0 → Type 0
+IsCutAmong before from [] replies to steps left tree AtEnd = AtEnd
+IsCutAmong before from (op ∷ operations) [] to steps left tree AtEnd = ⊥
+IsCutAmong before from (op ∷ operations) (reply ∷ replies) to (next, (one, others)) left tree AtEnd =
+    IsCutIn from op next left tree ⊎ IsCutAmong (if_accepted op reply) next operations replies to others left tree AtEnd
+
+-- Power was lost in one of the operations of this run, among them the one that an error ended, or at the end.
+abbrev pub IsCut : (from : SystemState) (operations : List Operation) (to : SystemState) → IsRun from operations to → Disk → Tree → Type 0
+IsCut from operations to (inl (replies, steps)) left tree = IsCutAmong None from operations replies to steps left tree (IsCutAtEnd to left tree)
+IsCut from operations to (inr short) left tree = IsCutAmong None from short.done short.replies short.at short.performed left tree (IsCutIn short.at short.next to left tree)
 
 -- ---- a loss of power in a run
 
--- the tree behind the first of the operations
-abbrev pub tree_behind : Surroundings → Session → List Operation → Tree
-tree_behind around s [] = s.tree
-tree_behind around s (op ∷ others) = (applied around s op).1.tree
-
 -- The disk that was left has the tree from before the operation that was cut, or from after it. A mount and a recovery keep that tree.
-pub record IsSurvived (from : SystemState) (operations : List Operation) (left : Disk) : Type 0 where
-  pub cut : IsCutAt from operations left
+pub record IsSurvived (from : SystemState) (operations : List Operation) (to : SystemState) (run : IsRun from operations to) (left : Disk) : Type 0 where
   pub tree : Tree
-  pub either : (tree ≡ cut.session.tree) ⊎ (tree ≡ tree_behind cut.around cut.session cut.others)
+  pub cut : IsCut from operations to run left tree
   pub safe : IsSafe tree left
 
 -- A session mounts the disk and performs operations, a recovery for example. Power is lost in them, and leaves another disk.
@@ -124,7 +126,7 @@ LosesPowerRepeatedly disk (left ∷ others) = LosesPower disk left × LosesPower
 -- and each time it is survived
 abbrev pub AreSurvived : (disk : Disk) (lefts : List Disk) → LosesPowerRepeatedly disk lefts → Type 0
 AreSurvived disk [] losses = Unit {0}
-AreSurvived disk (left ∷ others) losses = IsSurvived losses.0.begin losses.0.operations left × AreSurvived left others losses.1
+AreSurvived disk (left ∷ others) losses = IsSurvived losses.0.begin losses.0.operations losses.0.to losses.0.run left × AreSurvived left others losses.1
 
 -- a session with its disk's tree, on an image in the writing profile, where each erase leaves no log, or the one that was there
 pub record MayLosePower (from to : SystemState) : Type 0 where
@@ -132,7 +134,9 @@ pub record MayLosePower (from to : SystemState) : Type 0 where
   pub profile : IsInProfile from.disk
   pub cleanly : EachSince ErasesCleanly from.calls to.calls
 
--- Wherever power is lost in a run, it is survived. So are any number of losses behind it, also in the recovery.
+-- The operations were a run between these states. Wherever power is lost in that run, it is survived, in the operation that was cut. So
+-- are any number of losses after it, also in the recovery.
 pub record SurvivesPowerLoss (from : SystemState) (operations : List Operation) (to : SystemState) : Type 0 where
-  pub once : (left : Disk) → IsStopped from to left → IsSurvived from operations left
+  pub run : IsRun from operations to
+  pub once : (left : Disk) → IsStopped from to left → IsSurvived from operations to run left
   pub again : (left : Disk) (lefts : List Disk) → IsStopped from to left → (losses : LosesPowerRepeatedly left lefts) → AreSurvived left lefts losses

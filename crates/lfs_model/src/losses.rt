@@ -1,6 +1,6 @@
 // Where an error ends a run, and where power is lost.
 
-ghost use Rattle.std.specs.Prelude.{◌≡◌, ◌≢◌, ℕ, false, List, [], ◌∷◌, ◌++◌, Some, None, codes};
+ghost use Rattle.std.specs.Prelude.{◌≡◌, ◌⊎◌, ◌≢◌, ℕ, false, List, [], ◌∷◌, ◌++◌, Some, None, codes};
 ghost use Rattle.lfs_model.specs.Blocks.{Blocks};
 ghost use Rattle.lfs_model.specs.History.{Event, Read, event, EachSince, IsNewest};
 ghost use Rattle.lfs_model.specs.Disk.{Disk};
@@ -43,6 +43,10 @@ pub fn losses_are_survived()
     ensures other_tree { IsRestored (λ path. None) ops.Done small_image → ⊥ }
     ensures safe { IsSafe empty_tree small_image }
     ensures not_safe { (tree : Tree) → IsSafe tree no_disk → ⊥ }
+
+    // So it is of what a stop in any call leaves.
+    ensures left { (disk : Disk) (before after : Tree) → IsLeftByStop disk before after
+        → (tree : Tree) × (((tree ≡ before) ⊎ (tree ≡ after)) × IsSafe tree disk) }
 {}
 
 /// Wherever power is lost in a run, it is survived, and so is each loss behind it.
@@ -52,9 +56,9 @@ pub fn power_loss_is_survived()
     // It is so of a session on a fresh disk. No disk without blocks is left, and no other tree. Where no operation was begun, the tree is
     // the one that was there.
     ensures may { MayLosePower fresh_system fresh_system }
-    ensures none_begun { (left : Disk) (s : IsSurvived fresh_system [] left) → s.tree ≡ empty_tree }
-    ensures not_lost { IsSurvived fresh_system (ops.Stat (codes "/") ∷ []) no_disk → ⊥ }
-    ensures not_changed { (s : IsSurvived fresh_system (ops.Stat (codes "/") ∷ []) small_image) → s.tree ≡ (λ path. None) → ⊥ }
+    ensures none_begun { (to : SystemState) (run : IsRun fresh_system [] to) (left : Disk) (s : IsSurvived fresh_system [] to run left) → s.tree ≡ empty_tree }
+    ensures not_lost { (to : SystemState) (run : IsRun fresh_system (ops.Stat (codes "/") ∷ []) to) → IsSurvived fresh_system (ops.Stat (codes "/") ∷ []) to run no_disk → ⊥ }
+    ensures not_changed { (to : SystemState) (run : IsRun fresh_system (ops.Stat (codes "/") ∷ []) to) (s : IsSurvived fresh_system (ops.Stat (codes "/") ∷ []) to run small_image) → s.tree ≡ (λ path. None) → ⊥ }
 {}
 
 /// Power may be lost again and again, but what is lost then isn't the tree.

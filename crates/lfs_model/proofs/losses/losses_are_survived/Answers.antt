@@ -7,7 +7,9 @@ use Rattle.lfs_model.specs.State.{Healthy, mounted}
 use Rattle.lfs_model.specs.examples.Images.{small_image}
 use Rattle.lfs_model.proofs.Fresh.{shows, writable}
 use Rattle.lfs_model.proofs.Example.{fresh}
+use Rattle.lfs_model.specs.Shown.{tree_in}
 use Rattle.lfs_model.proofs.SafeImage.{is_safe}
+use Rattle.lfs_model.proofs.Survived.{safe_with}
 use Rattle.lfs_model.proofs.FreshSession.{pairs, are_accepted, tree_is_empty, around, is_at_work, none_accepted, surviving}
 use Rattle.lfs_model.proofs.losses.losses_are_survived.Goals as goal
 
@@ -37,3 +39,6 @@ returns-clause-safe c = is_safe
 
 pub returns-clause-not_safe : goal.returns-clause-not_safe
 returns-clause-not_safe c = λ tree h. none_accepted h.pairs h.accepted
+
+pub returns-clause-left : goal.returns-clause-left
+returns-clause-left c = λ disk before after k. (tree_in disk k.pairs, (k.tree, safe_with disk k.pairs k.accepted k.writable))

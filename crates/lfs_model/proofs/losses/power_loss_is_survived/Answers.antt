@@ -1,7 +1,9 @@
-use Rattle.std.proofs.Common.{◌≡◌, ◌⊎◌, inl, inr, List, [], ◌∷◌, ◌++◌, refl, sym, ap, subst, ◌∙◌}
-use Rattle.lfs_model.specs.Operations.{Operation, Reply}
-use Rattle.lfs_model.specs.RepeatedPowerLoss.{tree_behind}
-use Rattle.lfs_model.specs.Run.{AreSessionSteps, SystemState}
+use Rattle.std.proofs.Common.{◌≡◌, inl, inr, List, [], ◌∷◌, ◌++◌, refl, sym, ap, ◌∙◌}
+use Rattle.lfs_model.specs.Operations.{Operation}
+use Rattle.lfs_model.specs.RepeatedPowerLoss.{IsCutAtEnd, IsSurvived}
+use Rattle.lfs_model.specs.Performed.{IsRun}
+use Rattle.lfs_model.specs.Disk.{Disk}
+use Rattle.lfs_model.specs.Run.{SystemState}
 use Rattle.lfs_model.specs.Session.{Session}
 use Rattle.lfs_model.specs.examples.Runs.{fresh_system}
 use Rattle.lfs_model.specs.Tree.{Tree}
@@ -24,19 +26,10 @@ returns-clause-may c = record {
 }
 
 pub returns-clause-not_lost : goal.returns-clause-not_lost
-returns-clause-not_lost c = λ s. none_accepted s.safe.pairs s.safe.accepted
+returns-clause-not_lost c = λ to run s. none_accepted s.safe.pairs s.safe.accepted
 
 pub returns-clause-not_changed : goal.returns-clause-not_changed
-returns-clause-not_changed c = λ s e. absurd (let k = ap (λ (t : Tree). t []) (sym (tree_is_empty s.safe.pairs s.safe.accepted) ∙ s.safe.shows ∙ e) in cc)
-
-none_done : (done others : List Operation) → [] ≡ done ++ others → (done ≡ []) × (others ≡ [])
-none_done [] [] e = (refl, refl)
-none_done [] (op ∷ others) e = absurd (cc)
-none_done (op ∷ done) others e = absurd (cc)
-
-still_at : (from at : SystemState) (replies : List Reply) → AreSessionSteps from [] replies at → from ≡ at
-still_at from at [] h = h
-still_at from at (reply ∷ replies) h = absurd h
+returns-clause-not_changed c = λ to run s e. absurd (let k = ap (λ (t : Tree). t []) (sym (tree_is_empty s.safe.pairs s.safe.accepted) ∙ s.safe.shows ∙ e) in cc)
 
 same_session : (s t : Session) → Healthy s ≡ Healthy t → s ≡ t
 same_session s t e = ap (λ z. or_else z) e
@@ -45,15 +38,18 @@ same_session s t e = ap (λ z. or_else z) e
     or_else HasFailed = s
     or_else (Healthy z) = z
 
+-- no operation is among none
+none_short : (done : List Operation) (next : Operation) (others : List Operation) → [] ≡ done ++ next ∷ others → ⊥
+none_short [] next others e = absurd (cc)
+none_short (op ∷ done) next others e = absurd (cc)
+
+at_end : (from at : SystemState) (left : Disk) (tree : Tree) → from.state ≡ Healthy (mounted empty_tree) → from ≡ at → IsCutAtEnd at left tree → tree ≡ empty_tree
+at_end from at left tree begun same cut = cut.is ∙ sym (ap (λ (s : Session). s.tree) (same_session (mounted empty_tree) cut.session (sym begun ∙ ap (λ (m : SystemState). m.state) same ∙ cut.healthy)))
+
+none_begun : (to : SystemState) (run : IsRun fresh_system [] to) (left : Disk) (s : IsSurvived fresh_system [] to run left) → s.tree ≡ empty_tree
+none_begun to (inl ([], same)) left s = at_end fresh_system to left s.tree refl same s.cut
+none_begun to (inl (reply ∷ replies, steps)) left s = absurd steps
+none_begun to (inr short) left s = absurd (none_short short.done short.next short.others short.are)
+
 pub returns-clause-none_begun : goal.returns-clause-none_begun
-returns-clause-none_begun c = λ left s.
-    let cut = s.cut in
-    let none = none_done cut.done cut.others cut.are in
-    let at = still_at fresh_system cut.at cut.replies (subst (λ os. AreSessionSteps fresh_system os cut.replies cut.at) none.0 cut.session_steps) in
-    let session = same_session (mounted empty_tree) cut.session (ap (λ (m : SystemState). m.state) at ∙ cut.work.healthy) in
-    let tree = ap (λ (z : Session). z.tree) (sym session) in
-    by_either s.tree cut.session.tree (tree_behind cut.around cut.session cut.others) (ap (tree_behind cut.around cut.session) none.1) s.either ∙ tree
-  where
-    by_either : (tree before after : Tree) → after ≡ before → (tree ≡ before) ⊎ (tree ≡ after) → tree ≡ before
-    by_either tree before after e (inl k) = k
-    by_either tree before after e (inr k) = k ∙ e
+returns-clause-none_begun c = none_begun

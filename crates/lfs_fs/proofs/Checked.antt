@@ -22,9 +22,9 @@ use Rattle.lfs_lookup.specs.FileContents.{AreContentsAt}
 use Rattle.lfs_lookup.specs.Finds.{Finds, is_absent, is_directory_node, is_file_node, size_in}
 use Rattle.lfs_fs.specs.Held.{Held, session_of, IsReadableAs, refused_by, ComesLate, EndsChecks, Checks}
 use Rattle.lfs_lookup.specs.declared.file_contents.FileContents.{FileContents}
-use Rattle.lfs_lookup.specs.declared.finding.Finding.{Finding}
-use Rattle.lfs_lookup.specs.declared.finding.Node.{Node}
-use Rattle.lfs_lookup.specs.declared.finding.Node.TheVariants as node
+use Rattle.lfs_lookup.specs.declared.found_entries.Finding.{Finding}
+use Rattle.lfs_lookup.specs.declared.found_entries.Node.{Node}
+use Rattle.lfs_lookup.specs.declared.found_entries.Node.TheVariants as node
 use Rattle.lfs_fs.proofs.Answered.{not_failed, not_refused, no_refusal_io}
 use Rattle.lfs_fs.proofs.Errors.{error_refuses, refusal_again}
 use Rattle.lfs_fs.proofs.Late.{mkdir_late, reader_late, stat_late}

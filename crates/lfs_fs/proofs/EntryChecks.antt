@@ -16,7 +16,7 @@ use Rattle.lfs_model.specs.Tree.{Path}
 use Rattle.lfs_tree.specs.Allowed.{CanRemoveAttr}
 use Rattle.lfs_lookup.specs.Finds.{Finds, is_absent, is_file_node}
 use Rattle.lfs_tree.specs.TreeState.{TreeState, tree_view, IsAsked}
-use Rattle.lfs_lookup.specs.declared.finding.Finding.{Finding}
+use Rattle.lfs_lookup.specs.declared.found_entries.Finding.{Finding}
 use Rattle.lfs_fs.specs.EntryPaths.{entry_path}
 use Rattle.lfs_fs.specs.Replies.{passed_with}
 use Rattle.lfs_fs.specs.Held.{Held, refused_by, Checks}

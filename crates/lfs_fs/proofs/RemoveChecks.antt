@@ -10,7 +10,7 @@ use Rattle.lfs_model.specs.Tree.{Path}
 use Rattle.lfs_tree.specs.Allowed.{CanRemove}
 use Rattle.lfs_lookup.specs.Finds.{Finds, has_names, is_absent}
 use Rattle.lfs_tree.specs.TreeState.{TreeState, tree_view, IsAsked}
-use Rattle.lfs_lookup.specs.declared.finding.Finding.{Finding}
+use Rattle.lfs_lookup.specs.declared.found_entries.Finding.{Finding}
 use Rattle.lfs_fs.specs.EntryPaths.{entry_path}
 use Rattle.lfs_fs.specs.Held.{Held, refused_by, Checks}
 use Rattle.lfs_fs.specs.Replies.{passed_with}

@@ -14,12 +14,12 @@ use Rattle.lfs_tree.specs.Allowed.{CanRename}
 use Rattle.lfs_lookup.specs.AttributeAt.{IsAttributesSize}
 use Rattle.lfs_lookup.specs.Finds.{Finds, has_names, is_absent, is_directory_node, is_file_node}
 use Rattle.lfs_tree.specs.TreeState.{TreeState, around_of, tree_view, IsAsked}
-use Rattle.lfs_lookup.specs.declared.finding.Finding.{Finding}
+use Rattle.lfs_lookup.specs.declared.found_entries.Finding.{Finding}
 use Rattle.lfs_fs.specs.EntryPaths.{entry_path}
 use Rattle.lfs_fs.specs.Held.{Held, refused_by, Checks}
 use Rattle.lfs_fs.specs.RenamePaths.{IsRenaming, is_in_the_way}
 use Rattle.lfs_fs.specs.Replies.{passed_with}
-use Rattle.lfs_fs.specs.declared.renaming.Renaming.{Renaming}
+use Rattle.lfs_fs.specs.declared.rename_checks.Renaming.{Renaming}
 use Rattle.lfs_fs.proofs.Answered.{not_failed, not_refused}
 use Rattle.lfs_fs.proofs.Late.{rename_late}
 use Rattle.lfs_fs.proofs.Checked.{both, decided, negated, neither, room_left, unrefused, when}

@@ -17,7 +17,7 @@ use Rattle.lfs_tree.specs.Allowed.{CanSetAttr}
 use Rattle.lfs_lookup.specs.AttributeAt.{IsAttributesSize}
 use Rattle.lfs_lookup.specs.Finds.{Finds, is_absent}
 use Rattle.lfs_tree.specs.TreeState.{TreeState, around_of, tree_view, IsAsked}
-use Rattle.lfs_lookup.specs.declared.finding.Finding.{Finding}
+use Rattle.lfs_lookup.specs.declared.found_entries.Finding.{Finding}
 use Rattle.lfs_fs.specs.EntryPaths.{entry_path}
 use Rattle.lfs_fs.specs.Held.{Held, refused_by, Checks}
 use Rattle.lfs_fs.specs.Replacing.{CanReplace, replaced_size}

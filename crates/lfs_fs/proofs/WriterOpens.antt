@@ -15,7 +15,7 @@ use Rattle.lfs_model.specs.Tree.{Node, FileNode, DirectoryNode, Path}
 use Rattle.lfs_device.specs.declared.error.Error.{Error}
 use Rattle.lfs_lookup.specs.Finds.{Finds, is_absent, is_directory_node, size_in}
 use Rattle.lfs_tree.specs.TreeState.{TreeState, IsAsked, around_of, tree_view}
-use Rattle.lfs_lookup.specs.declared.finding.Finding.{Finding}
+use Rattle.lfs_lookup.specs.declared.found_entries.Finding.{Finding}
 use Rattle.lfs_fs.specs.Held.{Checks, Held, IsOpening, refused_by}
 use Rattle.lfs_fs.specs.FileView.{OpenFiles, files_view, writers_in}
 use Rattle.lfs_fs.proofs.OpenFiles.{writer_count}

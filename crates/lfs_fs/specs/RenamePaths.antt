@@ -4,7 +4,7 @@ use Rattle.lfs_model.specs.TreeEdits.{rest_after, same_path}
 use Rattle.lfs_model.specs.Names.{slash}
 use Rattle.lfs_model.specs.Refusals.{as_path}
 use Rattle.lfs_model.specs.Tree.{Path}
-use Rattle.lfs_fs.specs.declared.renaming.Renaming.{Renaming}
+use Rattle.lfs_fs.specs.declared.rename_checks.Renaming.{Renaming}
 
 -- the second bytes begin with the first, and end there or go on with a slash
 abbrev pub goes_on : List ℕ → List ℕ → Bool

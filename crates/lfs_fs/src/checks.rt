@@ -18,9 +18,9 @@ ghost use Rattle.lfs_tree.specs.TreeState.{around_of, tree_view};
 ghost use Rattle.lfs_model.specs.Slots.{Attributes, attributes_size};
 ghost use Rattle.lfs_fs.specs.Replacing.{CanReplace, replaced_size};
 
+use crate::check_order::{both, passed};
 use crate::files::{Files, held_for};
 use crate::flags::OpenFlags;
-use crate::passing::{both, passed};
 use bitflags::Flags;
 use lfs_device::{BlockDevice, Error};
 use lfs_lookup::{FileContents, FoundFile, ListItem, Path, refuse_if};

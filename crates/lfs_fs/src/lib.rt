@@ -1,6 +1,7 @@
 //! Sessions over a littlefs image: open files, the checks of each operation in order, and runs.
 #![tactic(auto)]
 
+mod check_order;
 mod checks;
 mod device_laws;
 mod files;
@@ -8,9 +9,8 @@ mod flags;
 mod gstate;
 mod left_open;
 mod owned_path;
-mod passing;
-mod reading;
-mod renaming;
+mod reads;
+mod rename_checks;
 mod run;
 mod session;
 mod writers;

@@ -6,7 +6,7 @@ ghost use Rattle.lfs_model.specs.Refusals.{as_path, bad_entry};
 ghost use Rattle.lfs_model.specs.TreeEdits.{rest_after, same_path};
 ghost use Rattle.lfs_model.specs.Names.{same_name};
 
-use crate::renaming::is_within;
+use crate::rename_checks::is_within;
 use lfs_device::Error;
 use lfs_lookup::Path;
 use std::alloc::Global;

@@ -28,10 +28,10 @@ use Rattle.lfs_lookup.specs.declared.entry.Contents.{Contents}
 use Rattle.lfs_lookup.specs.declared.entry.Contents.TheVariants as contents
 use Rattle.lfs_lookup.specs.Finds.{Finds}
 use Rattle.lfs_lookup.specs.Paths.{ShowsTo}
-use Rattle.lfs_lookup.specs.declared.finding.Finding.{Finding}
+use Rattle.lfs_lookup.specs.declared.found_entries.Finding.{Finding}
 use Rattle.lfs_lookup.specs.declared.paths.Shown.TheVariants as shown
 use Rattle.lfs_lookup.specs.declared.search.Spot.{Spot}
-use Rattle.lfs_lookup.specs.declared.finding.Node.TheVariants as node
+use Rattle.lfs_lookup.specs.declared.found_entries.Node.TheVariants as node
 use Rattle.std.proofs.lemmas.List.Elements.{recursion_from_All}
 use Rattle.lfs_model.specs.Names.{same_name}
 use Rattle.lfs_model.proofs.Counts.{Each}

@@ -22,7 +22,7 @@ use Rattle.lfs_lookup.specs.AtPath.{ShowsAt}
 use Rattle.lfs_lookup.specs.AttributeAt.{AreHeld, IsPairCached, IsAttribute, IsShort, slot_shown}
 use Rattle.lfs_lookup.specs.BytesAt.{IsSlotAt}
 use Rattle.lfs_lookup.specs.Paths.{IsSlotOf}
-use Rattle.lfs_lookup.specs.declared.finding.FoundAttribute.{FoundAttribute}
+use Rattle.lfs_lookup.specs.declared.found_entries.FoundAttribute.{FoundAttribute}
 use Rattle.lfs_lookup.specs.declared.paths.Shown.{Shown}
 use Rattle.lfs_lookup.specs.declared.paths.Shown.TheVariants as shown
 use Rattle.lfs_lookup.specs.declared.search.Spot.{Spot}

@@ -35,8 +35,8 @@ use Rattle.lfs_lookup.specs.Paths.{BeginsOnPath, ShowsTo}
 use Rattle.lfs_lookup.specs.Search.{HidesFrom}
 use Rattle.lfs_lookup.specs.declared.entry.Contents.{Contents}
 use Rattle.lfs_lookup.specs.declared.entry.Contents.TheVariants as contents
-use Rattle.lfs_lookup.specs.declared.finding.Finding.{Finding}
-use Rattle.lfs_lookup.specs.declared.finding.Node.TheVariants as node
+use Rattle.lfs_lookup.specs.declared.found_entries.Finding.{Finding}
+use Rattle.lfs_lookup.specs.declared.found_entries.Node.TheVariants as node
 use Rattle.lfs_lookup.specs.declared.paths.Shown.{Shown}
 use Rattle.lfs_lookup.specs.declared.paths.Shown.TheVariants as shown
 use Rattle.lfs_lookup.specs.declared.search.Spot.{Spot}

@@ -5,10 +5,10 @@ use Rattle.lfs_model.specs.Operations as ops
 use Rattle.lfs_model.specs.Session.{parent_fault}
 use Rattle.lfs_model.specs.Effects.{size_of}
 use Rattle.lfs_model.specs.Tree.{Path, Tree}
-use Rattle.lfs_lookup.specs.declared.finding.Finding.{Finding}
-use Rattle.lfs_lookup.specs.declared.finding.ListItem.{ListItem}
-use Rattle.lfs_lookup.specs.declared.finding.Node.{Node}
-use Rattle.lfs_lookup.specs.declared.finding.Node.TheVariants as node
+use Rattle.lfs_lookup.specs.declared.found_entries.Finding.{Finding}
+use Rattle.lfs_lookup.specs.declared.found_entries.ListItem.{ListItem}
+use Rattle.lfs_lookup.specs.declared.found_entries.Node.{Node}
+use Rattle.lfs_lookup.specs.declared.found_entries.Node.TheVariants as node
 
 abbrev pub is_absent : Node → Bool
 is_absent node.Nothing = true

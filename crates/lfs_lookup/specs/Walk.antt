@@ -10,7 +10,7 @@ use Rattle.lfs_model.specs.Operations.{path_bytes}
 use Rattle.lfs_model.specs.Listing.{Entry, IsWalkOf}
 use Rattle.lfs_model.specs.InDirectory.{BeginsAt}
 use Rattle.lfs_model.specs.Shown.{contents_in, tree_in}
-use Rattle.lfs_lookup.specs.declared.walking.TreeItem.{TreeItem}
+use Rattle.lfs_lookup.specs.declared.walks.TreeItem.{TreeItem}
 use Rattle.lfs_lookup.specs.ByName.{AreByName}
 use Rattle.lfs_lookup.specs.Items.{Shape, structure_view}
 use Rattle.lfs_lookup.specs.Listed.{shapes_from}

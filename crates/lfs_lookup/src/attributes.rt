@@ -19,7 +19,7 @@ ghost use Rattle.lfs_lookup.specs.Reading.{IsReading};
 ghost use Rattle.lfs_lookup.specs.Search.{HoldsContent};
 
 use crate::by_path::{finding_of, shown_at};
-use crate::finding::FoundAttribute;
+use crate::found_entries::FoundAttribute;
 use crate::path::Path;
 use crate::paths::Shown;
 use crate::search::Spot;

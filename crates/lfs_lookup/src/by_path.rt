@@ -10,12 +10,12 @@ ghost use Rattle.lfs_lookup.specs.CachedPairs.{LoadsDown};
 ghost use Rattle.lfs_lookup.specs.AtPath.{IsInEntry, IsInEntryIfFile, IsThrough, ShowsAt, finding_of, first_shown, size_shown};
 ghost use Rattle.lfs_lookup.specs.AttributeAt.{IsPairCached};
 ghost use Rattle.lfs_lookup.specs.Finds.{Finds, has_names};
-ghost use Rattle.lfs_lookup.specs.declared.finding.Node.TheVariants.{Directory, File, Nothing};
+ghost use Rattle.lfs_lookup.specs.declared.found_entries.Node.TheVariants.{Directory, File, Nothing};
 ghost use Rattle.lfs_lookup.specs.Reading.{IsReading};
 
 use crate::directory::has_entries;
 use crate::entry::Contents;
-use crate::finding::{Finding, Inside, Node};
+use crate::found_entries::{Finding, Inside, Node};
 use crate::path::Path;
 use crate::paths::{Shown, look_up_shown, moved_slot};
 use crate::refusal::{Refusal, refused};

@@ -19,7 +19,7 @@ ghost use Rattle.lfs_lookup.specs.Reading.{IsReading};
 use crate::by_path::{finding_of, shown_at};
 use crate::bytes::{copied_from, file_of, inline_at, list_from};
 use crate::entry::Contents;
-use crate::finding::Finding;
+use crate::found_entries::Finding;
 use crate::path::Path;
 use crate::search::Spot;
 use lfs_device::{BlockDevice, Error};

@@ -15,7 +15,7 @@ ghost use Rattle.lfs_lookup.specs.Reading.{IsReading};
 
 use crate::by_path::{finding_of, first_of, shown_at};
 use crate::directory::entries_from;
-use crate::finding::{ListItem, Listing};
+use crate::found_entries::{ListItem, Listing};
 use crate::items::{Item, Structure, sort_by_name};
 use crate::path::Path;
 use lfs_device::{BlockDevice, Error};

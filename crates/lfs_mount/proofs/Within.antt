@@ -23,7 +23,7 @@ use Rattle.lfs_mount.specs.Passed.{in_hand, ended, Passes}
 use Rattle.lfs_mount.specs.Described.{AreMembers}
 use Rattle.lfs_mount.specs.Checked.{HasKnownThread}
 use Rattle.lfs_mount.specs.declared.pass.Member.{Member}
-use Rattle.lfs_mount.specs.declared.reaching.Directory.{Directory}
+use Rattle.lfs_mount.specs.declared.reachability.Directory.{Directory}
 use Rattle.lfs_mount.proofs.Ending.{known_drawn}
 
 abbrev Below_all : ℕ → Vertex → Type 0

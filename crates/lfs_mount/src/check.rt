@@ -16,7 +16,7 @@ ghost use Rattle.lfs_mount.specs.Reads.{pair_reads};
 
 use crate::orders::Orders;
 use crate::pass::{Member, take_pairs};
-use crate::reaching::orders_of;
+use crate::reachability::orders_of;
 use lfs_alloc::BlockMap;
 use lfs_device::{BlockDevice, Error};
 use lfs_thread::Places;

@@ -12,7 +12,7 @@ ghost use Rattle.lfs_mount.specs.Device.{IsMountError};
 ghost use Rattle.lfs_mount.specs.Either.{GivesDeviceBack};
 ghost use Rattle.lfs_mount.specs.ReadImage.{HasFewReads, in_order};
 
-use crate::mounting::read_image;
+use crate::accepted_images::read_image;
 use lfs_device::{BlockDevice, Error, NameOrder, Ordered};
 use lfs_thread::{Parts, Thread};
 use std::alloc::Global;

@@ -10,7 +10,7 @@ ghost use Rattle.lfs_mount.specs.Scanned.{scanned};
 
 use crate::entry::{Entry, Target, entry_of};
 use crate::orders::Orders;
-use crate::reaching::Directory;
+use crate::reachability::Directory;
 use lfs_device::{Error, NameOrder};
 use lfs_tag::{Slot, name_cmp};
 use lfs_thread::Places;

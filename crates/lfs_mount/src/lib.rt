@@ -2,6 +2,7 @@
 //! memory. Then a search among the directories, for each order of names, reads nothing.
 #![tactic(auto)]
 
+mod accepted_images;
 mod check;
 mod either;
 mod entry;
@@ -9,11 +10,10 @@ mod head;
 mod known;
 mod lists;
 mod members;
-mod mounting;
 mod moves;
 mod orders;
 mod pass;
-mod reaching;
+mod reachability;
 
+pub use accepted_images::mount;
 pub use either::mount_either;
-pub use mounting::mount;

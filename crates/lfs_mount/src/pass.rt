@@ -21,7 +21,7 @@ ghost use Rattle.lfs_tag.specs.ContentView.{slot_view};
 use crate::entry::entry_of;
 use crate::known::Known;
 use crate::lists::mark_lists;
-use crate::reaching::Directory;
+use crate::reachability::Directory;
 use lfs_alloc::BlockMap;
 use lfs_device::{BlockDevice, Error, read_block};
 use lfs_tag::{Content, Log, Slot};

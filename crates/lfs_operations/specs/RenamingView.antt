@@ -1,9 +1,9 @@
 -- A copied slot of the code as the definitions have it.
 use Rattle.std.specs.Prelude.{ℕ, List, map}
 use Rattle.lfs_operations.specs.RenamingSlots.{Parts}
-use Rattle.lfs_operations.specs.declared.renaming_copy.PartCopy.{PartCopy}
-use Rattle.lfs_operations.specs.declared.renaming_copy.AttributeCopy.{AttributeCopy}
-use Rattle.lfs_operations.specs.declared.renaming_copy.SlotCopy.{SlotCopy}
+use Rattle.lfs_operations.specs.declared.slot_copies.PartCopy.{PartCopy}
+use Rattle.lfs_operations.specs.declared.slot_copies.AttributeCopy.{AttributeCopy}
+use Rattle.lfs_operations.specs.declared.slot_copies.SlotCopy.{SlotCopy}
 
 abbrev pub part_copied : PartCopy → ℕ × List ℕ
 part_copied p = (p.kind, p.bytes.items)

@@ -2,27 +2,27 @@
 //! power.
 #![tactic(auto)]
 
+mod attributes;
 mod changes;
-mod creating;
-mod dropping;
-mod editing;
-mod making;
-mod moving;
-mod recovering;
-mod removing;
-mod renaming;
-mod renaming_copy;
-mod renaming_over;
+mod directory_removals;
+mod drops;
+mod moves;
+mod new_directories;
+mod new_files;
+mod recovery;
+mod removals;
+mod renames;
+mod replacements;
+mod slot_copies;
 mod structs;
-mod unlinking;
 
-pub use creating::create;
-pub use editing::{remove_attribute, set_attribute};
-pub use making::make_directory;
-pub use moving::{rename_across, rename_onto_directory_across, rename_onto_file_across};
-pub use recovering::{drop_unreached, end_move};
-pub use removing::remove_file;
-pub use renaming::{rename, rename_onto_file};
-pub use renaming_over::rename_onto_directory;
+pub use attributes::{remove_attribute, set_attribute};
+pub use directory_removals::remove_directory;
+pub use moves::{rename_across, rename_onto_directory_across, rename_onto_file_across};
+pub use new_directories::make_directory;
+pub use new_files::create;
+pub use recovery::{drop_unreached, end_move};
+pub use removals::remove_file;
+pub use renames::{rename, rename_onto_file};
+pub use replacements::rename_onto_directory;
 pub use structs::set_struct;
-pub use unlinking::remove_directory;

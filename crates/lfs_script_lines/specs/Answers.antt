@@ -4,7 +4,7 @@ use Rattle.std.specs.List.{flat_map}
 use Rattle.std.specs.Fmt.{decimal}
 use Rattle.lfs_device.specs.Error.{name_of, number_of}
 use Rattle.lfs_device.specs.declared.error.Error.{Error}
-use Rattle.lfs_lookup.specs.declared.finding.ListItem.{ListItem}
+use Rattle.lfs_lookup.specs.declared.found_entries.ListItem.{ListItem}
 use Rattle.lfs_model.specs.Listing.{hex_digit}
 use Rattle.lfs_fs.specs.declared.gstate.Gstate.{Gstate}
 use Rattle.lfs_fs.specs.declared.run.Reply.{Reply}

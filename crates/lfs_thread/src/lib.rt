@@ -2,19 +2,19 @@
 //! next.
 #![tactic(auto)]
 
-mod committing;
+mod commits;
 mod deltas;
-mod dropping;
-mod finding;
-mod joining;
+mod drops;
+mod headers;
+mod joins;
+mod pair_numbers;
 mod parts;
 mod places;
-mod reading;
-mod splitting;
+mod splits;
 mod thread;
 
 pub use deltas::with_delta;
-pub use finding::number_of;
+pub use pair_numbers::number_of;
 pub use parts::Parts;
 pub use places::Places;
 pub use thread::Thread;

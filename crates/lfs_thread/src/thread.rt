@@ -17,13 +17,13 @@ ghost use Rattle.lfs_thread.specs.CachedLog.{IsBlockOf, cached_log, cache_after_
 ghost use Rattle.lfs_thread.specs.Reading.{IsThreadOf};
 ghost use Rattle.lfs_thread.specs.Steps.{CanBeSplit, CanChange, CanDrop, CanJoin, HasReported, HasReportedBeside, IsBeside, IsJoined, IsLeftByJoin, IsChanged, IsDropped, IsLeftByChange, IsLeftBySplit, IsOnlyRead, IsRefused, IsSplit, WritesReading, pair_in};
 
-use crate::committing::commit_to;
+use crate::commits::commit_to;
 use crate::deltas::joined_state;
-use crate::dropping::drop_pair;
-use crate::joining::join_pair;
+use crate::drops::drop_pair;
+use crate::headers::read_pairs;
+use crate::joins::join_pair;
 use crate::parts::Parts;
-use crate::reading::read_pairs;
-use crate::splitting::split_pair;
+use crate::splits::split_pair;
 use lfs_alloc::BlockMap;
 use lfs_cache::Cache;
 use lfs_ctz::read_at;

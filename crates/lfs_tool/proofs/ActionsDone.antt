@@ -9,7 +9,7 @@ use Rattle.lfs_thread.specs.Kept.{Kept}
 use Rattle.lfs_thread.specs.Steps.{IsOnlyRead}
 use Rattle.lfs_lookup.specs.Items.{structure_view}
 use Rattle.lfs_lookup.specs.Walk.{found_view, founds_view}
-use Rattle.lfs_lookup.specs.declared.walking.TreeItem.{TreeItem}
+use Rattle.lfs_lookup.specs.declared.walks.TreeItem.{TreeItem}
 use Rattle.lfs_tool_folders.specs.Actions.{Adds}
 use Rattle.lfs_tool.specs.Unpacked.{AreLists, HasBegun, HasDone, action_at, actions_at}
 

@@ -7,7 +7,7 @@ use Rattle.lfs_model.specs.Disk.{Disk}
 use Rattle.lfs_model.specs.Thread.{Pair, anchor, next_of}
 use Rattle.lfs_tool.specs.Broken.{IsBroken}
 use Rattle.lfs_tool.specs.Found.{IsFound}
-use Rattle.lfs_tool.specs.declared.finding.Finding.{Finding}
+use Rattle.lfs_tool.specs.declared.findings.Finding.{Finding}
 use Rattle.lfs_tool.specs.Held.{plain_pair}
 use Rattle.lfs_tool.specs.HeldView.{pair_view, pairs_view}
 use Rattle.lfs_tool.specs.Leading.{IsNamed, LinksTo}

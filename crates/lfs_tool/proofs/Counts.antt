@@ -7,7 +7,7 @@ use Rattle.lfs_model.specs.Slots.{Branch, Ctz, Inline, Struct}
 use Rattle.lfs_model.specs.Tree.{Node}
 use Rattle.lfs_lookup.specs.Items.{structure_view}
 use Rattle.lfs_lookup.specs.Walk.{AllShow, ShowsNode, founds_view}
-use Rattle.lfs_lookup.specs.declared.walking.TreeItem.{TreeItem}
+use Rattle.lfs_lookup.specs.declared.walks.TreeItem.{TreeItem}
 use Rattle.lfs_tool.specs.Summary.{is_file_entry, is_file_item, is_file_node, is_file_struct}
 
 file_alike : (disk : Disk) (s : Struct) (n : Node) → ShowsNode disk s n → is_file_struct s ≡ is_file_node n

@@ -5,7 +5,7 @@ use Rattle.lfs_model.specs.Slots.{Slot}
 use Rattle.lfs_model.specs.Thread.{Pair}
 use Rattle.lfs_tool.specs.Broken.{HasAt, IsEntrySlot}
 use Rattle.lfs_tool.specs.HeldView.{held_view, pair_view, pairs_view}
-use Rattle.lfs_tool.specs.declared.finding.Place.{Place}
+use Rattle.lfs_tool.specs.declared.findings.Place.{Place}
 use Rattle.lfs_tool.specs.declared.held.HeldPair.{HeldPair}
 use Rattle.lfs_tool.specs.declared.held.HeldSlot.{HeldSlot}
 use Rattle.lfs_model.specs.Slots.{address_of}

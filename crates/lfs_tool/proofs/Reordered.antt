@@ -9,8 +9,8 @@ use Rattle.lfs_tool.specs.Broken.{IsBroken}
 use Rattle.lfs_tool.specs.Held.{plain_pairs}
 use Rattle.lfs_tool.specs.Found.{IsFound, IsInTwo, IsUnread, LacksName, LacksStruct}
 use Rattle.lfs_tool.specs.Leading.{BeginsWith, IsNamed}
-use Rattle.lfs_tool.specs.declared.finding.Finding.{Finding}
-use Rattle.lfs_tool.specs.declared.finding.Finding.TheVariants as finding
+use Rattle.lfs_tool.specs.declared.findings.Finding.{Finding}
+use Rattle.lfs_tool.specs.declared.findings.Finding.TheVariants as finding
 
 begins : (d : Disk) (o : NameOrder) (ps : List Pair) (next : Option (ℕ × ℕ)) → BeginsWith d ps next → BeginsWith (ordered o d) ps next
 begins d o ps next h = record { links = h.links; contents = h.contents }

@@ -6,11 +6,11 @@ use Rattle.lfs_model.specs.Names.{is_name}
 use Rattle.lfs_model.specs.Slots.{Branch, Ctz, Inline, Slot, Struct, address_of, is_superblock}
 use Rattle.lfs_model.specs.Thread.{Pair, directory_pairs, starts_with_superblock, superblocks_before}
 use Rattle.lfs_model.specs.View.{Suits, first_slots}
-use Rattle.lfs_tool.specs.declared.finding.Finding.{Finding}
-use Rattle.lfs_tool.specs.declared.finding.Finding.TheVariants as finding
-use Rattle.lfs_tool.specs.declared.finding.Place.{Place}
+use Rattle.lfs_tool.specs.declared.findings.Finding.{Finding}
+use Rattle.lfs_tool.specs.declared.findings.Finding.TheVariants as finding
+use Rattle.lfs_tool.specs.declared.findings.Place.{Place}
 use Rattle.lfs_tool.specs.Stated.{IsUnlike}
-use Rattle.lfs_tool.specs.declared.finding.Stated.{Stated}
+use Rattle.lfs_tool.specs.declared.findings.Stated.{Stated}
 
 -- ---- superblocks
 

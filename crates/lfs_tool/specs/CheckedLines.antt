@@ -1,11 +1,11 @@
 -- The lines of a check.
 use Rattle.std.specs.Prelude.{ℕ, ◌-◌, ◌/◌, ◌%◌, ◌++◌, Bool, true, false, List, codes}
 use Rattle.std.specs.Fmt.{decimal}
-use Rattle.lfs_tool.specs.declared.finding.Finding.{Finding}
-use Rattle.lfs_tool.specs.declared.finding.Finding.TheVariants as finding
-use Rattle.lfs_tool.specs.declared.finding.Place.{Place}
-use Rattle.lfs_tool.specs.declared.finding.Stated.{Stated}
-use Rattle.lfs_tool.specs.declared.finding.Stated.TheVariants as stated
+use Rattle.lfs_tool.specs.declared.findings.Finding.{Finding}
+use Rattle.lfs_tool.specs.declared.findings.Finding.TheVariants as finding
+use Rattle.lfs_tool.specs.declared.findings.Place.{Place}
+use Rattle.lfs_tool.specs.declared.findings.Stated.{Stated}
+use Rattle.lfs_tool.specs.declared.findings.Stated.TheVariants as stated
 use Rattle.lfs_model.specs.Listing.{escaped_text, newline}
 use Rattle.lfs_model.specs.Slots.{address_of}
 use Rattle.lfs_tool.specs.declared.checked.Given.{Given}

@@ -9,8 +9,8 @@ use Rattle.lfs_model.specs.Thread.{Pair}
 use Rattle.lfs_tool.specs.Broken.{IsBroken}
 use Rattle.lfs_tool.specs.Held.{plain_pairs}
 use Rattle.lfs_tool.specs.Leading.{BeginsWith, IsNamed}
-use Rattle.lfs_tool.specs.declared.finding.Finding.{Finding}
-use Rattle.lfs_tool.specs.declared.finding.Finding.TheVariants as finding
+use Rattle.lfs_tool.specs.declared.findings.Finding.{Finding}
+use Rattle.lfs_tool.specs.declared.findings.Finding.TheVariants as finding
 
 -- one of the two addresses is that block's
 abbrev pub Has : ℕ × ℕ → ℕ → Type 0

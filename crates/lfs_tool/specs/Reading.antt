@@ -9,8 +9,8 @@ use Rattle.lfs_tool.specs.Held.{plain_pair, plain_pairs}
 use Rattle.lfs_tool.specs.HeldView.{pair_view, pairs_view}
 use Rattle.lfs_tool.specs.Leading.{BeginsWith, IsNamed}
 use Rattle.lfs_tool.specs.declared.held.HeldPair.{HeldPair}
-use Rattle.lfs_tool.specs.declared.following.Followed.{Followed}
-use Rattle.lfs_tool.specs.declared.following.Followed.TheVariants as followed
+use Rattle.lfs_tool.specs.declared.thread_walk.Followed.{Followed}
+use Rattle.lfs_tool.specs.declared.thread_walk.Followed.TheVariants as followed
 use Rattle.lfs_tool.specs.declared.pairs.Read.{Read}
 use Rattle.lfs_tool.specs.declared.pairs.Read.TheVariants as read
 

@@ -1,8 +1,8 @@
 -- What a superblock says by its place in an image's bytes, whatever its blocks hold.
 use Rattle.std.specs.Prelude.{ℕ, ◌≡◌, ◌≢◌, ◌⊎◌, ◌+◌, ◌/◌, ◌≤◌, List, length, slice_range, codes}
 use Rattle.lfs_model.specs.EntryTypes.{SuperblockFields, superblock_at}
-use Rattle.lfs_tool.specs.declared.finding.Stated.{Stated}
-use Rattle.lfs_tool.specs.declared.finding.Stated.TheVariants as stated
+use Rattle.lfs_tool.specs.declared.findings.Stated.{Stated}
+use Rattle.lfs_tool.specs.declared.findings.Stated.TheVariants as stated
 
 -- the fields say something else than blocks of that size, so many of them, and version 2.0
 abbrev pub IsUnlike : ℕ → ℕ → SuperblockFields → Stated → Type 0

@@ -12,7 +12,7 @@ use Rattle.lfs_model.specs.View.{IsAccepted}
 use Rattle.lfs_model.specs.declared.order.NameOrder.{NameOrder}
 use Rattle.lfs_model.specs.declared.order.NameOrder.TheVariants as order
 use Rattle.lfs_lookup.specs.Items.{structure_view}
-use Rattle.lfs_lookup.specs.declared.walking.TreeItem.{TreeItem}
+use Rattle.lfs_lookup.specs.declared.walks.TreeItem.{TreeItem}
 use Rattle.lfs_tool.specs.declared.verdict.Summary.{Summary}
 use Rattle.lfs_tool.specs.declared.verdict.Orders.{Orders}
 use Rattle.lfs_tool.specs.declared.verdict.Orders.TheVariants as orders

@@ -7,7 +7,7 @@ ghost use Rattle.lfs_tool.specs.Found.{Has, IsUnread};
 ghost use Rattle.lfs_tool.specs.Leading.{IsNamed};
 ghost use Rattle.lfs_tool.specs.Reading.{AreHeld};
 
-use crate::finding::Finding;
+use crate::findings::Finding;
 use crate::held::HeldPair;
 
 // What is wrong with the two addresses of a pair by themselves.

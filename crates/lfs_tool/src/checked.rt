@@ -1,6 +1,6 @@
 // What is said of an image.
 
-use crate::finding::{Finding, Stated};
+use crate::findings::{Finding, Stated};
 use crate::verdict::{Orders, Summary};
 
 /// The sizes with which an image was looked at: of a block and a page in bytes, and how many whole

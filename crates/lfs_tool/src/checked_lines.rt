@@ -8,7 +8,7 @@ ghost use Rattle.lfs_tool.specs.CheckedLines.{address_text, blocks_text, count_l
 
 use crate::checked::{Checked, Given, Reason};
 use crate::escape::escape_path;
-use crate::finding::{Finding, Place, Stated};
+use crate::findings::{Finding, Place, Stated};
 use crate::verdict::{Orders, Summary};
 use std::alloc::{AllocError, Global};
 use std::io::Write;

@@ -10,10 +10,10 @@ ghost use Rattle.lfs_tool.specs.Broken.{HasFields, IsBroken, IsChained, IsMissta
 ghost use Rattle.lfs_tool.specs.Device.{HasSizes};
 ghost use Rattle.lfs_tool.specs.HeldView.{held_view, pair_view, pairs_view, struct_view};
 
-use crate::finding::{Finding, Stated};
+use crate::findings::{Finding, Stated};
 use crate::held::{HeldPair, HeldSlot, Struct};
 use crate::roots::starts_with_superblock;
-use crate::stating::unlike;
+use crate::superblocks::unlike;
 use lfs_device::Geometry;
 use lfs_tag::{Superblock, superblock_of};
 

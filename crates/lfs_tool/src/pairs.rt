@@ -13,9 +13,9 @@ ghost use Rattle.lfs_tool.specs.Found.{IsUnread};
 ghost use Rattle.lfs_tool.specs.Leading.{IsNamed};
 ghost use Rattle.lfs_tool.specs.Reading.{IsRead};
 
-use crate::finding::{Finding, Place};
+use crate::findings::{Finding, Place};
 use crate::held::HeldPair;
-use crate::holding::{first_incomplete, hold_all};
+use crate::held_slots::{first_incomplete, hold_all};
 use lfs_device::{BlockDevice, Error, read_block};
 use lfs_tag::{Content, ContentError, Log, Slot, is_later};
 use std::alloc::{AllocError, Global};

@@ -9,7 +9,7 @@ ghost use Rattle.lfs_tool.specs.Broken.{HasAt, IsBroken, IsEntrySlot};
 ghost use Rattle.lfs_tool.specs.Entries.{HasFault};
 ghost use Rattle.lfs_tool.specs.HeldView.{held_view, pair_view, pairs_view};
 
-use crate::finding::{Finding, Place};
+use crate::findings::{Finding, Place};
 use crate::held::{HeldPair, HeldSlot, Kind, Struct};
 use crate::roots::is_superblock;
 use lfs_tag::is_name;

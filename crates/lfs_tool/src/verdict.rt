@@ -1,6 +1,6 @@
 // What is said of an image.
 
-use crate::finding::Finding;
+use crate::findings::Finding;
 
 /// The orders of names in which an image is accepted.
 #[derive(Clone, Copy, Debug, PartialEq, Eq, Drop)]

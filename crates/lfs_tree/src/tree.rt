@@ -30,10 +30,10 @@ ghost use Rattle.lfs_tree.specs.TreeState.{IsAsking, IsBrokenAsking, IsMountErro
 use crate::answers::note_error;
 use crate::attributes_at::{remove_attr_at, set_attr_at};
 use crate::entries_at::{create_at, make_at};
-use crate::formatting::format;
+use crate::formats::format;
+use crate::lost_recovery::recover_at;
 use crate::mounted::read_root;
-use crate::recovering_lost::recover_at;
-use crate::remounting::{Spare, mounted_again};
+use crate::remounts::{Spare, mounted_again};
 use crate::removals_at::remove_at;
 use crate::renames_at::rename_at;
 use core::mem::replace_with;

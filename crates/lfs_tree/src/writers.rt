@@ -15,7 +15,7 @@ ghost use Rattle.lfs_writer.specs.Form.{truncated, written};
 
 use crate::answers::note_error;
 use crate::contents_at::store_at;
-use crate::opening::{no_contents, open_at};
+use crate::opened_contents::{no_contents, open_at};
 use crate::tree::Tree;
 use lfs_device::{BlockDevice, Error};
 use lfs_lookup::Path;

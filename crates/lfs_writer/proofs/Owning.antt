@@ -12,7 +12,7 @@ use Rattle.lfs_writer.specs.Based.{list_blocks}
 use Rattle.lfs_writer.specs.Owned.{AreOwned, EndsOver, KeepsList, blocks_held, blocks_in}
 use Rattle.lfs_writer.specs.Written.{IsGoing}
 use Rattle.lfs_writer.specs.declared.contents.Contents.TheVariants.{InHand}
-use Rattle.lfs_writer.specs.declared.writing.Hand.{Hand}
+use Rattle.lfs_writer.specs.declared.writes.Hand.{Hand}
 use Rattle.lfs_writer.specs.declared.stored.Stored.{Stored}
 use Rattle.lfs_writer.proofs.Bases.{blocks_stay}
 use Rattle.lfs_writer.proofs.Used.{used_back}

@@ -15,11 +15,11 @@ ghost use Rattle.lfs_writer.specs.Roomy.{base_blocks};
 ghost use Rattle.lfs_writer.specs.Written.{HasWritten, IsGoing, bytes_over, length_in};
 ghost use Rattle.lfs_writer.specs.Owned.{AreOwned, KeepsList, blocks_held};
 
-use crate::beginning::begin_over;
+use crate::list_starts::begin_over;
 use crate::memory::{load, write_out};
 use crate::other_places::write_turned;
 use crate::stored::Stored;
-use crate::writing::{Hand, write_from};
+use crate::writes::{Hand, write_from};
 use lfs_alloc::BlockMap;
 use lfs_ctz::Extender;
 use lfs_device::{BlockDevice, Error, Geometry};

@@ -5,32 +5,32 @@
 //! a finished one. The only buffer of contents is the one block of an extender.
 #![tactic(auto)]
 
-mod beginning;
+mod block_copies;
+mod completion;
 mod contents;
-mod copying;
-mod cutting;
-mod ending;
-mod extending;
+mod extensions;
 mod files;
-mod finishing;
 mod laws;
+mod list_cuts;
+mod list_ends;
+mod list_starts;
 mod memory;
 mod named_lists;
+mod new_sizes;
 mod other_places;
-mod releasing;
-mod sharing;
+mod releases;
+mod shared_blocks;
 mod stored;
-mod taking;
-mod truncating;
-mod writing;
-mod zeroing;
+mod taken_blocks;
+mod writes;
+mod zeros;
 
+pub use completion::{abandon, finish};
 pub use contents::{Contents, in_memory, write_contents};
 pub use files::{finish_file, settle_file, truncate_file, write_file};
-pub use finishing::{abandon, finish};
 pub use laws::{forms_keep_step, held_blocks_are_room, settled_map_is_exact};
 pub use memory::load;
 pub use named_lists::settle_list;
+pub use new_sizes::truncate_contents;
 pub use stored::Stored;
-pub use truncating::truncate_contents;
-pub use writing::Hand;
+pub use writes::Hand;

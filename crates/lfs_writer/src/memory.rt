@@ -16,7 +16,7 @@ ghost use Rattle.lfs_writer.specs.Hand.{KeepsUsed, stored_bytes};
 ghost use Rattle.lfs_writer.specs.Written.{HasWritten, IsAt};
 
 use crate::stored::Stored;
-use crate::writing::{Hand, write_from};
+use crate::writes::{Hand, write_from};
 use lfs_alloc::BlockMap;
 use lfs_ctz::{Extender, read_at};
 use lfs_device::{BlockDevice, Error};

@@ -10,7 +10,7 @@ ghost use Rattle.lfs_writer.specs.Based.{IsBase, list_blocks};
 ghost use Rattle.lfs_writer.specs.Settled.{IsMapSettled, KeepsOthers, Puts, SharesUsed, settled_as};
 ghost use Rattle.lfs_writer.specs.Shared.{IsSharedCount, apart_count};
 
-use crate::sharing::shared_count;
+use crate::shared_blocks::shared_count;
 use crate::stored::Stored;
 use lfs_alloc::BlockMap;
 use lfs_ctz::{blocks_for, head_before};

@@ -11,9 +11,9 @@ ghost use Rattle.lfs_writer.specs.Hand.{KeepsUsed};
 ghost use Rattle.lfs_writer.specs.Roomy.{base_blocks};
 ghost use Rattle.lfs_writer.specs.Written.{HasWritten, IsAt, IsGoing, TurnsOver, bytes_over, length_in};
 
-use crate::beginning::begin_over;
-use crate::ending::end_hand;
-use crate::writing::{Hand, write_from};
+use crate::list_ends::end_hand;
+use crate::list_starts::begin_over;
+use crate::writes::{Hand, write_from};
 use lfs_alloc::BlockMap;
 use lfs_device::{BlockDevice, Error};
 use std::alloc::Global;

@@ -7,7 +7,7 @@ use Rattle.lfs_thread.specs.Kept.{disk_on}
 use Rattle.lfs_mount.specs.DirectoryView.{graph_of}
 use Rattle.lfs_mount.specs.Directories.{GraphShows}
 use Rattle.lfs_mount.specs.declared.pass.Member.{Member}
-use Rattle.lfs_mount.specs.declared.reaching.Directory.{Directory}
+use Rattle.lfs_mount.specs.declared.reachability.Directory.{Directory}
 use Rattle.lfs_mount.proofs.Called.{same_error}
 use Rattle.lfs_mount.proofs.Ending.{known_drawn, checked_accepted, checked_blocks, checked_moved, accepted_right}
 use Rattle.lfs_mount.proofs.Refuses.{accepted_passes}

@@ -1,6 +1,6 @@
 use Rattle.std.proofs.Common.{◌≡◌, ◌++◌, subst, sym}
 use Rattle.std.specs.Prelude.{OnOk}
-use Rattle.lfs_tool.specs.declared.finding.Finding.{Finding}
+use Rattle.lfs_tool.specs.declared.findings.Finding.{Finding}
 use Rattle.lfs_tool.specs.CheckedLines.{finding_text}
 use Rattle.lfs_tool.proofs.checked_lines.push_finding.Goals as goal
 

@@ -1,6 +1,6 @@
 use Rattle.std.proofs.Common.{◌≡◌, ◌++◌, subst, sym}
 use Rattle.std.specs.Prelude.{OnOk}
-use Rattle.lfs_tool.specs.declared.finding.Stated.{Stated}
+use Rattle.lfs_tool.specs.declared.findings.Stated.{Stated}
 use Rattle.lfs_tool.specs.CheckedLines.{stated_text}
 use Rattle.lfs_tool.proofs.checked_lines.push_stated.Goals as goal
 

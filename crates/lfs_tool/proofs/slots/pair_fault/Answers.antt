@@ -5,7 +5,7 @@ use Rattle.lfs_model.specs.Slots.{address_of}
 use Rattle.lfs_model.specs.Thread.{Pair}
 use Rattle.lfs_tool.specs.Broken.{IsBroken, IsEntrySlot}
 use Rattle.lfs_tool.specs.HeldView.{held_view, pair_view}
-use Rattle.lfs_tool.specs.declared.finding.Finding.{Finding}
+use Rattle.lfs_tool.specs.declared.findings.Finding.{Finding}
 use Rattle.lfs_tool.proofs.HeldPlaces.{further_on, slot_there}
 use Rattle.lfs_tool.proofs.slots.pair_fault.Goals as goal
 

@@ -4,7 +4,7 @@ use Rattle.lfs_model.specs.Disk.{Disk}
 use Rattle.lfs_model.specs.Thread.{Pair, superblocks_before}
 use Rattle.lfs_tool.specs.Broken.{IsBroken}
 use Rattle.lfs_tool.specs.HeldView.{pair_view, pairs_view}
-use Rattle.lfs_tool.specs.declared.finding.Finding.{Finding}
+use Rattle.lfs_tool.specs.declared.findings.Finding.{Finding}
 use Rattle.lfs_tool.proofs.HeldPlaces.{pair_there}
 use Rattle.lfs_tool.proofs.slots.slots_fault.Goals as goal
 

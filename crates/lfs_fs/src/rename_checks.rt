@@ -1,0 +1,125 @@
+// The paths and the checks of a rename.
+
+ghost use Rattle.std.specs.Prelude.{◌≡◌, ◌&&◌, false, is_some, not, true};
+ghost use Rattle.lfs_model.specs.TreeEdits.{is_beneath, rest_after, same_path};
+ghost use Rattle.lfs_model.specs.Operations as ops;
+ghost use Rattle.lfs_model.specs.Operations.{path_of};
+ghost use Rattle.lfs_model.specs.Refusals.{as_path, bad_entry};
+ghost use Rattle.lfs_model.specs.Session.{refuse_if};
+ghost use Rattle.lfs_lookup.specs.Refusals.{is_refusal, refusal_in};
+ghost use Rattle.lfs_fs.specs.Held.{Checks, IsReady, held_of};
+ghost use Rattle.lfs_fs.specs.RenamePaths.{IsRenaming, goes_on};
+
+use crate::check_order::{both, passed};
+use crate::checks::{is_overcharged_with, lacks, parse_entry};
+use crate::files::Files;
+use crate::owned_path::is_same;
+use lfs_device::{BlockDevice, Error};
+use lfs_lookup::{Path, Refusal, refuse_if};
+use lfs_tag::Superblock;
+use lfs_tree::Tree;
+use std::alloc::Global;
+
+// Whether the other bytes begin with these, and end there or go on with a slash.
+fn goes_on(bytes: &[u8], other: &[u8]) -> bool
+    ensures { result ≡ goes_on bytes.now other.now }
+{
+    if !other.starts_with(bytes) {
+        return false;
+    }
+    other.len() == bytes.len() || other[bytes.len()] == b'/'
+}
+
+// Whether the path of the other bytes is that of these, an entry's, or lies beneath it.
+pub(crate) fn is_within(bytes: &[u8], other: &[u8]) -> bool
+    requires entry { bad_entry (path_of bytes.now) ≡ false }
+    requires given { is_some (path_of other.now) ≡ true }
+    ensures { result ≡ is_some (rest_after (as_path bytes.now) (as_path other.now)) }
+{
+    goes_on(bytes, other)
+}
+
+// Whether the bytes are of the same path.
+fn is_same_path(bytes: &[u8], other: &[u8]) -> bool
+    requires given { is_some (path_of bytes.now) ≡ true }
+    requires other { is_some (path_of other.now) ≡ true }
+    ensures { result ≡ same_path (as_path bytes.now) (as_path other.now) }
+{
+    is_same(other, bytes)
+}
+
+// Whether the path of the other bytes lies beneath that of these, an entry's.
+fn is_beneath(bytes: &[u8], other: &[u8]) -> bool
+    requires entry { bad_entry (path_of bytes.now) ≡ false }
+    requires given { is_some (path_of other.now) ≡ true }
+    ensures { result ≡ is_beneath (as_path bytes.now) (as_path other.now) }
+{
+    is_within(bytes, other) && !is_same_path(bytes, other)
+}
+
+// A check of what stands at the new path, which a rename to the same path passes.
+fn refuse_replacing(is_same: bool, is_bad: bool, error: Error) -> Option<Refusal>
+    requires { is_refusal error ≡ true }
+    ensures { result ≡ refuse_if (not is_same && is_bad) (refusal_in error) }
+{
+    refuse_if(both(!is_same, is_bad), error)
+}
+
+/// A rename that no check refuses.
+#[derive(Drop)]
+pub struct Renaming<'a> {
+    pub from: Path<'a>,
+    pub to: Path<'a>,
+    /// Whether both paths are the same.
+    pub is_same: bool,
+}
+
+/// The paths of a rename.
+pub fn check_rename<'a, D: BlockDevice>(
+    alloc: Global,
+    tree: &mut Tree<D>,
+    files: &Files,
+    old: &'a [u8],
+    new: &'a [u8],
+) -> Result<Renaming<'a>, Error>
+    requires { tree.old.failed ≡ false → IsReady tree.old files.now }
+    ensures { Checks (held_of tree.old files.now) (ops.Rename old.now new.now) (IsRenaming old.now new.now) result tree.new }
+{
+    if tree.has_failed() {
+        return Err(Error::Failed);
+    }
+    if !tree.is_writable() {
+        return Err(Error::ReadOnly);
+    }
+    let Some(from) = parse_entry(old) else {
+        return Err(Error::Invalid);
+    };
+    let Some(to) = parse_entry(new) else {
+        return Err(Error::Invalid);
+    };
+    if is_beneath(old, new) {
+        return Err(Error::Invalid);
+    }
+    let entry = tree.look_up(alloc, &from)?;
+    let inside = tree.look_inside(alloc, &to)?;
+    let taken = tree.attributes_size(alloc, &from)?;
+    let is_same = is_same_path(old, new);
+    let replaces = inside.finding.node;
+    let name_len = to.name_len();
+    let puts_directory = both(entry.node.is_directory(), replaces.is_file());
+    let puts_file = both(entry.node.is_file(), replaces.is_directory());
+    let overfills = is_overcharged_with(tree, name_len, taken);
+    let checks = [
+        entry.fault,
+        inside.finding.fault,
+        refuse_if(name_len > Superblock::NAME_MAX as usize, Error::NameTooLong),
+        refuse_if(entry.node.is_nothing(), Error::NoEnt),
+        refuse_replacing(is_same, puts_directory, Error::NotDir),
+        refuse_replacing(is_same, puts_file, Error::IsDir),
+        refuse_replacing(is_same, inside.has_entries, Error::NotEmpty),
+        refuse_if(files.is_in_the_way(old, new), Error::Busy),
+        refuse_replacing(is_same, overfills, Error::EntryFull),
+        refuse_if(lacks(tree, files, 2), Error::NoSpace),
+    ];
+    passed(&checks, Renaming { from, to, is_same })
+}

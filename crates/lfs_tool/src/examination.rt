@@ -1,0 +1,128 @@
+// Whether the bytes of an image are accepted, and with what, or why not.
+
+ghost use Rattle.std.specs.Prelude.{◌≡◌, ◌<◌, ◌≤◌, ◌^◌, List, ℕ, IfErr, IfOk, IfSome, IsErrOf, OnOk, length};
+ghost use Rattle.lfs_tool.specs.Stated.{IsStatedIn};
+ghost use Rattle.lfs_tool.specs.Checked.{AreRefused, IsCheckedAs, IsGiven, IsJudged, IsReason};
+ghost use Rattle.lfs_tool.specs.Known.{FailsToRead};
+ghost use Rattle.lfs_tool.specs.Reported.{IsReadToEnd};
+
+use crate::checked::{Checked, Given, Reason};
+use crate::findings::Stated;
+use crate::image_devices::device_of;
+use crate::input::{IMAGE_MAX, read_image};
+use crate::judgement::judge;
+use crate::superblocks::misstated_in;
+use crate::verdict::Verdict;
+use crate::{Reader, ToolError};
+use lfs_device::Error;
+use std::alloc::Global;
+
+// The verdict on an image. None where the bytes are none.
+fn judge_image(
+    alloc: Global,
+    image: Vec<u8>,
+    block_size: u32,
+    page: u32,
+) -> Result<Option<Verdict>, Error>
+    requires { length image.items < 2 ^ 32 }
+    ensures judged { IfOk result (IsJudged block_size page image.items) }
+    ensures err { IfErr result (λ e. e ≡ Error.NoMemory) }
+{
+    match device_of(image, block_size, page) {
+        Ok(device) => {
+            let verdict = judge(alloc, device)?;
+            Ok(Some(verdict))
+        }
+        Err(_) => Ok(None),
+    }
+}
+
+// The sizes with which an image of so many bytes is looked at.
+fn given_of(len: usize, block_size: u32, page: u32) -> Given
+    ensures { (image : List ℕ) → length image ≡ len → IsGiven block_size page image result }
+{
+    let blocks = if block_size == 0 {
+        0
+    } else {
+        len / block_size as usize
+    };
+    Given {
+        block_size,
+        page,
+        blocks,
+    }
+}
+
+// An image that isn't accepted. What its superblock states comes first.
+fn refused_as(stated: Option<Stated>, reason: Reason, given: Given) -> Checked
+    ensures { (block_size : ℕ) (page : ℕ) (image : List ℕ) → AreRefused block_size page image → IfSome stated (IsStatedIn image block_size)
+        → IsReason block_size page image reason → IsGiven block_size page image given → IsCheckedAs block_size page image result }
+{
+    let reason = match stated {
+        Some(stated) => Reason::Stated(stated),
+        None => reason,
+    };
+    Checked::Refused { reason, given }
+}
+
+// What is said of the bytes.
+fn checked_as(stated: Option<Stated>, verdict: Option<Verdict>, given: Given) -> Checked
+    ensures { (block_size : ℕ) (page : ℕ) (image : List ℕ) → IfSome stated (IsStatedIn image block_size) → IsJudged block_size page image verdict
+        → IsGiven block_size page image given → IsCheckedAs block_size page image result }
+{
+    match verdict {
+        Some(Verdict::Accepted { summary, orders }) => Checked::Accepted { summary, orders },
+        Some(Verdict::Refused(Some(finding))) => {
+            refused_as(stated, Reason::Broken(finding), given)
+        }
+        Some(Verdict::Refused(None)) => refused_as(stated, Reason::Other, given),
+        None => refused_as(stated, Reason::NoImage, given),
+    }
+}
+
+// The same of bytes that an image may have.
+fn examine_bytes(
+    alloc: Global,
+    image: Vec<u8>,
+    block_size: u32,
+    page: u32,
+) -> Result<Checked, Error>
+    requires { length image.items < 2 ^ 32 }
+    ensures checked { IfOk result (IsCheckedAs block_size page image.items) }
+    ensures err { IfErr result (λ e. e ≡ Error.NoMemory) }
+{
+    let given = given_of(image.len(), block_size, page);
+    let stated = misstated_in(&image, block_size);
+    let verdict = judge_image(alloc, image, block_size, page)?;
+    Ok(checked_as(stated, verdict, given))
+}
+
+/// Whether an image is accepted, and with what, or why not: `Accepted` exactly where a mount takes it,
+/// in whichever order its names are, and each reason is true of its bytes. Of an image that isn't
+/// accepted, what the superblock in block 0 or 1 says of it comes first; then the first rule that it
+/// breaks, of those that `lfs_tool` knows.
+///
+/// The image is read first, to its end, or past the largest image's size, 268435456 bytes.
+///
+/// # Errors
+/// - `Input` where the reader failed.
+/// - `Fs(NoMemory)` where a growth was refused.
+pub fn examine<R: Reader>(
+    alloc: Global,
+    image: &mut R,
+    block_size: u32,
+    page: u32,
+) -> Result<Checked, ToolError>
+    ensures checked { IfOk result (λ checked. IfSome (R.remaining image.old) (λ bytes. IsCheckedAs block_size page bytes checked)) }
+    ensures kept { OnOk result (R.faults image.new ≡ R.faults image.old) }
+    ensures err { IfErr result (λ e. FailsToRead e (R.faults image.old) (R.faults image.new)) }
+    ensures read { ¬ IsErrOf result ToolError.Input → ¬ IsErrOf result (ToolError.Fs Error.NoMemory) → IsReadToEnd (R.remaining image.old) (R.remaining image.new) }
+{
+    let bytes = read_image(alloc, image)?;
+    if bytes.len() > IMAGE_MAX {
+        let given = given_of(bytes.len(), block_size, page);
+        return Ok(refused_as(None, Reason::NoImage, given));
+    }
+    let checked = examine_bytes(alloc, bytes, block_size, page)?;
+    Ok(checked)
+}

@@ -1,0 +1,66 @@
+// Images that are checked.
+
+ghost use Rattle.std.specs.Prelude.{◌≡◌, IfOk, IfSome, IsErrOf};
+ghost use Rattle.std.specs.Io.KnownBytes.{Appends};
+ghost use Rattle.lfs_tool.specs.Known.{AppendsBeginning};
+ghost use Rattle.lfs_tool.specs.Reported.{IsReadToEnd, ReportsOnce, ReportsWriter};
+ghost use Rattle.lfs_tool.specs.Checked.{IsCheckedAs, is_accepted};
+ghost use Rattle.lfs_tool.specs.CheckedLines.{checked_text};
+
+use crate::checked::Checked;
+use crate::checked_lines::checked_lines;
+use crate::examination::examine;
+use crate::output::write_bytes;
+use crate::{Reader, ToolError, Writer};
+use lfs_device::Error;
+use std::alloc::Global;
+
+// Whether the image was accepted.
+fn is_accepted(checked: &Checked) -> bool
+    ensures { result ≡ is_accepted checked.now }
+{
+    match checked {
+        Checked::Accepted { .. } => true,
+        Checked::Refused { .. } => false,
+    }
+}
+
+/// Writes what is wrong with an image, or what is in it, and answers whether it is accepted, as `examine`
+/// has it. Nothing is written before that is known, and what was written is flushed.
+///
+/// Of an accepted image the lines are `ok`, `files <n>`, `directories <n>`, `used <n> of <m> blocks`,
+/// `free <n>`, `order <order>`, `recover yes` or `recover no`, and `writable yes` or `writable no` with
+/// its reason. Of another one they are `corrupt`, and one that says why.
+///
+/// # Errors
+/// - `Input` where the reader failed.
+/// - `Fs(NoMemory)` where a growth was refused.
+/// - `Output` where the writer failed. What was written is then a beginning of the lines.
+pub fn check<R: Reader, W: Writer>(
+    alloc: Global,
+    image: &mut R,
+    block_size: u32,
+    page: u32,
+    out: &mut W,
+) -> Result<bool, ToolError>
+    ensures ok { IfOk result (λ accepted. IfSome (R.remaining image.old) (λ bytes.
+        (checked : _) × (IsCheckedAs block_size page bytes checked × (accepted ≡ is_accepted checked) × Appends (W.contents out.old) (W.contents out.new) (checked_text checked)))) }
+
+    // The writer isn't touched, unless it fails: then a beginning of the lines may be written.
+    ensures writer { ReportsWriter W.Writer out.old out.new result }
+    ensures beginning { IsErrOf result ToolError.Output → IfSome (R.remaining image.old) (λ bytes.
+        (checked : _) × (IsCheckedAs block_size page bytes checked × AppendsBeginning (W.contents out.old) (W.contents out.new) (checked_text checked))) }
+
+    // When each other error comes.
+    ensures refused { (e : _) → IsErrOf result (ToolError.Fs e) → e ≡ Error.NoMemory }
+    ensures input { ReportsOnce ToolError.Input (R.faults image.old) (R.faults image.new) result }
+    ensures read { ¬ IsErrOf result ToolError.Input → ¬ IsErrOf result (ToolError.Fs Error.NoMemory) → IsReadToEnd (R.remaining image.old) (R.remaining image.new) }
+{
+    let checked = examine(alloc, image, block_size, page)?;
+    let text = match checked_lines(alloc, &checked) {
+        Ok(text) => text,
+        Err(_) => return Err(ToolError::Fs(Error::NoMemory)),
+    };
+    write_bytes(out, text.as_slice())?;
+    Ok(is_accepted(&checked))
+}

@@ -1,0 +1,100 @@
+// Whether an image is accepted, and with what, or why not.
+
+ghost use Rattle.std.specs.Prelude.{◌≡◌, ◌↔◌, IfErr, IfOk, IfSome, IsTrue, false};
+ghost use Rattle.lfs_device.specs.RamDevice.{ram_blocks, geometry_of};
+ghost use Rattle.lfs_device.specs.Shown.{disk_of, ordered};
+ghost use Rattle.lfs_tool.specs.Found.{IsFound};
+ghost use Rattle.lfs_tool.specs.Summary.{HasOrders, IsAcceptedIn};
+ghost use Rattle.lfs_tool.specs.Verdict.{IsVerdict};
+ghost use Rattle.lfs_model.specs.BlockSets.{AreUsed};
+ghost use Rattle.lfs_model.specs.Shown.{used_blocks};
+ghost use Rattle.lfs_model.specs.View.{IsAccepted};
+ghost use Rattle.lfs_model.specs.declared.order.NameOrder.{NameOrder};
+ghost use Rattle.lfs_model.specs.declared.order.NameOrder.TheVariants.{LongerFirst, ShorterFirst};
+
+use crate::findings::Finding;
+use crate::searches::find;
+use crate::summaries::summary_of;
+use crate::verdict::{Orders, Verdict};
+use lfs_device::{Error, NameOrder, Ordered, RamDevice};
+use lfs_mount::{mount, mount_either};
+use lfs_thread::Thread;
+use std::alloc::Global;
+
+// Whether the image of a device is accepted with its names in that order.
+fn is_accepted_in(alloc: Global, device: RamDevice, order: NameOrder) -> Result<bool, Error>
+    ensures is { IfOk result (λ b. IsTrue b ↔ IsAcceptedIn order (disk_of (geometry_of device) (ram_blocks device))) }
+    ensures err { IfErr result (λ e. e ≡ Error.NoMemory) }
+{
+    match mount(alloc, Ordered::new(device, order)) {
+        Ok(_thread) => Ok(true),
+        Err((_device, Error::Corrupt)) => Ok(false),
+        Err((_device, error)) => Err(error),
+    }
+}
+
+// In which orders of names the image of a device is accepted, of which `first` is one.
+fn orders_of(alloc: Global, device: RamDevice, first: NameOrder) -> Result<Orders, Error>
+    requires first { IsAcceptedIn first (disk_of (geometry_of device) (ram_blocks device)) }
+    requires longer { first ≡ ShorterFirst → ¬ IsAcceptedIn LongerFirst (disk_of (geometry_of device) (ram_blocks device)) }
+    ensures orders { IfOk result (HasOrders (disk_of (geometry_of device) (ram_blocks device))) }
+    ensures err { IfErr result (λ e. e ≡ Error.NoMemory) }
+{
+    match first {
+        NameOrder::ShorterFirst => Ok(Orders::ShorterFirst),
+        NameOrder::LongerFirst => {
+            if is_accepted_in(alloc, device, NameOrder::ShorterFirst)? {
+                Ok(Orders::Either)
+            } else {
+                Ok(Orders::LongerFirst)
+            }
+        }
+    }
+}
+
+// A rule that the image of a device breaks.
+fn finding_on(alloc: Global, device: &mut RamDevice) -> Result<Option<Finding>, Error>
+    ensures found { IfOk result (λ found. IfSome found (IsFound (disk_of (geometry_of device.old) (ram_blocks device.old)))) }
+    ensures err { IfErr result (λ e. e ≡ Error.NoMemory) }
+{
+    match find(alloc, device) {
+        Ok(found) => Ok(found),
+        // It has met no fault, so memory ran out.
+        Err(error) => Err(error),
+    }
+}
+
+// What a mounted image has.
+fn judge_mounted(alloc: Global, mut thread: Thread<Ordered<RamDevice>>) -> Result<Verdict, Error>
+    requires works { thread.failed ≡ false }
+    requires accepted { IsAccepted thread.kept.disk thread.kept.pairs }
+    requires used { AreUsed thread.kept.map (used_blocks thread.kept.disk thread.kept.pairs) }
+    requires longer { thread.kept.disk.order ≡ ShorterFirst → ¬ IsAcceptedIn LongerFirst thread.kept.disk }
+    ensures verdict { IfOk result (IsVerdict thread.kept.disk) }
+    ensures err { IfErr result (λ e. e ≡ Error.NoMemory) }
+{
+    let summary = summary_of(alloc, &mut thread)?;
+    let device = thread.into_device();
+    let order = device.order();
+    let orders = orders_of(alloc, device.into_inner(), order)?;
+    Ok(Verdict::Accepted { summary, orders })
+}
+
+/// Whether the image of a device in memory is accepted, and with what, or why not: `Accepted` exactly
+/// where a mount takes it, in whichever order its names are, and each finding is true of it. The order of
+/// names of the device's own geometry doesn't matter.
+///
+/// `NoMemory` where memory isn't granted.
+pub fn judge(alloc: Global, device: RamDevice) -> Result<Verdict, Error>
+    ensures verdict { IfOk result (λ verdict. (order : NameOrder) → IsVerdict (ordered order (disk_of (geometry_of device) (ram_blocks device))) verdict) }
+    ensures err { IfErr result (λ e. e ≡ Error.NoMemory) }
+{
+    match mount_either(alloc, device) {
+        Ok(thread) => judge_mounted(alloc, thread),
+        Err((mut device, Error::Corrupt)) => {
+            let found = finding_on(alloc, &mut device)?;
+            Ok(Verdict::Refused(found))
+        }
+        Err((_device, error)) => Err(error),
+    }
+}

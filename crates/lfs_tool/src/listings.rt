@@ -1,0 +1,126 @@
+ghost use Rattle.std.specs.Prelude.{◌≡◌, ◌<◌, ◌^◌, List, ℕ, IfErr, IfOk, IfSome, IsErrOf, OnOk, length};
+ghost use Rattle.std.specs.Io.KnownBytes.{Appends};
+ghost use Rattle.lfs_tool.specs.ExcerptBlocks.{HaveSize};
+ghost use Rattle.lfs_tool.specs.ExcerptView.{excerpt_blocks, geometry_of};
+ghost use Rattle.lfs_device.specs.Shown.{disk_of as shown, ordered};
+ghost use Rattle.lfs_model.specs.Disk.{IsImage};
+ghost use Rattle.lfs_model.specs.Geometry.{IsGeometry};
+ghost use Rattle.lfs_model.specs.declared.order.NameOrder.{NameOrder};
+ghost use Rattle.lfs_tool.specs.Blocks.{AreRead};
+ghost use Rattle.lfs_tool.specs.Known.{AppendsBeginning, FailsToList, IsListError};
+ghost use Rattle.lfs_tool.specs.Reported.{IsReadToEnd, ReportsOnce, ReportsWriter};
+ghost use Rattle.lfs_tool.specs.Listed.{HasLines, IsNotMounted, Lists, Refuses};
+
+use crate::blocks::read_blocks;
+use crate::image_devices::{excerpt_of, items_of_excerpt};
+use crate::input::pass_image;
+use crate::lines::lines_of;
+use crate::output::write_bytes;
+use crate::{BlockExcerpt, Excerpt, Reader, ToolError, Writer, excerpt_is_listed_alike};
+use lfs_device::{Error, Geometry};
+use std::alloc::Global;
+
+// The lines of an excerpt.
+fn lines_on(alloc: Global, device: Excerpt) -> Result<Vec<u8>, Error>
+    ensures lines { IfOk result (λ text. (order : NameOrder) × HasLines (ordered order (shown (geometry_of device) (excerpt_blocks device))) text.items) }
+    ensures err { IfErr result (IsNotMounted (shown (geometry_of device) (excerpt_blocks device))) }
+{
+    let (_thread, items) = items_of_excerpt(alloc, device)?;
+    let text = lines_of(alloc, &items)?;
+    Ok(text)
+}
+
+// The lines of an image whose blocks were read.
+fn lines_of_blocks(
+    alloc: Global,
+    blocks: Vec<BlockExcerpt>,
+    block_size: u32,
+    page: u32,
+) -> Result<Vec<u8>, Error>
+    requires many { length blocks.items < 2 ^ 32 }
+    requires sizes { HaveSize block_size blocks.items }
+    ensures ok { IfOk result (λ text. (bytes : List ℕ) → AreRead block_size bytes blocks.items → Lists block_size page bytes text.items) }
+    ensures err { IfErr result (λ e. (bytes : List ℕ) → AreRead block_size bytes blocks.items → Refuses block_size page bytes e) }
+    ensures kinds { IfErr result IsListError }
+{
+    excerpt_is_listed_alike();
+    match excerpt_of(blocks, block_size, page) {
+        Ok(excerpt) => lines_on(alloc, excerpt),
+        Err(error) => Err(error),
+    }
+}
+
+// `Invalid` where no image has blocks and pages of these sizes: the least has two blocks.
+fn check_sizes(block_size: u32, page: u32) -> Result<(), Error>
+    ensures ok { OnOk result (IsGeometry block_size page 2) }
+    ensures err { IfErr result (λ e. (e ≡ Error.Invalid) × ((bytes : List ℕ) → ¬ IsImage block_size page bytes)) }
+{
+    Geometry::new(block_size, page, 2)?;
+    Ok(())
+}
+
+// The lines of an image.
+fn read_lines<R: Reader>(
+    alloc: Global,
+    image: &mut R,
+    block_size: u32,
+    page: u32,
+) -> Result<Vec<u8>, ToolError>
+    ensures ok { IfOk result (λ text. IfSome (R.remaining image.old) (λ bytes. Lists block_size page bytes text.items)) }
+    ensures refused { (e : _) → IsErrOf result (ToolError.Fs e) → IfSome (R.remaining image.old) (λ bytes. Refuses block_size page bytes e) }
+    ensures kept { OnOk result (R.faults image.new ≡ R.faults image.old) }
+    ensures failed { IfErr result (λ e. FailsToList e (R.faults image.old) (R.faults image.new)) }
+    ensures read { ¬ IsErrOf result ToolError.Input → ¬ IsErrOf result (ToolError.Fs Error.NoMemory) → IsReadToEnd (R.remaining image.old) (R.remaining image.new) }
+{
+    if let Err(error) = check_sizes(block_size, page) {
+        pass_image(image)?;
+        return Err(ToolError::Fs(error));
+    }
+    let Some(blocks) = read_blocks(alloc, image, block_size)? else {
+        return Err(ToolError::Fs(Error::Invalid));
+    };
+    let text = lines_of_blocks(alloc, blocks, block_size, page)?;
+    Ok(text)
+}
+
+/// Writes a line for each file and directory of an image, depth first and in name order, a directory
+/// before what stands in it: `f <size> <path>`, the size in bytes, or `d 0 <path>`. In a path `\` and
+/// each byte outside 0x20 to 0x7e stand as `\x` and two hexadecimal digits.
+///
+/// The image may have its names in either order. Of two names of which one begins the other, the lines
+/// have the shorter first.
+///
+/// The image is read first, to its end, or past the largest image's size, 268435456 bytes, by a block at
+/// most: also where `block_size` or `page`, in bytes, is out of range. Of each block only what a listing
+/// needs is kept, which is mostly the first 132 bytes. Nothing is written before the image is known to be
+/// good, and what was written is flushed.
+///
+/// # Errors
+/// - `Input` where the reader failed.
+/// - `Fs(NoMemory)` where a growth was refused.
+/// - `Fs(Invalid)` where the image isn't a whole number of blocks, or its geometry is out of range.
+/// - `Fs(Corrupt)` where the image is accepted in neither order of names.
+/// - `Output` where the writer failed. What was written is then a beginning of the lines.
+pub fn list<R: Reader, W: Writer>(
+    alloc: Global,
+    image: &mut R,
+    block_size: u32,
+    page: u32,
+    out: &mut W,
+) -> Result<(), ToolError>
+    ensures ok { OnOk result (IfSome (R.remaining image.old) (λ bytes.
+        (text : _) × (Lists block_size page bytes text × Appends (W.contents out.old) (W.contents out.new) text))) }
+
+    // The writer isn't touched, unless it fails: then a beginning of the lines may be written.
+    ensures writer { ReportsWriter W.Writer out.old out.new result }
+    ensures beginning { IsErrOf result ToolError.Output → IfSome (R.remaining image.old) (λ bytes.
+        (text : _) × (Lists block_size page bytes text × AppendsBeginning (W.contents out.old) (W.contents out.new) text)) }
+
+    // When each other error comes.
+    ensures refused { (e : _) → IsErrOf result (ToolError.Fs e) → IsListError e × IfSome (R.remaining image.old) (λ bytes. Refuses block_size page bytes e) }
+    ensures input { ReportsOnce ToolError.Input (R.faults image.old) (R.faults image.new) result }
+    ensures read { ¬ IsErrOf result ToolError.Input → ¬ IsErrOf result (ToolError.Fs Error.NoMemory) → IsReadToEnd (R.remaining image.old) (R.remaining image.new) }
+{
+    let text = read_lines(alloc, image, block_size, page)?;
+    write_bytes(out, text.as_slice())
+}

@@ -1,0 +1,73 @@
+// What is wrong with the image of a device.
+
+ghost use Rattle.std.specs.Prelude.{◌≡◌, IfErr, IfOk, IfSome};
+ghost use Rattle.lfs_device.specs.Shown.{disk_of};
+ghost use Rattle.lfs_model.specs.Disk.{Disk};
+ghost use Rattle.lfs_tool.specs.Broken.{IsBroken};
+ghost use Rattle.lfs_tool.specs.Device.{HasSizes, Looks};
+ghost use Rattle.lfs_tool.specs.Found.{IsFound};
+ghost use Rattle.lfs_tool.specs.HeldView.{pairs_view};
+ghost use Rattle.lfs_tool.specs.Reading.{IsFollowed};
+
+use crate::findings::Finding;
+use crate::heads::head_fault;
+use crate::held::HeldPair;
+use crate::roots::root_of;
+use crate::slots::slots_fault;
+use crate::thread_walk::{Followed, follow};
+use lfs_device::{BlockDevice, Error, Geometry};
+use std::alloc::{AllocError, Global};
+
+// The first rule that the pairs of a thread break.
+fn pairs_fault(
+    alloc: Global,
+    geometry: &Geometry,
+    pairs: &[HeldPair],
+) -> Result<Option<Finding>, AllocError>
+    ensures { IfOk result (λ found. IfSome found (λ f. (disk : Disk) → HasSizes disk geometry.now → IsBroken disk (pairs_view pairs.now) f)) }
+{
+    if pairs.is_empty() {
+        return Ok(None);
+    }
+    let root = root_of(pairs);
+    if let Some(finding) = head_fault(geometry, pairs, root) {
+        return Ok(Some(finding));
+    }
+    slots_fault(alloc, pairs, root)
+}
+
+// The first rule that a thread breaks, which was followed.
+fn fault_in(
+    alloc: Global,
+    geometry: &Geometry,
+    followed: Followed,
+) -> Result<Option<Finding>, Error>
+    ensures found { IfOk result (λ found. IfSome found (λ f. (disk : Disk) → HasSizes disk geometry.now → IsFollowed disk followed → IsFound disk f)) }
+    ensures errors { IfErr result (λ e. e ≡ Error.NoMemory) }
+{
+    match followed {
+        Followed::Whole(pairs) => {
+            let finding = pairs_fault(alloc, geometry, &pairs)?;
+            Ok(finding)
+        }
+        Followed::Broken(finding) => Ok(Some(finding)),
+    }
+}
+
+/// The first rule that an image breaks, and where: from the pair of blocks 0 and 1 on what the thread
+/// names, by the tails, the superblock's sizes and version, and then what stands in the slots of its pairs. Only reads are made, one of
+/// each block of a pair.
+///
+/// None where no rule is broken that it looks for. Then the image may still not be accepted.
+///
+/// `Io` where a read failed, and `NoMemory` where memory isn't granted.
+pub fn find<D: BlockDevice>(alloc: Global, device: &mut D) -> Result<Option<Finding>, Error>
+    ensures found { IfOk result (λ found. IfSome found (IsFound (disk_of (D.geometry device.old) (D.blocks device.old)))) }
+    ensures looks { Looks D.BlockDevice device.old device.new result }
+{
+    let geometry = device.geometry();
+    match follow(alloc, device)? {
+        Some(followed) => fault_in(alloc, &geometry, followed),
+        None => Ok(None),
+    }
+}

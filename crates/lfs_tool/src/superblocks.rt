@@ -1,0 +1,68 @@
+// What a superblock says of an image, by its place in the bytes alone.
+
+ghost use Rattle.std.specs.Prelude.{◌≡◌, ◌⊎◌, ◌<◌, ◌/◌, ◌^◌, IfSome, length};
+ghost use Rattle.lfs_tag.specs.FieldsView.{superblock_view};
+ghost use Rattle.lfs_tool.specs.Stated.{IsStatedIn, IsUnlike, StandsAt};
+
+use crate::findings::Stated;
+use lfs_tag::{Superblock, superblock_of};
+
+// What these fields say that isn't so of blocks of that size, so many of them.
+pub(crate) fn unlike(block_size: u32, count: usize, fields: &Superblock) -> Option<Stated>
+    ensures { IfSome result (IsUnlike block_size count (superblock_view fields.now)) }
+{
+    if fields.block_size != block_size {
+        return Some(Stated::BlockSize(fields.block_size));
+    }
+    if fields.block_count as usize != count {
+        return Some(Stated::BlockCount(fields.block_count));
+    }
+    if fields.version != Superblock::VERSION {
+        return Some(Stated::Version(fields.version));
+    }
+    None
+}
+
+// The fields of the superblock with which a block begins that begins there.
+fn fields_at(bytes: &[u8], from: usize) -> Option<Superblock>
+    requires { from < 2 ^ 32 }
+    ensures { IfSome result (λ fields. StandsAt bytes.now from (superblock_view fields)) }
+{
+    if bytes.len() < from + 44 || &bytes[from + 8..from + 16] != Superblock::NAME {
+        return None;
+    }
+    match <&[u8; 24]>::try_from(&bytes[from + 20..from + 44]) {
+        Ok(fields) => Some(superblock_of(fields)),
+        Err(_) => None,
+    }
+}
+
+// What that superblock says of the bytes that isn't so.
+fn stated_at(bytes: &[u8], block_size: u32, from: usize) -> Option<Stated>
+    requires size { 0 < block_size }
+    requires from { (from ≡ 0) ⊎ (from ≡ block_size) }
+    ensures { IfSome result (IsStatedIn bytes.now block_size) }
+{
+    let count = bytes.len() / block_size as usize;
+    match fields_at(bytes, from) {
+        Some(fields) => unlike(block_size, count, &fields),
+        None => None,
+    }
+}
+
+/// What the superblock in block 0 or 1 of these bytes says of them that isn't so, with blocks of that
+/// size in bytes: another size or number of blocks, or another version. It is found by its place, and no
+/// checksum is looked at, so that blocks of another size needn't be known.
+///
+/// None where neither block begins with a superblock, or each says what is so.
+pub fn misstated_in(bytes: &[u8], block_size: u32) -> Option<Stated>
+    ensures { IfSome result (IsStatedIn bytes.now block_size) }
+{
+    if block_size == 0 {
+        return None;
+    }
+    match stated_at(bytes, block_size, 0) {
+        Some(stated) => Some(stated),
+        None => stated_at(bytes, block_size, block_size as usize),
+    }
+}

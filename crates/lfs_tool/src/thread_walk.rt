@@ -1,0 +1,73 @@
+// The thread, followed from its beginning.
+
+ghost use Rattle.std.specs.Prelude.{IfOk, IfSome, Some};
+ghost use Rattle.lfs_model.specs.Slots.{address_of};
+ghost use Rattle.lfs_device.specs.Shown.{disk_of};
+ghost use Rattle.lfs_tool.specs.Device.{Looks};
+ghost use Rattle.lfs_tool.specs.Reading.{AreHeld, IsFollowed, IsNext};
+
+use crate::addresses::{range_fault, twice_fault};
+use crate::findings::Finding;
+use crate::held::HeldPair;
+use crate::pairs::{Read, read_pair};
+use lfs_device::{BlockDevice, Error};
+use std::alloc::Global;
+
+// All pairs of the thread, or what is wrong with it.
+#[derive(Drop)]
+pub(crate) enum Followed {
+    Whole(Vec<HeldPair>),
+    Broken(Finding),
+}
+
+// The pair that the thread names behind these, or what is wrong with it. Which blocks stand in these,
+// `marks` says, so that the others aren't sought.
+fn next_pair<D: BlockDevice>(
+    alloc: Global,
+    device: &mut D,
+    marks: &mut Vec<bool>,
+    pairs: &[HeldPair],
+    at: [u32; 2],
+) -> Result<Read, Error>
+    requires { AreHeld (disk_of (D.geometry device.old) (D.blocks device.old)) (Some (address_of at)) pairs.now }
+    ensures read { IfOk result (IsNext (disk_of (D.geometry device.old) (D.blocks device.old)) (address_of at)) }
+    ensures looks { Looks D.BlockDevice device.old device.new result }
+{
+    let count = device.geometry().block_count;
+    if let Some(finding) = range_fault(count, at) {
+        return Ok(Read::Broken(finding));
+    }
+    if let Some(finding) = twice_fault(marks, pairs, at) {
+        return Ok(Read::Broken(finding));
+    }
+    read_pair(alloc, device, at)
+}
+
+// Follows the thread from the pair of blocks 0 and 1 on, by the tails (SPEC.md of littlefs, "The
+// metadata tree"). None where it has more pairs than the image has blocks, which can't be where no
+// block stands in it twice.
+pub(crate) fn follow<D: BlockDevice>(
+    alloc: Global,
+    device: &mut D,
+) -> Result<Option<Followed>, Error>
+    ensures followed { IfOk result (λ found. IfSome found (IsFollowed (disk_of (D.geometry device.old) (D.blocks device.old)))) }
+    ensures looks { Looks D.BlockDevice device.old device.new result }
+{
+    let count = device.geometry().block_count;
+    let mut marks = Vec::from_elem(alloc, false, count as usize)?;
+    let mut pairs = Vec::new(alloc);
+    let mut at = [0, 1];
+    for _ in 0..count {
+        let pair = match next_pair(alloc, device, &mut marks, &pairs, at)? {
+            Read::Pair(pair) => pair,
+            Read::Broken(finding) => return Ok(Some(Followed::Broken(finding))),
+        };
+        let tail = pair.tail;
+        pairs.push(pair)?;
+        match tail {
+            Some(tail) => at = tail.pair,
+            None => return Ok(Some(Followed::Whole(pairs))),
+        }
+    }
+    Ok(None)
+}

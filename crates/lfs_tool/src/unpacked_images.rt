@@ -1,0 +1,172 @@
+// Images that are unpacked.
+
+ghost use Rattle.std.specs.Prelude.{◌≡◌, ◌≢◌, ◌⊎◌, ◌<◌, ◌^◌, IfErr, IfOk, IfSome, IsErrOf, OnErr, OnOk, false, length};
+ghost use Rattle.lfs_device.specs.RamDevice.{ram_blocks, geometry_of};
+ghost use Rattle.lfs_device.specs.Shown.{disk_of as shown};
+ghost use Rattle.lfs_model.specs.View.{IsListIfCtz};
+ghost use Rattle.lfs_tool_folders.specs.Actions.{Adds};
+ghost use Rattle.lfs_tool.specs.Listed.{Refuses};
+ghost use Rattle.lfs_tool.specs.Unpacked.{AreLists, FailsToUnpack, FailsToUnpackImage, HasBegun, HasDone, IsBegunOfImage, IsDoneOf, IsDoneOfImage, ReportsTarget, action_at, actions_at};
+ghost use Rattle.lfs_thread.specs.Steps.{IsOnlyRead};
+ghost use Rattle.lfs_lookup.specs.FileBytes.{bytes_shown};
+ghost use Rattle.lfs_lookup.specs.Items.{structure_view};
+ghost use Rattle.lfs_lookup.specs.Walk.{found_view, founds_view};
+ghost use Rattle.lfs_tool.specs.Reported.{IsReadToEnd, ReportsOnce};
+
+use crate::image_devices::{device_of, items_in_memory};
+use crate::input::read_image;
+use crate::{Reader, ToolError};
+use lfs_device::{Error, Ordered, RamDevice};
+use lfs_lookup::{Structure, TreeItem, contents_of};
+use lfs_thread::Thread;
+use lfs_tool_folders::{Target, TargetError};
+use std::alloc::Global;
+
+// The bytes of a file of an image in memory.
+fn file_bytes(
+    alloc: Global,
+    thread: &mut Thread<Ordered<RamDevice>>,
+    structure: &Structure,
+) -> Result<Vec<u8>, ToolError>
+    requires works { thread.old.failed ≡ false }
+    requires list { IsListIfCtz thread.old.kept.disk (structure_view structure.now) }
+    ensures bytes { IfOk result (λ bytes. bytes.items ≡ bytes_shown thread.old.kept.disk (structure_view structure.now)) }
+    ensures only { IsOnlyRead thread.old.kept thread.new.kept }
+    ensures works { thread.new.failed ≡ false }
+    ensures err { IfErr result (λ e. e ≡ ToolError.Fs Error.NoMemory) }
+{
+    match contents_of(alloc, thread, structure) {
+        Ok(bytes) => Ok(bytes),
+        Err(error) => {
+            // It has met no fault, so memory ran out.
+            let _device = thread.device();
+            Err(ToolError::Fs(error))
+        }
+    }
+}
+
+// What a target's error says.
+fn fault_of(error: TargetError) -> ToolError
+    ensures { (error ≡ TargetError.Fault × (result ≡ ToolError.Output)) ⊎ (error ≡ TargetError.NoMemory × (result ≡ ToolError.Fs Error.NoMemory)) }
+{
+    match error {
+        TargetError::Fault => ToolError::Output,
+        TargetError::NoMemory => ToolError::Fs(Error::NoMemory),
+    }
+}
+
+// Does what one item asks for.
+fn put_item<T: Target>(
+    alloc: Global,
+    thread: &mut Thread<Ordered<RamDevice>>,
+    item: &TreeItem,
+    target: &mut T,
+) -> Result<(), ToolError>
+    requires works { thread.old.failed ≡ false }
+    requires list { IsListIfCtz thread.old.kept.disk (structure_view item.now.structure) }
+    ensures done { OnOk result (Adds (T.done target.old) (T.done target.new) (action_at thread.old.kept.disk (found_view item.now))) }
+    ensures undone { OnErr result (T.done target.new ≡ T.done target.old) }
+    ensures only { (IsOnlyRead thread.old.kept thread.new.kept) × (thread.new.failed ≡ false) }
+    ensures reports { ReportsTarget (T.faults target.old) (T.faults target.new) result }
+{
+    let result = match &item.structure {
+        Structure::Branch(_) => target.make_folder(alloc, &item.path),
+        structure => {
+            let bytes = file_bytes(alloc, thread, structure)?;
+            target.put_file(alloc, &item.path, &bytes)
+        }
+    };
+    match result {
+        Ok(()) => Ok(()),
+        Err(error) => Err(fault_of(error)),
+    }
+}
+
+// Does what the items ask for, in turn.
+fn put_items<T: Target>(
+    alloc: Global,
+    thread: &mut Thread<Ordered<RamDevice>>,
+    items: &[TreeItem],
+    target: &mut T,
+) -> Result<(), ToolError>
+    requires works { thread.old.failed ≡ false }
+    requires lists { AreLists thread.old.kept.disk (founds_view items.now) }
+    ensures done { OnOk result (HasDone (T.done target.old) (T.done target.new) (actions_at thread.old.kept.disk (founds_view items.now))) }
+    ensures begun { OnErr result (HasBegun (T.done target.old) (T.done target.new) (actions_at thread.old.kept.disk (founds_view items.now))) }
+    ensures reports { ReportsTarget (T.faults target.old) (T.faults target.new) result }
+{
+    for item in items {
+        put_item(alloc, thread, item, target)?;
+    }
+    Ok(())
+}
+
+// Unpacks a device in memory.
+fn unpack_on<T: Target>(alloc: Global, device: RamDevice, target: &mut T) -> Result<(), ToolError>
+    ensures done { OnOk result (IsDoneOf (shown (geometry_of device) (ram_blocks device)) (T.done target.old) (T.done target.new)) }
+    ensures failed { IfErr result (FailsToUnpack (shown (geometry_of device) (ram_blocks device)) (T.done target.old) (T.done target.new)) }
+    ensures output { ReportsOnce ToolError.Output (T.faults target.old) (T.faults target.new) result }
+{
+    match items_in_memory(alloc, device) {
+        Ok((mut thread, items)) => put_items(alloc, &mut thread, &items, target),
+        Err(error) => Err(ToolError::Fs(error)),
+    }
+}
+
+// Unpacks an image.
+fn unpack_image<T: Target>(
+    alloc: Global,
+    image: Vec<u8>,
+    block_size: u32,
+    page: u32,
+    target: &mut T,
+) -> Result<(), ToolError>
+    requires { length image.items < 2 ^ 32 }
+    ensures done { OnOk result (IsDoneOfImage block_size page image.items (T.done target.old) (T.done target.new)) }
+    ensures failed { IfErr result (FailsToUnpackImage block_size page image.items (T.done target.old) (T.done target.new)) }
+    ensures output { ReportsOnce ToolError.Output (T.faults target.old) (T.faults target.new) result }
+{
+    match device_of(image, block_size, page) {
+        Ok(device) => unpack_on(alloc, device, target),
+        Err(error) => Err(ToolError::Fs(error)),
+    }
+}
+
+/// Unpacks an image into a target: for each file and directory, depth first and in name order, one
+/// action. A directory is made before what stands in it, and a file is put with its bytes.
+///
+/// The image may have its names in either order. Of two names of which one begins the other, the shorter
+/// comes first here.
+///
+/// The image is read to its end, or to the byte past the largest image, 268435456 bytes. `block_size`
+/// and `page` are in bytes. Nothing is done before the image is known to be good. After an error the
+/// actions that were done are a beginning of those that the image asks for.
+///
+/// # Errors
+/// - `Input` where the reader failed.
+/// - `Fs(NoMemory)` where a growth was refused.
+/// - `Fs(Invalid)` where the image isn't a whole number of blocks, or its geometry is out of range.
+/// - `Fs(Corrupt)` where the image is accepted in neither order of names.
+/// - `Output` where the target failed.
+pub fn unpack<R: Reader, T: Target>(
+    alloc: Global,
+    image: &mut R,
+    block_size: u32,
+    page: u32,
+    target: &mut T,
+) -> Result<(), ToolError>
+    ensures done { OnOk result (IfSome (R.remaining image.old) (λ bytes. IsDoneOfImage block_size page bytes (T.done target.old) (T.done target.new))) }
+
+    // Nothing is done, or a beginning of the actions, where the target failed or memory ran out.
+    ensures undone { IfErr result (λ e. e ≢ ToolError.Output → e ≢ ToolError.Fs Error.NoMemory → T.done target.new ≡ T.done target.old) }
+    ensures begun { OnErr result ((T.done target.new ≡ T.done target.old) ⊎ IfSome (R.remaining image.old) (λ bytes. IsBegunOfImage block_size page bytes (T.done target.old) (T.done target.new))) }
+
+    // When each error comes.
+    ensures refused { (e : _) → IsErrOf result (ToolError.Fs e) → IfSome (R.remaining image.old) (λ bytes. Refuses block_size page bytes e) }
+    ensures input { ReportsOnce ToolError.Input (R.faults image.old) (R.faults image.new) result }
+    ensures read { ¬ IsErrOf result ToolError.Input → ¬ IsErrOf result (ToolError.Fs Error.NoMemory) → IsReadToEnd (R.remaining image.old) (R.remaining image.new) }
+    ensures output { ReportsOnce ToolError.Output (T.faults target.old) (T.faults target.new) result }
+{
+    let bytes = read_image(alloc, image)?;
+    unpack_image(alloc, bytes, block_size, page, target)
+}

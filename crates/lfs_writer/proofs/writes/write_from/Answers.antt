@@ -1,0 +1,48 @@
+use Rattle.std.proofs.Common.{◌≡◌, ◌+◌, ◌-◌, length, refl, ap, ◌∙◌, subst, arith, replicate}
+use Rattle.lfs_device.specs.declared.geometry.Geometry.{Geometry}
+use Rattle.lfs_model.specs.Writers.{written_into}
+use Rattle.lfs_ctz.specs.Growing.{end_of}
+use Rattle.lfs_writer.specs.Written.{IsGoing, bytes_over, length_in}
+use Rattle.lfs_writer.proofs.Owning.{list_then}
+use Rattle.lfs_writer.proofs.Called.{used_on}
+use Rattle.lfs_writer.proofs.Flights.{length-hand, part_fits, shaped, wrote_all}
+use Rattle.lfs_writer.proofs.writes.write_from.Goals as goal
+
+pub write_zeros-requires-clause-room : goal.write_zeros-requires-clause-room
+write_zeros-requires-clause-room g c =
+    let hand = c.args.hand.now in
+    let at = c.requires.at in
+    let size = c.size.ensures in
+    part_fits (g.D.BlockDevice.geometry c.args.dev.now) (g.D.BlockDevice.geometry c.args.dev.now) hand.base hand.base _ _ _ _ (end_of hand.list + (c.args.place - c.size.result)) (c.args.place + length c.args.bytes.now) refl refl (omega arith) refl refl c.requires.room
+
+pub returns-in_err-write_on-clause-device : goal.returns-in_err-write_on-clause-device
+returns-in_err-write_on-clause-device g c = used_on g.D.BlockDevice c.write_zeros.ensures.map c.write_zeros.ensures.device c.write_on.ensures.device
+
+pub returns-clause-device : goal.returns-clause-device
+returns-clause-device g c = used_on g.D.BlockDevice c.write_zeros.ensures.map c.write_zeros.ensures.device c.write_on.ensures.device
+
+pub returns-clause-written : goal.returns-clause-written
+returns-clause-written g c =
+    let hand = c.args.hand.now in
+    let d = g.D.BlockDevice.blocks c.args.dev.now in
+    let begun = c.requires.begun in
+    let geometry : Geometry = hand.list.geometry in
+    let at = c.requires.at in
+    let size = c.size.ensures in
+    let zeroed = c.in_ok-write_zeros.ensures.zeroed in
+    let wrote = c.in_ok-write_on.ensures.written in
+    let end : end_of c.write_zeros.new.hand.list ≡ c.args.place = (let sum = zeroed.at.size in omega arith) in
+    let long = length-hand d geometry.block_size (g.D.BlockDevice.geometry c.args.dev.now).block_count hand.list hand.base geometry.valid.no_smaller (shaped d _ _ begun.geometry (g.met.D.BlockDevice.shape c.args.dev.now)) begun.begun.growing begun.begun.list in
+    let gap : c.args.place - c.size.result ≡ c.args.place - end_of hand.list = ap (λ n. c.args.place - n) size in
+    record {
+      going = subst (λ (k : Geometry). IsGoing c.write_on.new.map (g.D.BlockDevice.blocks c.write_on.new.dev) k c.write_on.new.hand) c.write_zeros.ensures.device.geometry wrote.going;
+      size = (let sum = wrote.size in omega arith);
+      bytes = wrote_all (bytes_over d hand) (bytes_over d hand) _ _ c.args.bytes.now (length_in hand) c.args.place (end_of hand.list) (end_of hand.list) _ long at refl refl
+          (zeroed.at.bytes ∙ ap (λ n. written_into (bytes_over d hand) (end_of hand.list) (replicate n 0)) gap) end wrote.bytes;
+    }
+
+pub returns-in_err-write_on-clause-base : goal.returns-in_err-write_on-clause-base
+returns-in_err-write_on-clause-base g c = list_then _ _ _ _ _ _ _ _ c.write_zeros.ensures.device.geometry c.write_zeros.ensures.base c.write_on.ensures.base
+
+pub returns-clause-base : goal.returns-clause-base
+returns-clause-base g c = list_then _ _ _ _ _ _ _ _ c.write_zeros.ensures.device.geometry c.write_zeros.ensures.base c.write_on.ensures.base

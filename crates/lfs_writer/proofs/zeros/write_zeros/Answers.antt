@@ -1,0 +1,106 @@
+use Rattle.std.proofs.Common.{ℕ, ◌≡◌, ◌+◌, ◌≤◌, List, length, take, replicate, refl, sym, ap, ◌∙◌, subst, arith}
+use Rattle.std.proofs.lemmas.List.{take-replicate, length-replicate}
+use Rattle.std.proofs.lemmas.Result.{err_from_is_err_and}
+use Rattle.lfs_device.specs.declared.geometry.Geometry.{Geometry}
+use Rattle.lfs_model.specs.Writers.{written_into}
+use Rattle.lfs_ctz.specs.Growing.{end_of}
+use Rattle.lfs_writer.specs.Written.{HasBegun, IsGoing, IsZeroed, bytes_over}
+use Rattle.lfs_writer.proofs.Owning.{list_same, list_then}
+use Rattle.lfs_writer.proofs.Called.{not_read, quiet, reported_as, reported_on, used_on, used_reads}
+use Rattle.lfs_writer.proofs.Flights.{in_hand, more_zeros, part_fits, shaped, wrote_none}
+use Rattle.lfs_writer.proofs.Spared.{KeepsUsed-refl, KeepsUsed-trans}
+use Rattle.lfs_writer.proofs.zeros.write_zeros.Goals as goal
+
+pub zeroing-init : goal.zeroing-init
+zeroing-init g c =
+    let d = g.D.BlockDevice.blocks c.args.dev.now in
+    let hand = c.args.hand.now in
+    let begun = c.requires.begun in
+    let geometry : Geometry = hand.list.geometry in
+    let long = in_hand d geometry.block_size (g.D.BlockDevice.geometry c.args.dev.now).block_count hand.list hand.base geometry.valid.no_smaller (shaped d _ _ begun.geometry (g.met.D.BlockDevice.shape c.args.dev.now)) begun.begun.growing in
+    record {
+      few = omega arith;
+      zeroed = record {
+        at = record { begun = begun; size = omega arith; bytes = wrote_none (bytes_over d hand) (end_of hand.list) long };
+        going = λ some. absurd (omega arith);
+      };
+      base = list_same _ _ _;
+      map = KeepsUsed-refl c.args.map.now;
+      device = used_reads g.D.BlockDevice c.args.map.now (not_read g.D.BlockDevice c.args.dev.now);
+      quiet = refl;
+    }
+
+pub write_on-requires-clause-begun : goal.write_on-requires-clause-begun
+write_on-requires-clause-begun g c =
+    let inv = c.zeroing.invariant in
+    subst (λ (k : Geometry). HasBegun c.zeroing.map (g.D.BlockDevice.blocks c.zeroing.dev) k c.zeroing.hand) (sym inv.device.geometry) inv.zeroed.at.begun
+
+pub write_on-requires-clause-room : goal.write_on-requires-clause-room
+write_on-requires-clause-room g c =
+    let inv = c.zeroing.invariant in
+    let n : ℕ = c.min-part.result in
+    let few : n ≤ 512 = (let m = c.min-part.ensures in omega arith) in
+    let zeros : List ℕ = take n (replicate 512 0) in
+    let part : length zeros ≡ n = ap length (take-replicate n 512 0 few) ∙ length-replicate {A = ℕ} n 0 in
+    let m = c.min-part.ensures in
+    let test = c.zeroing-test.true in
+    let size = inv.zeroed.at.size in
+    part_fits (g.D.BlockDevice.geometry c.args.dev.now) (g.D.BlockDevice.geometry c.zeroing.dev) c.zeroing.hand.base c.args.hand.now.base _ _ _ _
+    (end_of c.zeroing.hand.list + length zeros) (end_of c.args.hand.now.list + c.args.count) inv.device.geometry inv.base.same (omega arith) inv.map.used inv.map.count c.requires.room
+
+pub returns-in_err-write_on-clause-device : goal.returns-in_err-write_on-clause-device
+returns-in_err-write_on-clause-device g c = used_on g.D.BlockDevice c.zeroing.invariant.map c.zeroing.invariant.device c.write_on.ensures.device
+
+pub zeroing-preserved : goal.zeroing-preserved
+zeroing-preserved g c =
+    let inv = c.zeroing.invariant in
+    let d = g.D.BlockDevice.blocks c.args.dev.now in
+    let hand = c.args.hand.now in
+    let begun = c.requires.begun in
+    let geometry : Geometry = hand.list.geometry in
+    let n : ℕ = c.min-part.result in
+    let few : n ≤ 512 = (let m = c.min-part.ensures in omega arith) in
+    let zeros : List ℕ = take n (replicate 512 0) in
+    let part : zeros ≡ replicate n 0 = take-replicate n 512 0 few in
+    let long = in_hand d geometry.block_size (g.D.BlockDevice.geometry c.args.dev.now).block_count hand.list hand.base geometry.valid.no_smaller (shaped d _ _ begun.geometry (g.met.D.BlockDevice.shape c.args.dev.now)) begun.begun.growing in
+    let m = c.min-part.ensures in
+    let test = c.zeroing-test.true in
+    let wrote = c.in_ok-write_on.ensures.written in
+    let size = inv.zeroed.at.size in
+    let sum = wrote.size in
+    let len : length zeros ≡ n = ap length part ∙ length-replicate {A = ℕ} n 0 in
+    let going = subst (λ (k : Geometry). IsGoing c.write_on.new.map (g.D.BlockDevice.blocks c.write_on.new.dev) k c.write_on.new.hand) inv.device.geometry wrote.going in
+    record {
+      few = omega arith;
+      zeroed = record {
+        at = record {
+          begun = record { geometry = going.geometry; begun = going.list.begun };
+          size = omega arith;
+          bytes = more_zeros (bytes_over d hand) _ _ zeros (end_of hand.list) _ c.zeroing.done n long inv.zeroed.at.bytes inv.zeroed.at.size part wrote.bytes;
+        };
+        going = λ some. going;
+      };
+      base = list_then _ _ _ _ _ _ _ _ inv.device.geometry inv.base c.write_on.ensures.base;
+      map = KeepsUsed-trans inv.map c.write_on.ensures.map;
+      device = used_on g.D.BlockDevice inv.map inv.device c.write_on.ensures.device;
+      quiet = quiet g.D.BlockDevice c.in_ok-write_on.ensures.reports.faults ∙ inv.quiet;
+    }
+
+pub returns-in_err-write_on-clause-reports : goal.returns-in_err-write_on-clause-reports
+returns-in_err-write_on-clause-reports g c =
+    let p = err_from_is_err_and c.from_residual.result c.from_residual.ensures.1 in
+    rw (p.1, p.2) (record { faults = reported_on g.D.BlockDevice c.zeroing.invariant.quiet (reported_as g.D.BlockDevice c.in_err-write_on.ensures.reports.faults); errors = c.in_err-write_on.ensures.reports.errors })
+
+pub returns-clause-zeroed : goal.returns-clause-zeroed
+returns-clause-zeroed g c =
+    let inv = c.zeroing.invariant in
+    let hand = c.args.hand.now in
+    let all : c.zeroing.done ≡ c.args.count = (let few = inv.few in let test = c.zeroing-test.false in omega arith) in
+    subst (λ n. IsZeroed c.zeroing.map (g.D.BlockDevice.blocks c.zeroing.dev) (g.D.BlockDevice.geometry c.args.dev.now) c.zeroing.hand n (end_of hand.list + n)
+    (written_into (bytes_over (g.D.BlockDevice.blocks c.args.dev.now) hand) (end_of hand.list) (replicate n 0))) all inv.zeroed
+
+pub returns-in_err-write_on-clause-base : goal.returns-in_err-write_on-clause-base
+returns-in_err-write_on-clause-base g c = list_then _ _ _ _ _ _ _ _ c.zeroing.invariant.device.geometry c.zeroing.invariant.base c.write_on.ensures.base
+
+pub returns-in_err-write_on-clause-map : goal.returns-in_err-write_on-clause-map
+returns-in_err-write_on-clause-map g c = KeepsUsed-trans c.zeroing.invariant.map c.write_on.ensures.map

@@ -1,0 +1,78 @@
+// Lists in hand that are ended.
+
+ghost use Rattle.std.specs.Prelude.{◌≡◌, ◌≤◌, ◌+◌, if◌then◌else◌, [], drop, length, true, OnOk, IfOk};
+ghost use Rattle.lfs_device.specs.Calls.{ReadsOnly};
+ghost use Rattle.lfs_model.specs.BlockSets.{used_count};
+ghost use Rattle.lfs_model.specs.SkipLists.{blocks_for};
+ghost use Rattle.lfs_ctz.specs.Calls.{ReportsIo, ReportsMemory};
+ghost use Rattle.lfs_writer.specs.Based.{IsBase, list_blocks};
+ghost use Rattle.lfs_writer.specs.Calls.{LeavesUsed};
+ghost use Rattle.lfs_writer.specs.Hand.{KeepsUsed};
+ghost use Rattle.lfs_writer.specs.Released.{Releases};
+ghost use Rattle.lfs_writer.specs.Roomy.{base_blocks};
+ghost use Rattle.lfs_writer.specs.Written.{HasEnded, IsGoing, bytes_over, length_in};
+ghost use Rattle.lfs_writer.specs.Owned.{EndsOver};
+
+use crate::block_copies::copy_rest;
+use crate::releases::release_from;
+use crate::stored::Stored;
+use crate::writes::Hand;
+use lfs_alloc::BlockMap;
+use lfs_ctz::blocks_for;
+use lfs_device::{BlockDevice, Error};
+use std::alloc::Global;
+
+// Takes the blocks of a base from an index on out of flight, where it may have some there.
+pub(crate) fn release_base<D: BlockDevice>(
+    dev: &mut D,
+    map: &mut BlockMap,
+    base: Stored,
+    shared: u32,
+) -> Result<(), Error>
+    requires base { IsBase (D.blocks dev.old) (D.geometry dev.old).block_size base.head base.size }
+    requires map { length map.old ≡ length (D.blocks dev.old) }
+    requires within { shared ≤ blocks_for (D.geometry dev.old).block_size base.size }
+    ensures released { OnOk result (Releases map.old map.new (if base.in_flight then drop shared (list_blocks (D.blocks dev.old) (D.geometry dev.old).block_size base.head base.size) else [])) }
+    ensures map { KeepsUsed map.old map.new }
+    ensures device { ReadsOnly D.BlockDevice dev.old dev.new }
+    ensures reports { ReportsIo D.BlockDevice dev.old dev.new result }
+{
+    if !base.in_flight {
+        return Ok(());
+    }
+    let block_size = dev.geometry().block_size;
+    let count = blocks_for(block_size, base.size);
+    release_from(dev, map, base.head, count, shared)?;
+    Ok(())
+}
+
+/// Ends a list in hand: copies what its base still has, writes its last block, and takes the
+/// base's own blocks out of flight. The contents stay.
+///
+/// There are as many free blocks as the rest of the base takes. `Error::NoMemory` comes where there
+/// is no memory, `Error::Io` where the device failed.
+pub(crate) fn end_hand<D: BlockDevice>(
+    alloc: Global,
+    dev: &mut D,
+    map: &mut BlockMap,
+    hand: Hand,
+) -> Result<Stored, Error>
+    requires going { IsGoing map.old (D.blocks dev.old) (D.geometry dev.old) hand }
+    requires room { used_count map.old + base_blocks (D.geometry dev.old).block_size hand.base + blocks_for (D.geometry dev.old).block_size hand.base.size ≤ length map.old }
+    ensures ended { IfOk result (λ s. HasEnded map.new (D.blocks dev.new) (D.geometry dev.old) s (length_in hand) (bytes_over (D.blocks dev.old) hand)) }
+    ensures own { IfOk result (EndsOver map.new (D.geometry dev.old).block_size (D.blocks dev.old) hand.base (D.blocks dev.new)) }
+    ensures map { KeepsUsed map.old map.new }
+    ensures device { LeavesUsed D.BlockDevice map.old dev.old dev.new }
+    ensures reports { ReportsMemory D.BlockDevice dev.old dev.new result }
+{
+    let Hand { list, base, shared } = hand;
+    let mut list = list;
+    copy_rest(alloc, dev, map, &mut list, base.head, base.size)?;
+    let (head, size) = list.finish(dev)?;
+    release_base(dev, map, base, shared)?;
+    Ok(Stored {
+        head,
+        size,
+        in_flight: true,
+    })
+}

@@ -27,7 +27,7 @@ IsFree-sets_of marks n b free =
     let lt : b < n = omega (arith, slice_get_within (sets_of marks n) b Free free, length-sets_of marks n) in
     (lt, same_Some (state_at marks b) Free (sym (slice_get-sets_of marks n b lt) ∙ free))
 
--- a block by the marks that it stands in, and its place there
+-- a block by the marks that it is in, and its place there
 pub state_at-place : (marks : List Marks) (q k : ℕ) → k < 64 → state_at marks (q * 64 + k) ≡ state_in (get_or marks q no_marks) k
 state_at-place marks q k lt =
     let word : (q * 64 + k) / 64 ≡ q = omega arith in
@@ -128,7 +128,7 @@ module _ (n size : ℕ) (none : Marks) (clear : (place : ℕ) → state_in none 
 
 -- ---- a search for a free block
 
--- a block by the marks that it stands in, at a place
+-- a block by the marks that it is in, at a place
 pub free_at : (marks : List Marks) (n q k : ℕ) → k < 64 → q * 64 + k < n → state_in (get_or marks q no_marks) k ≡ Free → IsFree (sets_of marks n) (q * 64 + k)
 free_at marks n q k lt within free =
     slice_get-sets_of marks n (q * 64 + k) within ∙ ap Some (state_at-place marks q k lt ∙ free)

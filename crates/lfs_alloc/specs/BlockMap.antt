@@ -1,4 +1,4 @@
--- What marks say of the blocks of a device.
+-- What marks mean for the blocks of a device.
 use Rattle.std.specs.Prelude.{◌≡◌, ℕ, ◌*◌, ◌/◌, ◌%◌, ◌≤◌, List, map, length, slice_index_or}
 use Rattle.std.specs.List.{range_with_len}
 use Rattle.lfs_model.specs.BlockSets.{BlockState, BlockSets, used_count as used_count_of}

@@ -1,4 +1,4 @@
--- What 64 blocks' marks say of each.
+-- What the marks of 64 blocks mean for each.
 use Rattle.std.specs.Prelude.{ℕ, ◌==◌, if◌then◌else◌}
 use Rattle.std.specs.Int.{bit_at}
 use Rattle.lfs_model.specs.BlockSets.{BlockState}

@@ -2,7 +2,7 @@
 use Rattle.std.specs.Prelude.{ℕ, ◌≤◌, ◌<◌, ◌⊎◌}
 use Rattle.lfs_model.specs.BlockSets.{BlockSets, IsFree}
 
--- the first free block from a place on, where the first block comes behind the last one
+-- the first free block from a place on, where the first block follows the last one
 pub record IsNextFree (sets : BlockSets) (from b : ℕ) : Type 0 where
   pub free : IsFree sets b
   pub ahead : from ≤ b → (other : ℕ) → from ≤ other → other < b → ¬ (IsFree sets other)

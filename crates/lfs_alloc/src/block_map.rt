@@ -10,7 +10,9 @@ use lfs_device::Error;
 use std::alloc::Global;
 use std::marker::Model;
 
-/// Which blocks are used, and which are in flight: handed out, and not settled yet. No block is both.
+/// A map of the blocks of a device: each is free, used, or in flight. A block in flight was taken,
+/// and isn't settled yet. littlefs's lookahead buffer has the same purpose (DESIGN.md of littlefs,
+/// "The block allocator").
 ///
 /// A contract sees the state of each block, by its number.
 #[derive(Drop)]
@@ -18,7 +20,7 @@ pub struct BlockMap {
     marks: Vec<Marks>,
     block_count: u32,
     used_count: u32,
-    // where the search for a free block goes on
+    // where the search for a free block continues
     next: u32,
 }
 
@@ -35,7 +37,10 @@ impl Model for BlockMap {
 }
 
 impl BlockMap {
-    /// A map of the blocks below `block_count`, all of them free. No other call takes memory.
+    /// Makes a map of the blocks below `block_count`, all of them free. It takes 16 bytes for each
+    /// 64 blocks. No other call takes memory.
+    ///
+    /// Errors: `NoMemory` where that memory isn't granted.
     ///
     /// `NoMemory` where its memory isn't granted, 16 bytes for each 64 blocks.
     pub fn new(alloc: Global, block_count: u32) -> Result<BlockMap, Error>
@@ -51,14 +56,14 @@ impl BlockMap {
         })
     }
 
-    /// How many blocks it has.
+    /// Returns how many blocks the map has.
     pub fn block_count(&self) -> u32
         ensures { result ≡ length self.now }
     {
         self.block_count
     }
 
-    /// Whether a block is used. One in flight isn't.
+    /// Returns whether a block is used. A block in flight isn't.
     pub fn is_used(&self, block: u32) -> bool
         requires { block < length self.now }
         ensures { IsTrue result ↔ IsUsed self.now block }
@@ -66,7 +71,7 @@ impl BlockMap {
         self.state(block).is_used()
     }
 
-    /// Whether a block is in flight.
+    /// Returns whether a block is in flight.
     pub fn is_in_flight(&self, block: u32) -> bool
         requires { block < length self.now }
         ensures { IsTrue result ↔ IsInFlight self.now block }
@@ -74,14 +79,15 @@ impl BlockMap {
         self.state(block).is_in_flight()
     }
 
-    /// How many blocks are used.
+    /// Returns how many blocks are used.
     pub fn used_count(&self) -> u32
         ensures { result ≡ used_count self.now }
     {
         self.used_count
     }
 
-    /// Makes a free block used, and says whether it was free. Where it wasn't, nothing changes.
+    /// Makes a free block used. Returns whether the block was free; where it wasn't, nothing
+    /// changes.
     pub fn mark(&mut self, block: u32) -> bool
         requires { block < length self.old }
         ensures free { IsTrue result ↔ IsFree self.old block }
@@ -95,10 +101,11 @@ impl BlockMap {
         is_free
     }
 
-    /// Hands out a free block, which is then in flight until it is settled or released. None exactly where no block is free.
+    /// Takes a free block, which is then in flight until it is settled or released. Returns None
+    /// exactly where no block is free.
     ///
-    /// It is the first one from the block after the last that was taken, or from where
-    /// [`go_on_at`](BlockMap::go_on_at) said, and so the blocks come in turn.
+    /// The search begins after the block that was taken last, or where
+    /// [`go_on_at`](BlockMap::go_on_at) left it. So the blocks are taken in a circle.
     pub fn take(&mut self) -> Option<u32>
         ensures was_free { IfSome result (IsFree self.old) }
         ensures taken { IfSome result (λ block. self.new ≡ slice_set self.old block InFlight) }
@@ -109,8 +116,8 @@ impl BlockMap {
         self.take_from(number)
     }
 
-    /// Hands out the first free block from a block on: the one with that number, modulo the number of
-    /// blocks. Behind the last block the first one comes. None exactly where no block is free.
+    /// Takes the first free block from `number` on, modulo the number of blocks. The first block
+    /// follows the last one. Returns None exactly where no block is free.
     pub fn take_from(&mut self, number: u32) -> Option<u32>
         ensures next { IfSome result (IsNextFree self.old (number % length self.old)) }
         ensures taken { IfSome result (λ block. self.new ≡ slice_set self.old block InFlight) }
@@ -123,8 +130,9 @@ impl BlockMap {
         Some(block)
     }
 
-    /// Lets [`take`](BlockMap::take) go on at the first free block from a block on, and answers it, as
-    /// [`take_from`](BlockMap::take_from) finds it. Which blocks are used, and which are in flight, stays.
+    /// Sets where the search of [`take`](BlockMap::take) begins: at the first free block from
+    /// `number` on. Returns that block, which [`take_from`](BlockMap::take_from) would take. The
+    /// states of the blocks stay. Returns None exactly where no block is free.
     pub fn go_on_at(&mut self, number: u32) -> Option<u32>
         ensures next { IfSome result (IsNextFree self.old (number % length self.old)) }
         ensures none { IfNone result ((block : ℕ) → ¬ (IsFree self.old block)) }
@@ -143,7 +151,7 @@ impl BlockMap {
         self.set(block, State::Free);
     }
 
-    /// Makes a block in flight used: a commit that names it has succeeded.
+    /// Makes a block in flight used, after a commit that names it.
     pub fn settle(&mut self, block: u32)
         requires { IsInFlight self.old block }
         ensures { self.new ≡ slice_set self.old block Used }
@@ -169,7 +177,7 @@ impl BlockMap {
         self.used_count += u32::from(state.is_used());
     }
 
-    // The first free block from a number on, in a circle.
+    // Returns the first free block from a number on, in a circle.
     fn next_free(&self, number: u32) -> Option<u32>
         ensures next { IfSome result (IsNextFree self.now (number % length self.now)) }
         ensures not_last { IfSome result (λ block. block < u32.MAX) }
@@ -184,7 +192,7 @@ impl BlockMap {
         }
     }
 
-    // The first free block from a block on.
+    // Returns the first free block from a block on.
     fn free_from(&self, start: u32) -> Option<u32>
         requires { start ≤ length self.now }
         ensures found { IfSome result (IsFree self.now) }

@@ -1,4 +1,4 @@
-//! Which blocks of a device are in use, kept so that a free one is found without reading the device.
+//! The map of a device's blocks, by which a free block is found without a read of the device.
 #![tactic(auto)]
 
 mod block_map;

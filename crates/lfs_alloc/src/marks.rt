@@ -5,7 +5,7 @@ ghost use Rattle.lfs_model.specs.BlockSets.{is_in_flight, is_used};
 ghost use Rattle.lfs_model.specs.BlockSets.BlockState.{Free};
 ghost use Rattle.lfs_alloc.specs.Marks.{shown, state_in};
 
-/// What a block is to the map.
+/// The state of a block in the map.
 #[derive(Clone, Copy, PartialEq, Eq)]
 pub enum State {
     Free,
@@ -27,7 +27,7 @@ impl State {
     }
 }
 
-/// The states of 64 blocks in a row. Bit `k` of each word is the block's at place `k`.
+/// The states of 64 consecutive blocks. Bit `k` of each word is for the block at place `k`.
 #[derive(Clone, Copy)]
 pub struct Marks {
     used: u64,
@@ -35,7 +35,7 @@ pub struct Marks {
 }
 
 impl Marks {
-    /// All 64 are free.
+    /// Makes marks of 64 free blocks.
     pub fn none() -> Marks
         ensures { (place : ℕ) → state_in result place ≡ Free }
     {
@@ -59,7 +59,7 @@ impl Marks {
         }
     }
 
-    /// The same with one block in another state.
+    /// Returns the same marks with one block in another state.
     pub fn with(self, place: u32, state: State) -> Marks
         requires { place < 64 }
         ensures here { state_in result place ≡ shown state }
@@ -81,7 +81,7 @@ impl Marks {
         }
     }
 
-    /// The first free block from a place on.
+    /// Returns the place of the first free block from a place on.
     pub fn first_free(self, start: u32) -> Option<u32>
         requires { start < 64 }
         ensures found { IfSome result (λ place. state_in self place ≡ Free) }

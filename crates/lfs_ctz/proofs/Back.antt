@@ -18,7 +18,7 @@ pub record IsNear (m at index done : ℕ) : Type 0 where
   pub q : ℕ
   pub multiple : 2 * at ≡ q * 2 ^ r
 
--- after so many steps: at first each leaves more zeros behind the place, and then each takes the highest one off the way left
+-- after so many steps: at first each leaves more zeros after the place, and then each takes the highest one off the way left
 pub data FewSteps (m at index done : ℕ) : Type 0 where
   rising : 0 < at → done ≤ trailing_zeros w32 at → FewSteps m at index done
   falling : IsNear m at index done → FewSteps m at index done

@@ -1,4 +1,4 @@
--- What calls of a device one behind the other say of it.
+-- What calls of a device one after the other say of it.
 use Rattle.std.proofs.Common.{ℕ, ◌≡◌, ◌≢◌, Bool, List, [], ◌∷◌, Result, Ok, Err, inl, inr, refl, sym, subst, ◌∙◌, arith}
 use Rattle.std.specs.Prelude.{All}
 use Rattle.lfs_ctz.specs.Calls.{ReadsList}

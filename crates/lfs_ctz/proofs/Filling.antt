@@ -23,7 +23,7 @@ none_chain d head = record {
   pointers = λ i k l less. absurd (omega arith);
 }
 
--- bytes over those behind a part make it longer
+-- bytes over those after a part make it longer
 pub rest_more : (items new : List ℕ) (p filled n : ℕ) → p ≤ filled → length new ≡ n → filled + n ≤ length items
     → take (filled + n - p) (drop p (overwritten items filled new)) ≡ take (filled - p) (drop p items) ++ new
 rest_more items new p filled n low size room =
@@ -58,7 +58,7 @@ joined_full d e full head block size bytes back same apart sized is =
 
 -- ---- the end
 
--- of blocks that stand one behind the other on a disk
+-- of blocks that stand one after the other on a disk
 pub joined_back : (d : Blocks) (full head block : ℕ) → blocks_back d (full + 1) block ≡ blocks_back d full head ++ block ∷ []
     → joined d (blocks_back d (full + 1) block) ≡ joined d (blocks_back d full head) ++ data_of d (full, block)
 joined_back d full head block back =
@@ -85,7 +85,7 @@ at_end d block_size head size n content low high count chain is =
       blocks = ap (λ k. blocks_back d k head) count;
     }
 
--- with nothing behind the full blocks
+-- with nothing after the full blocks
 pub end_closed : (d : Blocks) (block_size count full head size : ℕ) → 1024 ≤ block_size → IsDivided block_size count d → AreListBlocks d full head → 1 ≤ size → size < 2 ^ 31 → size ≡ bytes_before block_size full
     → IsEnd d block_size head size (joined d (blocks_back d full head)) (blocks_back d full head)
 end_closed d block_size count zero head size large shape chain low high is = absurd (omega arith)
@@ -96,7 +96,7 @@ end_closed d block_size count (suc full) head size large shape chain low high is
     at_end d block_size head size (suc full) (joined d (blocks_back d (suc full) head)) low high (omega arith) chain
     (take_all size (joined d (blocks_back d (suc full) head)) (omega (arith, length-full d block_size count (suc full) head large shape chain)))
 
--- with a block behind them that begins with the rest
+-- with a block after them that begins with the rest
 pub end_open : (d e : Blocks) (block_size count full head block size : ℕ) (rest : List ℕ) → 1024 ≤ block_size → IsDivided block_size count d → AreListBlocks d full head → AreListBlocks e (full + 1) block
     → joined e (blocks_back e (full + 1) block) ≡ joined d (blocks_back d full head) ++ data_of e (full, block) → take (length rest) (data_of e (full, block)) ≡ rest
     → 1 ≤ length rest → length rest ≤ capacity_of block_size full → size < 2 ^ 31 → size ≡ bytes_before block_size full + length rest
@@ -138,7 +138,7 @@ handed_end d e block_size count full head block size rest large shape chain hand
     let end = end_open d e block_size count full head block size rest large shape chain more (joined_grown d e full head block back same handed.apart) begins handed.some short high is in
     record { list = end.list; bytes = end.bytes; blocks = end.blocks ∙ back }
 
--- what stands before the bytes that are overwritten
+-- what is before the bytes that are overwritten
 pub rest_kept : (items new : List ℕ) (p filled : ℕ) → p ≤ filled → filled + length new ≤ length items → take (filled - p) (drop p (overwritten items filled new)) ≡ take (filled - p) (drop p items)
 rest_kept items new p filled low room =
     let rest : List ℕ = take (filled - p) (drop p items) in

@@ -7,7 +7,7 @@ use Rattle.lfs_model.specs.Blocks.{overwritten}
 use Rattle.lfs_model.specs.SkipLists.{pointers_of}
 use Rattle.lfs_model.specs.Writers.{written_into as with_bytes}
 
--- behind no full block the rest stands where the buffer begins
+-- after no full block the rest stands where the buffer begins
 pub rest_at : (items : List ℕ) (full filled : ℕ) → full ≡ 0 → take (filled - 4 * pointers_of full) (drop (4 * pointers_of full) items) ≡ take filled items
 rest_at items full filled none =
     ap (λ k. take (filled - 4 * pointers_of k) (drop (4 * pointers_of k) items)) none ∙ ap (λ k. take k items) (let all : filled - 4 * pointers_of 0 ≡ filled = omega arith in all)
@@ -46,7 +46,7 @@ module _ (items bytes : List ℕ) (filled at : ℕ) (has : filled ≤ length ite
       ap length (take-append-le at (rest ++ zeros) (drop (filled + length zeros) items) (omega (arith, front_long)))
       ∙ length-take-le at (rest ++ zeros) (omega (arith, front_long))
 
-  -- and those behind
+  -- and those after
   behind : take (max filled (at + length bytes) - (at + length bytes)) (drop (at + length bytes) padded) ≡ drop (at + length bytes) rest
   behind = ⊎_elim past within (cases_lt filled (at + length bytes))
     where

@@ -168,7 +168,7 @@ blocks_from-last block_size n total large above within (suc steps) i (suc rest) 
     omega (arith, blocks_from-some steps block_size i (suc rest) (omega arith), ap (blocks_from steps block_size (i + 1)) none, blocks_from-none steps block_size (i + 1)))
     (cases_lt i n)
 
--- the byte before the end stands in the last block
+-- the byte before the end is in the last block
 pub blocks_for-place : (block_size size index offset : ℕ) → 1024 ≤ block_size → 1 ≤ size → IsBytePlace block_size (size - 1) index offset → blocks_for block_size size ≡ index + 1
 blocks_for-place block_size size index offset large some is =
     let counted = blocks_from-last block_size index size large (omega arith) (omega arith) size 0 size (omega arith) (omega arith) (omega arith) in
@@ -207,7 +207,7 @@ place_unique block_size p i j off end is there =
     let b = place-mono block_size p p j i end off there is (omega arith) in
     omega arith
 
--- the last byte before a block stands in the block before it
+-- the last byte before a block is in the block before it
 pub place_before : (block_size p i j off : ℕ) → 1024 ≤ block_size → IsBytePlace block_size p j off → suc p ≡ bytes_before block_size i → i ≡ suc j
 place_before block_size p i j off large is e =
     let low = is.from in
@@ -220,7 +220,7 @@ place_before block_size p i j off large is e =
     (λ below. let more = bytes_before-more block_size i j (omega arith) in absurd (omega arith))
     (cases_lt j i)
 
--- the last byte stands in the last block
+-- the last byte is in the last block
 pub blocks_for-last : (block_size size : ℕ) → 1024 ≤ block_size → 1 ≤ size
     → (n : ℕ) × ((blocks_for block_size size ≡ suc n) × ((bytes_before block_size n < size) × (size ≤ bytes_before block_size n + capacity_of block_size n)))
 blocks_for-last block_size size large some =

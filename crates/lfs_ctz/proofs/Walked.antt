@@ -102,7 +102,7 @@ between_none i j k some less low above here there =
 
 -- ---- what a walk tells
 
--- what it has checked of the blocks behind a place
+-- what it has checked of the blocks after a place
 pub record IsChecked (d : Blocks) (last head first count index : ℕ) (words : List ℕ) : Type 0 where
   pub in_range : (j : ℕ) → index < j → j ≤ last → slice_index (blocks_back d (last + 1) head) j < count
   pub other : (j : ℕ) → index < j → j ≤ last → slice_index (blocks_back d (last + 1) head) j ≢ first

@@ -16,7 +16,7 @@ use Rattle.lfs_ctz.proofs.Zeros.{zeros32-more}
 
 -- ---- where it goes
 
--- behind an index of it no other one ends in as many zeros
+-- after an index of it no other one ends in as many zeros
 pub fewer_behind : (last i j : ℕ) → last < 2 ^ 32 → 0 < i → i < j → j ≤ last → IsOnWay last i → trailing_zeros w32 j < trailing_zeros w32 i
 fewer_behind last i j low some less within on =
     ⊎_elim (λ fewer. fewer)

@@ -29,7 +29,7 @@ word_at-with_word_above buf at word i room below =
     ∙ ap (drop i) (take-append-le (i + 4) (take at buf) (little_bytes 4 word ++ drop (at + 4) buf) (omega (arith, length-take-le at buf (omega arith))) ∙ take-take (i + 4) at buf below)
     ∙ sym (between_is buf i (i + 4)))
 
--- and so do the bytes behind it
+-- and so do the bytes after it
 pub drop-with_word : (buf : List ℕ) (at word n : ℕ) → at + 4 ≤ length buf → at + 4 ≤ n → drop n (with_word buf at word) ≡ drop n buf
 drop-with_word buf at word n room le =
     ap (λ (l : List ℕ). drop n (take at buf ++ (little_bytes 4 word ++ l))) (sym (drop-drop 4 at buf))

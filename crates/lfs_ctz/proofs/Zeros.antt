@@ -1,4 +1,4 @@
--- The zeros behind a number, by the powers of two that divide it.
+-- The zeros after a number, by the powers of two that divide it.
 use Rattle.std.proofs.Common.{ℕ, zero, suc, ◌≡◌, ◌+◌, ◌*◌, ◌-◌, ◌/◌, ◌%◌, ◌<◌, ◌≤◌, ◌^◌, refl, sym, ap, ap₂, subst, ◌∙◌, arith}
 use Rattle.std.proofs.Math.Nat.{mul_assoc, add-mul, pow-suc, one-le-pow}
 use Rattle.std.proofs.lemmas.Nat.{mul-le, pow-add}

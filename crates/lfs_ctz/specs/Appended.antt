@@ -1,4 +1,4 @@
--- A block that was written behind those of a list.
+-- A block that was written after those of a list.
 use Rattle.std.specs.Prelude.{ℕ, ◌≡◌, ◌+◌, [], ◌∷◌, ◌++◌}
 use Rattle.lfs_model.specs.Blocks.{Blocks}
 use Rattle.lfs_model.specs.SkipLists.{AreListBlocks, blocks_back}

@@ -1,11 +1,12 @@
--- What a call says of the device that it is given.
+-- What a call promises of the device that it is given.
 use Rattle.std.specs.Prelude.{◌≡◌, ◌⊎◌, Result, IfErr}
 use Rattle.lfs_device.specs.Calls.{ReadsOnly, ReportsFaults}
 use Rattle.lfs_device.specs.declared.device.BlockDevice.{Ghosts}
 use Rattle.lfs_device.specs.declared.error.Error.{Error}
 use Rattle.lfs_device.specs.declared.error.Error.TheVariants.{Corrupt, Io, NoMemory}
 
--- The device was only read; `Io` comes with a fault of it, any other answer without one, and no error but `Corrupt` beside it.
+-- The device was only read. `Io` comes with a fault of the device, and any other result without one. The only other error is
+-- `Corrupt`.
 pub record ReadsList {D X : Type 0} (g : Ghosts D) (old new : D) (result : Result X Error) : Type 0 where
   pub device : ReadsOnly g old new
   pub faults : ReportsFaults g old new result

@@ -4,7 +4,7 @@ use Rattle.lfs_device.specs.declared.geometry.Geometry.{Geometry}
 use Rattle.lfs_model.specs.Blocks.{Blocks, block_in}
 use Rattle.lfs_ctz.specs.Growing.{Growing, IsGrowing, IsShort, IsStill, blocks_of_list, content_of, kept_of, size_of}
 
--- On a disk a list has these bytes, so many; these blocks stay its own when it grows, and these are its blocks now.
+-- On a disk a list has these bytes, so many. The blocks `kept` stay the list's when it grows, and these are all its blocks.
 pub record IsGrown (divided : Geometry) (disk : Blocks) (list : Growing) (bytes : List ℕ) (size : ℕ) (own all : List ℕ) : Type 0 where
   pub geometry : list.geometry ≡ divided
   pub growing : IsGrowing disk list
@@ -14,5 +14,5 @@ pub record IsGrown (divided : Geometry) (disk : Blocks) (list : Growing) (bytes 
   pub kept : kept_of disk list ≡ own
   pub blocks : blocks_of_list disk list ≡ all
   pub short : IsShort divided.block_size list
-  -- and so it is on any disk that has the same bytes in these blocks
+  -- the same on any disk that has the same bytes in these blocks
   pub stays : (later : Blocks) → length later ≡ length disk → All (λ b. block_in later b ≡ block_in disk b) all → IsStill disk later list

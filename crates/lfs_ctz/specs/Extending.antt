@@ -1,4 +1,4 @@
--- What the calls of an extender want and do: `g` is what the device shows, `disk` are its blocks.
+-- The conditions and the effects of an extender's calls: `g` is what a contract sees of the device, `disk` are its blocks.
 use Rattle.std.specs.Prelude.{ℕ, ◌≡◌, ◌≢◌, ◌≤◌, ◌<◌, ◌+◌, ◌++◌, ◌^◌, List, [], length, take, false, nat_eq, All}
 use Rattle.std.specs.List.{IsDistinct}
 use Rattle.lfs_device.specs.declared.device.BlockDevice.{Ghosts}
@@ -19,7 +19,7 @@ pub record CanResume (disk : Blocks) (block_size head size keep : ℕ) : Type 0 
   pub some : 1 ≤ keep
   pub within : keep ≤ size
 
--- The first bytes of a list, in its blocks. The full ones stay the list's own when it grows.
+-- The first bytes of a list, in its blocks. The full blocks stay the list's when it grows.
 pub record IsResumed (disk : Blocks) (divided : Geometry) (head size keep : ℕ) (list : Growing) : Type 0 where
   pub grown : IsGrown divided disk list (take keep (bytes_of disk divided.block_size head size)) keep
       (take list.full (blocks_back disk (blocks_for divided.block_size size) head))

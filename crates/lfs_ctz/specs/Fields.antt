@@ -8,7 +8,7 @@ use Rattle.lfs_ctz.specs.declared.extender.Extender.TheInside.{Inside}
 abbrev pub growing : Inside → Growing
 growing e = record { geometry = e.geometry; full = e.full; head = e.head; rest = take (e.filled - 4 * pointers_of e.full) (drop (4 * pointers_of e.full) e.buffer.items); stand = e.stand }
 
--- the buffer is one block, and the numbers hang together
+-- the buffer is one block, and the numbers agree
 pub record HasBlock (e : Inside) : Type 0 where
   pub one_block : length e.buffer.items ≡ e.geometry.block_size
   pub in_step : IsFilled e.geometry.block_size e.full e.filled e.size

@@ -8,30 +8,30 @@ use Rattle.lfs_ctz.specs.declared.rest.Rest.{Rest}
 use Rattle.lfs_ctz.specs.declared.rest.Rest.TheVariants.{Closed, Shared, Handed, Held}
 
 pub record Growing : Type 0 where
-  -- of this device
+  -- the geometry of the device
   pub geometry : Geometry
-  -- so many blocks are full and on the disk; the last of them, where there is one
+  -- how many blocks are full and on the disk, and the last of them, where there is one
   pub full : ℕ
   pub head : ℕ
-  -- the bytes behind them, which do not fill a block, and where they stand
+  -- the bytes after the full blocks, which do not fill a block, and where they are
   pub rest : List ℕ
   pub stand : Rest
 
--- the block that was handed in for the rest and is not written yet
+-- the block that was handed in for the rest and isn't written yet
 abbrev pub pending_in : Rest → List ℕ
 pending_in Closed = []
 pending_in (Shared b) = []
 pending_in (Handed b) = b ∷ []
 pending_in Held = []
 
--- the block in which the rest stands, or will
+-- the block that has the rest, or will have it
 abbrev pub last_in : Rest → List ℕ
 last_in Closed = []
 last_in (Shared b) = b ∷ []
 last_in (Handed b) = b ∷ []
 last_in Held = []
 
--- the rest stands in memory for no block
+-- the rest is in memory for no block
 abbrev pub is_held_in : Rest → Bool
 is_held_in Closed = false
 is_held_in (Shared b) = false
@@ -55,14 +55,14 @@ blocks_of_list disk g = blocks_back disk g.full g.head ++ last_in g.stand
 abbrev pub joined : Blocks → List ℕ → List ℕ
 joined disk bs = flat_map (data_of disk) (enumerate_from 0 bs)
 
--- its bytes
+-- the bytes of the list
 abbrev pub content_of : Blocks → Growing → List ℕ
 content_of disk g = joined disk (blocks_back disk g.full g.head) ++ g.rest
 
 abbrev pub size_of : ℕ → Growing → ℕ
 size_of block_size g = bytes_before block_size g.full + length g.rest
 
--- where they end
+-- how many bytes the list has
 abbrev pub end_of : Growing → ℕ
 end_of g = size_of g.geometry.block_size g
 
@@ -70,7 +70,7 @@ end_of g = size_of g.geometry.block_size g
 abbrev pub IsShort : ℕ → Growing → Type 0
 IsShort block_size g = length g.rest < capacity_of block_size g.full
 
--- how many blocks it needs for so many bytes more
+-- how many blocks the list needs for so many bytes more
 abbrev pub needed_of : Growing → ℕ → ℕ
 needed_of g n = blocks_for g.geometry.block_size (end_of g + n) - (g.full + length (pending_of g))
 
@@ -80,7 +80,7 @@ pub record IsHanded (disk : Blocks) (full head : ℕ) (rest : List ℕ) (b : ℕ
   pub in_range : b < length disk
   pub apart : All (λ c. c ≢ b) (blocks_back disk full head)
 
--- the rest is the beginning of a block that stands behind the full ones
+-- the rest is the beginning of a block that follows the full ones
 pub record IsShared (disk : Blocks) (full head : ℕ) (rest : List ℕ) (b : ℕ) : Type 0 where
   pub some : 1 ≤ length rest
   pub chain : AreListBlocks disk (full + 1) b
@@ -98,7 +98,7 @@ pub record IsGrowing (disk : Blocks) (g : Growing) : Type 0 where
   pub chain : AreListBlocks disk g.full g.head
   pub stand : IsRest disk g.full g.head g.rest g.stand
 
--- the block that takes the next bytes, and how many of those handed in are used then
+-- the block that takes the next bytes, and how many of the blocks that were handed in are used then
 abbrev pub next_of : Rest → List ℕ → ℕ → ℕ × ℕ
 next_of Closed blocks used = (slice_index blocks used, used + 1)
 next_of (Shared b) blocks used = (slice_index blocks used, used + 1)

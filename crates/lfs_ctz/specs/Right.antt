@@ -4,7 +4,8 @@ use Rattle.std.specs.Int.{w32, trailing_zeros}
 use Rattle.lfs_model.specs.Blocks.{Blocks, block_in}
 use Rattle.lfs_model.specs.SkipLists.{pointers_of, word_at}
 
--- Each block behind this one that has a pointer to its place names it. At each power of two there are the words of the last block that has such a pointer.
+-- Each later block that has a pointer to this place names this block. The words at each power of two are those of the last block
+-- that has such a pointer.
 abbrev pub IsNamed : List ℕ → ℕ → ℕ → ℕ → Type 0
 IsNamed words block index last = (k : ℕ) → 2 ^ k ≤ last - index → k ≤ trailing_zeros w32 index → word_at words (4 * k) ≡ block
 

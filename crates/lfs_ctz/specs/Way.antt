@@ -6,26 +6,26 @@ use Rattle.lfs_model.specs.History.{Event, reads}
 use Rattle.lfs_model.specs.SkipLists.{AreListBlocks, blocks_back, word_at}
 use Rattle.lfs_ctz.specs.declared.way.Way.{Way}
 
--- it goes through this index
+-- the way includes the block at this index
 abbrev pub IsOnWay : ℕ → ℕ → Type 0
 IsOnWay last i = last - i < 2 ^ trailing_zeros w32 i
 
--- through how many of the indices from 1 to this one
+-- how many of the indices from 1 to this one are on the way
 abbrev pub on_way : ℕ → ℕ → ℕ
 on_way last zero = 0
 on_way last (suc i) = on_way last i + (if nat_lt (last - suc i) (2 ^ trailing_zeros w32 (suc i)) then 1 else 0)
 
--- Each block that it went through before it came to an index is noted with its pointers,
+-- Each block on the way before an index is noted with its pointers,
 abbrev pub HasPointers : Blocks → ℕ → ℕ → Way → Type 0
 HasPointers d last at way = (i k : ℕ) → at < i → i ≤ last → IsOnWay last i → k ≤ trailing_zeros w32 i
     → word_at way.words (128 * trailing_zeros w32 i + 4 * k) ≡ word_at (block_in d (slice_index way.blocks (trailing_zeros w32 i))) (4 * k)
 
--- and in a list it is the list's.
+-- and in a list it is the list's block.
 pub record IsWay (d : Blocks) (head last at : ℕ) (way : Way) : Type 0 where
   pub words : HasPointers d last at way
   pub blocks : AreListBlocks d (last + 1) head → (i : ℕ) → at < i → i ≤ last → IsOnWay last i → slice_index way.blocks (trailing_zeros w32 i) ≡ slice_index (blocks_back d (last + 1) head) i
 
--- A block of the list takes one read at most, and none where the way goes through it.
+-- A block of the list takes one read at most, and none where it is on the way.
 pub record ReadsBeside (way : Way) (last index block : ℕ) (old new : List Event) : Type 0 where
   pub few : reads new ≤ reads old + 1
   pub known : IsOnWay last index → slice_index way.blocks (trailing_zeros w32 index) ≡ block → reads new ≡ reads old

@@ -20,8 +20,8 @@ fn put_word(buf: &mut [u8], at: usize, word: u32)
     LittleEndian::write_u32(&mut buf[at..], word);
 }
 
-// Begins a block with the pointers that a list's block at that index has, where the blocks before
-// it end at `head`.
+// Writes the pointers of a list's block at that index to the beginning of the buffer. The blocks
+// before it end at `head`.
 fn put_pointers<D: BlockDevice>(
     dev: &mut D,
     head: u32,
@@ -48,8 +48,8 @@ fn put_pointers<D: BlockDevice>(
     Ok(())
 }
 
-// Erases a block and writes to it the buffer up to `end`, with the pointers of a list's block at
-// that index before the bytes, where the blocks before it end at `head`.
+// Erases a block and writes the buffer up to `end` to it. Before the bytes are the pointers of a
+// list's block at that index. The blocks before it end at `head`.
 pub(crate) fn write_block<D: BlockDevice>(
     dev: &mut D,
     head: u32,

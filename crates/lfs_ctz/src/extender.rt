@@ -18,12 +18,13 @@ use lfs_device::{BlockDevice, Error, Geometry};
 use std::alloc::Global;
 use std::marker::Model;
 
-/// Appends bytes to a list, in blocks that are handed in, and writes a block as it fills.
+/// Appends bytes to a skip list, in blocks that the caller hands in, and writes a block as it fills
+/// (DESIGN.md of littlefs, "CTZ skip-lists").
 ///
-/// It holds one block of bytes in memory. Contents that need no block yet can stand there alone:
-/// `hold`, `put` and `cut` change them, and a `push` goes on from them into blocks.
+/// An extender has one block of bytes in memory. Contents without a block can be in memory alone:
+/// `hold`, `put` and `cut` change them, and a `push` moves them into blocks.
 ///
-/// A contract sees the list that grows: its full blocks, and the bytes behind them.
+/// A contract sees the list that grows: its full blocks, and the bytes after them.
 #[derive(Drop)]
 pub struct Extender {
     geometry: Geometry,
@@ -55,7 +56,7 @@ fn overwrite(all: &mut Vec<u8>, at: usize, bytes: &[u8])
     all[at..at + bytes.len()].copy_from_slice(bytes);
 }
 
-// Fills up from a place to another.
+// Fills the places from one to another with a byte.
 fn pad(all: &mut Vec<u8>, at: usize, end: usize, byte: u8)
     requires order { at ≤ end }
     requires within { end ≤ length all.old.items }
@@ -65,9 +66,9 @@ fn pad(all: &mut Vec<u8>, at: usize, end: usize, byte: u8)
 }
 
 impl Extender {
-    /// An empty list.
+    /// Makes an extender of an empty list.
     ///
-    /// `Error::NoMemory` comes where there is no memory for a block.
+    /// Errors: `NoMemory` where memory for a block isn't granted.
     pub fn start(alloc: Global, geometry: Geometry) -> Result<Extender, Error>
         ensures started { IfOk result (IsStarted geometry) }
         ensures errors { IfErr result (λ e. e ≡ Error.NoMemory) }
@@ -84,10 +85,10 @@ impl Extender {
         })
     }
 
-    /// The first `keep` bytes of a well-formed list.
+    /// Makes an extender of the first `keep` bytes of a well-formed list, whose last block is
+    /// `head` and which has `size` bytes. `keep` is from 1 to `size`.
     ///
-    /// There is at least one byte, and at most as many as the list has. `Error::NoMemory` comes
-    /// where there is no memory for a block, `Error::Io` where the device failed.
+    /// Errors: `NoMemory` where memory for a block isn't granted. `Io` where the device failed.
     pub fn resume<D: BlockDevice>(
         alloc: Global,
         dev: &mut D,
@@ -129,9 +130,10 @@ impl Extender {
         })
     }
 
-    /// Begins anew with these bytes, in memory and in no block; what it had before is forgotten.
+    /// Replaces the contents by these bytes, in memory and in no block. What the extender had
+    /// before is dropped.
     ///
-    /// There are fewer than a block has.
+    /// The caller's condition is that there are fewer bytes than a block has.
     pub fn hold(&mut self, bytes: &[u8])
         requires { length bytes.now < self.old.geometry.block_size }
         ensures { IsHolding self.old.geometry self.new bytes.now }
@@ -144,7 +146,7 @@ impl Extender {
         self.stand = Rest::Held;
     }
 
-    /// The bytes, where all are in memory and none in a block.
+    /// Returns the contents, which are all in memory and none in a block.
     pub fn held(&self) -> &[u8]
         requires { IsHeld self.now }
         ensures { result.now ≡ self.now.rest }
@@ -152,10 +154,10 @@ impl Extender {
         &self.buffer[..self.filled as usize]
     }
 
-    /// Puts bytes over those from the place `at` on, or behind them, where all are in memory and
-    /// none in a block. Zeros fill the gap where the place lies past the end.
+    /// Writes bytes over those from the place `at` on, or after them. The contents are all in
+    /// memory and none in a block. Zeros fill the gap where the place is past the end.
     ///
-    /// There are fewer than a block has then.
+    /// The caller's condition is that there are fewer bytes than a block has afterwards.
     pub fn put(&mut self, at: u32, bytes: &[u8])
         requires held { IsHeld self.old }
         requires room { at + length bytes.now < self.old.geometry.block_size }
@@ -168,9 +170,9 @@ impl Extender {
         self.size = self.filled;
     }
 
-    /// Keeps the first `len` bytes, where all are in memory and none in a block.
+    /// Keeps the first `len` bytes of contents that are all in memory and none in a block.
     ///
-    /// There are at least so many.
+    /// The caller's condition is that there are at least so many.
     pub fn cut(&mut self, len: u32)
         requires held { IsHeld self.old }
         requires within { len ≤ length self.old.rest }
@@ -180,24 +182,25 @@ impl Extender {
         self.size = len;
     }
 
-    /// How many bytes the list has.
+    /// Returns how many bytes the list has.
     pub fn size(&self) -> u32
         ensures { result ≡ end_of self.now }
     {
         self.size
     }
 
-    /// How many blocks are full and on the device.
+    /// Returns how many blocks are full and on the device.
     pub fn full(&self) -> u32
         ensures { result ≡ self.now.full }
     {
         self.full
     }
 
-    /// How many blocks a push of `n` bytes takes. The full blocks of a front that was kept are
-    /// shared; its last block, where it isn't full, is copied and counts here.
+    /// Returns how many blocks a push of `n` bytes takes. The full blocks of a resumed list are
+    /// shared. Its last block, where it isn't full, is copied and counts here.
     ///
-    /// At least one byte comes, and the whole list has at most 2,147,483,647 bytes then.
+    /// The caller's condition is that `n` is at least 1, and that the whole list then has at most
+    /// 2,147,483,647 bytes.
     pub fn needed(&self, n: u32) -> u32
         requires some { 1 ≤ n }
         requires room { end_of self.now + n < 2 ^ 31 }
@@ -211,7 +214,8 @@ impl Extender {
         blocks_for(self.geometry.block_size, self.size + n) - (self.full + begun)
     }
 
-    // The block that takes the next bytes, and how many of those handed in are used then.
+    // Returns the block that takes the next bytes, and how many of the blocks that were handed in
+    // are used then.
     fn next_block(&self, blocks: &[u32], used: usize) -> (u32, usize)
         requires { pending_of self.now ≡ [] → used < length blocks.now }
         ensures { result ≡ next_of self.now.stand blocks.now used }
@@ -222,8 +226,8 @@ impl Extender {
         }
     }
 
-    // Takes of the bytes as many as the block that is begun, or begins, still holds, and writes
-    // that block if it is full then.
+    // Takes as many bytes as the current block still has room for, and writes that block if it is
+    // full then. Returns how many bytes were taken.
     fn fill<D: BlockDevice>(
         &mut self,
         dev: &mut D,
@@ -264,13 +268,15 @@ impl Extender {
         Ok(n)
     }
 
-    /// Appends bytes, in the blocks that are handed in; each is erased before it is programmed,
-    /// and is written as it fills.
+    /// Appends bytes, in the blocks that are handed in. Each block is erased before it is
+    /// programmed, and is written as it fills.
     ///
-    /// There is at least one byte, and there are exactly as many blocks as `needed` says: different
-    /// ones of the device, and none of the list's. The device holds the list as the extender was
-    /// given it or left it. The whole list has at most 2,147,483,647 bytes then. After
-    /// `Error::Io`, which comes where the device failed, an extender can only be dropped.
+    /// The caller's conditions: there is at least one byte, and there are exactly as many blocks as
+    /// `needed` returns. The blocks are different ones of the device, and none is the list's. The
+    /// device holds the list as the last call of the extender left it. The whole list then has at
+    /// most 2,147,483,647 bytes.
+    ///
+    /// Errors: `Io` where the device failed. The extender can only be dropped then.
     pub fn push<D: BlockDevice>(
         &mut self,
         dev: &mut D,
@@ -294,7 +300,7 @@ impl Extender {
         Ok(())
     }
 
-    // Fills up the block that is begun to whole pages, and writes it.
+    // Pads the current block to whole pages, and writes it.
     fn write_last<D: BlockDevice>(&mut self, dev: &mut D, block: u32) -> Result<(), Error>
         requires follows { CanFollow D.BlockDevice dev.old self.old.full self.old.head block }
         requires geometry { D.geometry dev.old ≡ self.old.geometry }
@@ -311,12 +317,14 @@ impl Extender {
         Ok(())
     }
 
-    /// Ends the list: writes the block that isn't full, and answers the list's last block and its
-    /// size. Where nothing was pushed after `resume`, the last block is one of the old list's.
+    /// Ends the list: writes the block that isn't full. Returns the number of the list's last block
+    /// and the list's size in bytes. Where nothing was pushed after `resume`, the last block is one
+    /// of the old list's.
     ///
-    /// There is at least one byte, and they don't all stand in memory for no block. The device
-    /// holds the list as the extender was given it or left it. `Error::Io` comes where the device
-    /// failed.
+    /// The caller's conditions: there is at least one byte, and the bytes aren't in memory alone.
+    /// The device holds the list as the last call of the extender left it.
+    ///
+    /// Errors: `Io` where the device failed.
     pub fn finish<D: BlockDevice>(mut self, dev: &mut D) -> Result<(u32, u32), Error>
         requires { CanEnd D.BlockDevice dev.old self }
         ensures finished { IfOk result (λ r. IsEnd (D.blocks dev.new) self.geometry.block_size r.0 r.1 (content_of (D.blocks dev.old) self) (blocks_of_list (D.blocks dev.old) self)) }

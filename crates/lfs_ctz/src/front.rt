@@ -8,12 +8,13 @@ use crate::read::find;
 use crate::{blocks_for, place};
 use lfs_device::{BlockDevice, Error};
 
-/// The last block of the list of a file's first `keep` bytes, whose own list has its last block at
-/// `head` and holds `size` bytes. The two share their blocks, and nothing is written.
+/// Returns the last block of the list of a file's first `keep` bytes. The file's list has its last
+/// block at `head` and holds `size` bytes. Both lists share their blocks, and nothing is written.
 ///
-/// There is at least one byte, and at most as many as the list has. `Error::Corrupt` says that the
-/// list isn't well formed: a pointer on the way leads out of the device. `Error::Io` comes where the
-/// device failed. It takes no memory, and reads only pointers.
+/// `keep` is from 1 to `size`. The call takes no memory, and reads only pointers.
+///
+/// Errors: `Corrupt` where a pointer on the way leads out of the device: then the list isn't well
+/// formed. `Io` where the device failed.
 pub fn cut<D: BlockDevice>(dev: &mut D, head: u32, size: u32, keep: u32) -> Result<u32, Error>
     requires some { 1 ≤ keep }
     requires within { keep ≤ size }
@@ -24,7 +25,7 @@ pub fn cut<D: BlockDevice>(dev: &mut D, head: u32, size: u32, keep: u32) -> Resu
     ensures in_range { IfOk result (λ h. h < (D.geometry dev.old).block_count) }
     ensures corrupt { IsErrOf result Error.Corrupt → ¬ IsList (D.blocks dev.old) (D.geometry dev.old).block_size head size }
     ensures reading { ReadsList D.BlockDevice dev.old dev.new result }
-    // Steps to that block by the logarithm of the list's length.
+    // The number of steps to that block is at most the logarithm of the list's length.
     ensures few { (m : ℕ) → blocks_for (D.geometry dev.old).block_size size ≤ 2 ^ m → OnOk result (reads (D.history dev.new) ≤ reads (D.history dev.old) + 2 * m) }
 {
     let block_size = dev.geometry().block_size;

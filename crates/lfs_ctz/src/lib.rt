@@ -1,4 +1,4 @@
-//! Skip lists of blocks, in which the bytes of a file stand.
+//! Skip lists of blocks, which hold the bytes of files.
 #![tactic(auto)]
 
 mod block;

@@ -9,7 +9,7 @@ use crate::{blocks_for, place};
 use byteorder::{ByteOrder, LittleEndian};
 use lfs_device::{BlockDevice, Error};
 
-// Reads pointer k of a block that a list names: Corrupt where there is no such block.
+// Reads pointer k of a block that a list names. Returns `Corrupt` where there is no such block.
 pub(crate) fn pointer<D: BlockDevice>(dev: &mut D, block: u32, k: u32) -> Result<u32, Error>
     requires { k ≤ 32 }
     ensures word { IfOk result (λ word. word ≡ word_at (block_in (D.blocks dev.old) block) (4 * k)) }
@@ -26,8 +26,8 @@ pub(crate) fn pointer<D: BlockDevice>(dev: &mut D, block: u32, k: u32) -> Result
     Ok(LittleEndian::read_u32(&word))
 }
 
-// The block at an index of a list, from the head at another: back by the highest pointer that
-// does not overshoot.
+// Returns the block at an index of a list, from the head at another. Each step uses the highest
+// pointer that does not overshoot.
 pub(crate) fn find<D: BlockDevice>(
     dev: &mut D,
     head: u32,
@@ -54,7 +54,8 @@ pub(crate) fn find<D: BlockDevice>(
     Ok(block)
 }
 
-// The block that pointer 0 of a block names: Corrupt where there is no such block.
+// Returns the block that pointer 0 of a block names. Returns `Corrupt` where there is no such
+// block.
 fn before<D: BlockDevice>(dev: &mut D, block: u32) -> Result<u32, Error>
     requires { block < (D.geometry dev.old).block_count }
     ensures word { IfOk result (λ word. word ≡ word_at (block_in (D.blocks dev.old) block) 0) }
@@ -70,10 +71,11 @@ fn before<D: BlockDevice>(dev: &mut D, block: u32) -> Result<u32, Error>
     Ok(word)
 }
 
-/// The last of so many blocks of a list that stand before `block`, 0 where there are none.
+/// Returns the last of the `index` blocks of a list that come before `block`, and 0 where there are
+/// none.
 ///
-/// `Error::Corrupt` says that the block's pointer 0 leads out of the device; `Error::Io` comes where
-/// the device failed.
+/// Errors: `Corrupt` where the block's pointer 0 leads out of the device. `Io` where the device
+/// failed.
 pub fn head_before<D: BlockDevice>(dev: &mut D, block: u32, count: u32) -> Result<u32, Error>
     requires { block < (D.geometry dev.old).block_count }
     ensures word { IfOk result (λ word. 0 < count → word ≡ word_at (block_in (D.blocks dev.old) block) 0) }
@@ -89,7 +91,7 @@ pub fn head_before<D: BlockDevice>(dev: &mut D, block: u32, count: u32) -> Resul
     Ok(head)
 }
 
-// How many pointers a block begins with.
+// Returns with how many pointers a block begins.
 pub(crate) fn pointers(index: u32) -> u32
     ensures { result ≡ pointers_of index }
 {
@@ -123,13 +125,14 @@ pub(crate) fn read_part<D: BlockDevice>(
 }
 
 /// Reads a file's bytes from position `pos` on into the buffer, as many as the buffer and the
-/// `size` allow, and answers their number. The file's list has its last block at `head`.
+/// `size` allow. Returns the number of bytes. The file's list has its last block at `head`.
 ///
-/// On a list that isn't well formed the answer is Corrupt or some bytes. `Error::Io` comes where
-/// the device failed. After an error what the buffer holds is open.
+/// Errors: `Corrupt` where a pointer leads out of the device; a list that isn't well formed may
+/// also give some bytes. `Io` where the device failed. After an error the buffer may hold any
+/// bytes.
 ///
-/// The last block that is read is found by the highest pointers that don't overshoot, as
-/// DESIGN.md of littlefs says, and each block before it by one pointer.
+/// The last block is found by the highest pointers that don't overshoot, as DESIGN.md of littlefs
+/// describes ("CTZ skip-lists"). Each block before it is found by one pointer.
 pub fn read_at<D: BlockDevice>(
     dev: &mut D,
     head: u32,
@@ -142,7 +145,8 @@ pub fn read_at<D: BlockDevice>(
         IfOk result (λ n. take n buf.new ≡ slice_range (bytes_of (D.blocks dev.old) (D.geometry dev.old).block_size head size) pos (pos + n)) }
     ensures corrupt { IsErrOf result Error.Corrupt → ¬ IsList (D.blocks dev.old) (D.geometry dev.old).block_size head size }
     ensures reading { ReadsList D.BlockDevice dev.old dev.new result }
-    // Steps to the last block by the logarithm of the list's length, and two reads for each block.
+    // The number of steps to the last block is at most the logarithm of the list's length. Each
+    // block takes two reads.
     ensures few { (m first last off end : ℕ) → blocks_for (D.geometry dev.old).block_size size ≤ 2 ^ m
         → IsBytePlace (D.geometry dev.old).block_size pos first off
         → IsBytePlace (D.geometry dev.old).block_size (pos + min (length buf.old) (size - pos) - 1) last end

@@ -1,12 +1,12 @@
-/// Where the bytes of a list stand that do not fill a block.
+/// Where those bytes of a list are that do not fill a block.
 #[derive(Clone, Copy)]
 pub enum Rest {
-    /// There are none.
+    /// There are no such bytes.
     Closed,
-    /// In that block of another list, from which they are copied when more come.
+    /// The bytes are in that block of another list, and are copied when more bytes come.
     Shared(u32),
-    /// In memory, for that block, which was handed in.
+    /// The bytes are in memory, for that block, which was handed in.
     Handed(u32),
-    /// In memory, for no block yet. They are all the bytes that there are.
+    /// The bytes are in memory, for no block yet. They are all the bytes of the list.
     Held,
 }

@@ -1,7 +1,7 @@
 ghost use Rattle.std.specs.Prelude.{◌≡◌, ◌≤◌};
 ghost use Rattle.lfs_model.specs.SkipLists.{IsBytePlace, blocks_for};
 
-/// The least number of blocks of a list that hold `size` bytes, 0 for none.
+/// Returns the least number of blocks of a list that hold `size` bytes, and 0 for no bytes.
 ///
 /// The block size is at least 1,024 bytes.
 pub fn blocks_for(block_size: u32, size: u32) -> u32
@@ -15,10 +15,11 @@ pub fn blocks_for(block_size: u32, size: u32) -> u32
     last + 1
 }
 
-/// Where a file's byte `pos` stands in a list: the index of its block, counted from the file's
-/// first block, and its offset in that block, whose pointers come first.
+/// Returns the place of a file's byte `pos` in a list. The place is the index of its block, counted
+/// from the file's first block, and its offset in that block after the block's pointers.
 ///
-/// The block size is at least 1,024 bytes. The formula is the one of DESIGN.md of littlefs.
+/// The block size is at least 1,024 bytes. The formula is that of DESIGN.md of littlefs ("CTZ
+/// skip-lists").
 pub fn place(block_size: u32, pos: u32) -> (u32, u32)
     requires { 1024 ≤ block_size }
     ensures { IsBytePlace block_size pos result.0 result.1 }

@@ -11,7 +11,7 @@ use crate::blocks_for;
 use crate::way::{Way, first_block, note, word};
 use lfs_device::{BlockDevice, Error};
 
-// Whether a block is the one that the pointers to its place name.
+// Returns whether a block is the one that the pointers to its place name.
 fn is_named(words: &[u8], block: u32, index: u32, last: u32) -> bool
     requires order { index ≤ last }
     requires room { length words.now ≡ 128 }
@@ -30,9 +30,9 @@ fn is_named(words: &[u8], block: u32, index: u32, last: u32) -> bool
     true
 }
 
-// The block that pointer 0 of a block names, whose pointers are noted, by one read where the way
-// doesn't go through it. Corrupt where it is no block of the device, or not the one that the pointers
-// to its place name.
+// Returns the block that pointer 0 of a block names, and notes the block's pointers. The call takes
+// one read, or none where the block is on the way. Returns `Corrupt` where the block isn't one of
+// the device, or isn't the one that the pointers to its place name.
 fn checked_before<D: BlockDevice>(
     dev: &mut D,
     block: u32,
@@ -59,14 +59,18 @@ fn checked_before<D: BlockDevice>(
     Ok(word(words, 0))
 }
 
-/// Visits each block of a file's list once, the last one first, and checks the list on the way.
-/// The list has its last block at `head` and holds `size` bytes.
+/// Visits each block of a file's list once, the last one first, and checks the list. The list has
+/// its last block at `head` and holds `size` bytes.
 ///
-/// Ok says that the list is well formed, as DESIGN.md of littlefs has it: it holds 1 to
-/// 2,147,483,647 bytes, each block is on the device, none comes twice, and each pointer names the
-/// block that the rule says. `Error::Corrupt` says that it is not; some blocks may have been
-/// visited then. `Error::Io` comes where the device failed. Each block but the first one is read
-/// once, and that one not at all. It takes no memory but some 4 KiB of the stack.
+/// Returns Ok where the list is well formed (DESIGN.md of littlefs, "CTZ skip-lists"). It then
+/// holds 1 to 2,147,483,647 bytes. Each block is on the device, and none comes twice. Each pointer
+/// names the block that the rule gives.
+///
+/// Each block but the first one is read once, and the first one isn't read. The call takes no
+/// memory but some 4 KiB of the stack.
+///
+/// Errors: `Corrupt` where the list isn't well formed; some blocks may have been visited then. `Io`
+/// where the device failed.
 pub fn walk<D: BlockDevice, F: FnMut(u32)>(
     dev: &mut D,
     head: u32,

@@ -13,17 +13,17 @@ use crate::read::{pointers, read_part};
 use byteorder::{ByteOrder, LittleEndian};
 use lfs_device::{BlockDevice, Error};
 
-// The blocks that the way goes through, each with its pointers, at the number of zeros that its
-// index ends in: no two of them end in as many.
+// The blocks on the way, each with its pointers, at the number of zeros in which its index ends. No
+// two indices end in as many zeros.
 #[derive(Drop)]
 pub(crate) struct Way {
     pub blocks: [u32; 32],
-    // 32 words for each.
+    // Each block has 32 words.
     pub words: [u8; 4096],
 }
 
 impl Way {
-    // Nothing is noted yet.
+    // Makes a way without blocks.
     pub fn new() -> Self {
         Self {
             blocks: [0; 32],
@@ -32,7 +32,7 @@ impl Way {
     }
 }
 
-// The word at a place.
+// Returns the word at a place.
 pub(crate) fn word(words: &[u8], at: usize) -> u32
     requires { at + 4 ≤ length words.now }
     ensures { result ≡ word_at words.now at }
@@ -40,7 +40,7 @@ pub(crate) fn word(words: &[u8], at: usize) -> u32
     LittleEndian::read_u32(&words[at..at + 4])
 }
 
-// Whether the way goes through the block at this index.
+// Returns whether the block at this index is on the way.
 fn is_on_way(index: u32, last: u32) -> bool
     requires some { 0 < index }
     requires order { index ≤ last }
@@ -49,7 +49,8 @@ fn is_on_way(index: u32, last: u32) -> bool
     last - index < 1 << index.trailing_zeros()
 }
 
-// The first block of a list, and what the way to it goes through, each block of it read once.
+// Returns the first block of a list, and notes the blocks on the way to it. Each block of the way
+// is read once.
 pub(crate) fn first_block<D: BlockDevice>(
     dev: &mut D,
     head: u32,
@@ -83,7 +84,8 @@ pub(crate) fn first_block<D: BlockDevice>(
     Ok(block)
 }
 
-// Notes the pointers of a block of the list over the words, by one read where it isn't on the way.
+// Notes the pointers of a block of the list over the words. The call takes one read where the block
+// isn't on the way.
 pub(crate) fn note<D: BlockDevice>(
     dev: &mut D,
     block: u32,

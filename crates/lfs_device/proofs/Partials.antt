@@ -119,7 +119,7 @@ module _ {D : Type 0} (g : Ghosts D) where
 
 -- ---- places in a block
 
--- a part of a list and the part behind it
+-- a part of a list and the part after it
 pub take-append-slice_range : (xs : List ℕ) (m n : ℕ) → m ≤ n → take m xs ++ slice_range xs m n ≡ take n xs
 take-append-slice_range xs m n le =
     let more : m + (n - m) ≡ n = omega arith in
@@ -137,7 +137,7 @@ step_below m n page a b lt =
       | inr above ↦ absurd (omega (arith, mul-le-mul_left page above))
     ]
 
--- behind the whole pages of what is stored there is room for one more, where more is stored
+-- after the whole pages of what is stored there is room for one more, where more is stored
 pub page_room : (off stored len page : ℕ) → off % page ≡ 0 → (off + len) % page ≡ 0 → stored ≤ len → stored - stored % page < stored → off + (stored - stored % page) + page ≤ off + len
 page_room off stored len page begins ends le lt =
     let whole : stored / page * page ≡ stored - stored % page = omega (arith, div-add-mod' stored page) in

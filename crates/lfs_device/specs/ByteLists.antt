@@ -1,4 +1,4 @@
--- A part of a list of bytes holds bytes.
+-- A part of a list of bytes consists of bytes.
 use Rattle.std.proofs.Common.{ℕ, zero, suc, List, [], ◌∷◌, take, drop, arith}
 use Rattle.lfs_model.specs.Blocks.{cut}
 use Rattle.lfs_device.specs.Bytes.{AreBytes, HasBytes}

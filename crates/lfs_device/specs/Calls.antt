@@ -1,5 +1,5 @@
--- What a function over any device may say of the device that it is given: `g` is what the device shows, `old` and `new`
--- are the device before and after. Each word bundles what always stands together.
+-- What a function may promise of the device that it is given: `g` is what a contract sees of the device, `old` and `new` are the
+-- device before and after. Each record joins facts that always come together.
 use Rattle.std.specs.Prelude.{◌≡◌, ◌<◌, ℕ, List, [], ◌∷◌, Result}
 use Rattle.std.specs.Prelude.{IsErrOf}
 use Rattle.lfs_device.specs.declared.device.BlockDevice.{Ghosts}
@@ -14,8 +14,8 @@ pub record ReadsOnly {D : Type 0} (g : Ghosts D) (old new : D) : Type 0 where
   pub geometry : g.geometry new ≡ g.geometry old
   pub reads : OnlyReads (g.blocks old) (g.history old) (g.history new)
 
--- No block but this one changes, what was unprogrammed in another still is, and a loss of power on the way leaves each
--- other block as it was.
+-- No block but this one changes, and bytes of other blocks that were unprogrammed still are. A loss of power during the call
+-- leaves each other block as it was.
 pub record ChangesBlock {D : Type 0} (g : Ghosts D) (b : ℕ) (old new : D) : Type 0 where
   pub others : SameBut b (g.blocks old) (g.blocks new)
   pub elsewhere : StayUnprogrammed (b ∷ []) (g.history old) (g.history new)
@@ -29,7 +29,7 @@ pub record ChangesOnly {D : Type 0} (g : Ghosts D) (bs : List ℕ) (old new : D)
   pub geometry : g.geometry new ≡ g.geometry old
   pub at_worst : LeavesOnly AtWorst (g.history old) (g.history new) (SameButThese bs (g.blocks old))
 
--- `Io` comes with a fault of the device, and any other answer without one.
+-- `Io` comes with a fault of the device, and any other result without one.
 pub record ReportsFaults {D X : Type 0} (g : Ghosts D) (old new : D) (result : Result X Error) : Type 0 where
   pub fault : IsErrOf result Io → faults (g.history old) < faults (g.history new)
   pub no_fault : (IsErrOf result Io → ⊥) → faults (g.history new) ≡ faults (g.history old)

@@ -1,4 +1,4 @@
--- Which calls of a device are to fail, and how much of them is carried out first.
+-- Which calls of a device are to fail, and how much of them is done first.
 use Rattle.std.specs.Prelude.{ℕ, ◌+◌, Bool, true, false, not, ◌&&◌, ◌||◌, ◌==◌, nat_le, nat_lt, if◌then◌else◌, Option, Some, None, List, [], ◌∷◌}
 use Rattle.lfs_device.specs.declared.fault.Which.{Which}
 use Rattle.lfs_device.specs.declared.fault.Which.TheVariants.{Any, Read, Program, Erase}
@@ -25,7 +25,7 @@ counts which call = false
 abbrev pub is_turn : Bool → Which → ℕ → List Event → Bool
 is_turn counted which nth older = counted && calls_of which older + 1 == nth
 
--- that one is past, and each later call fails too
+-- the failing call is past, and each later call fails too
 abbrev pub has_stopped : Which → ℕ → Bool → List Event → Bool
 has_stopped which nth stops older = stops && nat_lt 0 nth && nat_le nth (calls_of which older)
 
@@ -33,7 +33,7 @@ has_stopped which nth stops older = stops && nat_lt 0 nth && nat_le nth (calls_o
 abbrev pub is_due : Which → ℕ → Bool → Call → List Event → Bool
 is_due which nth stops call older = is_turn (counts which call) which nth older || has_stopped which nth stops older
 
--- how much of it is carried out; none where it isn't to fail
+-- how much of the call is done; none where it isn't due to fail
 abbrev pub due_if : Fault → Bool → List Event → Option Extent
 due_if fault counted older =
     if is_turn counted fault.which fault.nth older then Some fault.extent else

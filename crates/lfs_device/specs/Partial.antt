@@ -4,13 +4,13 @@ use Rattle.lfs_device.specs.declared.device.BlockDevice.{Ghosts}
 use Rattle.lfs_model.specs.Blocks.{SameBut, SameOutside, block_in}
 use Rattle.lfs_model.specs.History.{Event, faults, unprogrammed}
 
--- outside the part, what was unprogrammed still is
+-- outside the part, bytes that were unprogrammed still are
 pub record KeepsUnprogrammed (b low high : ℕ) (old new : List Event) : Type 0 where
   pub elsewhere : (other k : ℕ) → other ≢ b → unprogrammed old other k ≡ true → unprogrammed new other k ≡ true
   pub below : (k : ℕ) → k < low → unprogrammed old b k ≡ true → unprogrammed new b k ≡ true
   pub above : (k : ℕ) → high ≤ k → unprogrammed old b k ≡ true → unprogrammed new b k ≡ true
 
--- nothing changes but bytes of this block in a range, and no fault is forgotten
+-- only bytes of this block in a range change, and the number of faults doesn't get less
 pub record ChangesPart {D : Type 0} (g : Ghosts D) (b low high : ℕ) (old new : D) : Type 0 where
   pub within : SameOutside low high (block_in (g.blocks old) b) (block_in (g.blocks new) b)
   pub others : SameBut b (g.blocks old) (g.blocks new)

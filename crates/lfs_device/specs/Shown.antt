@@ -1,4 +1,4 @@
--- The disk that a device shows.
+-- The disk of a device.
 use Rattle.lfs_device.specs.declared.geometry.Geometry.{Geometry}
 use Rattle.lfs_model.specs.Blocks.{Blocks}
 use Rattle.lfs_model.specs.Disk.{Disk}

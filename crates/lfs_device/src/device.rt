@@ -8,15 +8,17 @@ ghost use Rattle.lfs_device.specs.Bytes.{HasBytes};
 
 use crate::{Error, Geometry};
 
-/// Flash. A block is erased whole, and then its bytes are programmed in whole pages, each byte once until the next erase.
+/// A block device, such as flash. A block is erased whole, and then its bytes are programmed in
+/// whole pages, each byte once until the next erase.
 ///
-/// Blocks are numbered from 0 on, and an offset counts bytes from the block's beginning.
-/// The only error is `Io`: the device failed in this call. No call takes memory.
+/// Blocks are numbered from 0 on, and an offset counts bytes from the block's beginning. The only
+/// error is `Io`, which says that the device failed in this call. No call takes memory.
 ///
-/// A contract sees the bytes of each block and the calls so far. The other things that it may speak of follow from the calls:
-/// how many of each kind there were and how many failed, which bytes are unprogrammed, and what a loss of power may have left.
+/// A contract sees the bytes of each block and the calls so far. Other facts follow from the calls:
+/// how many of each kind there were and how many failed, which bytes are unprogrammed, and what a
+/// loss of power may have left.
 pub trait BlockDevice {
-    /// How it is divided. It never changes.
+    /// The geometry of the device. It never changes.
     ghost geometry: { Self → Geometry };
 
     /// The bytes of each block.
@@ -25,13 +27,15 @@ pub trait BlockDevice {
     /// The calls so far, the newest first.
     ghost history: { Self → List Event };
 
-    /// How it is divided.
+    /// Returns the geometry: the sizes of blocks and pages in bytes, the number of blocks, and the
+    /// order of names.
     fn geometry(&self) -> Geometry
         ensures { result ≡ geometry self.now };
 
-    /// Fills the buffer with the bytes of a block from the offset `off` on.
+    /// Fills the buffer with the bytes of a block from the offset `off` on. The bytes are within
+    /// the block.
     ///
-    /// After an error the buffer holds any bytes.
+    /// Errors: `Io` where the device failed. The buffer may then hold any bytes.
     fn read(&mut self, block: u32, off: u32, buf: &mut [u8]) -> Result<(), Error>
         requires in_device { block < (geometry self.old).block_count }
         requires in_block { off + length buf.old ≤ (geometry self.old).block_size }
@@ -41,9 +45,11 @@ pub trait BlockDevice {
         ensures history { history self.new ≡ event (Read block off (length buf.old)) (blocks self.old) (blocks self.new) (is_err result) ∷ history self.old }
         ensures error { IfErr result (λ e. e ≡ Error.Io) };
 
-    /// Programs whole pages of a block, from the offset `off` on. Each byte of them has to be unprogrammed since the last erase of the block.
+    /// Programs whole pages of a block, from the offset `off` on. Offset and length are multiples
+    /// of the page. Each byte of the pages is unprogrammed since the last erase of the block.
     ///
-    /// After an error these pages hold any bytes, and count as programmed.
+    /// Errors: `Io` where the device failed. These pages may then hold any bytes, and count as
+    /// programmed.
     fn prog(&mut self, block: u32, off: u32, bytes: &[u8]) -> Result<(), Error>
         requires in_device { block < (geometry self.old).block_count }
         requires in_block { off + length bytes.now ≤ (geometry self.old).block_size }
@@ -57,9 +63,10 @@ pub trait BlockDevice {
         ensures history { history self.new ≡ event (Program block off bytes.now) (blocks self.old) (blocks self.new) (is_err result) ∷ history self.old }
         ensures error { IfErr result (λ e. e ≡ Error.Io) };
 
-    /// Erases a block. It then holds any bytes, all of them unprogrammed.
+    /// Erases a block. After the call the block may hold any bytes, all of them unprogrammed.
     ///
-    /// After an error it holds any bytes too, and they count as programmed.
+    /// Errors: `Io` where the device failed. The block may then hold any bytes, and they count as
+    /// programmed.
     fn erase(&mut self, block: u32) -> Result<(), Error>
         requires { block < (geometry self.old).block_count }
         ensures others { SameBut block (blocks self.old) (blocks self.new) }
@@ -67,15 +74,16 @@ pub trait BlockDevice {
         ensures history { history self.new ≡ event (Erase block) (blocks self.old) (blocks self.new) (is_err result) ∷ history self.old }
         ensures error { IfErr result (λ e. e ≡ Error.Io) };
 
-    /// It has as many blocks as its geometry says, each of that size.
+    /// The device has as many blocks as its geometry says, each of that size.
     ghost shape: { (d : Self) → IsDivided (geometry d).block_size (geometry d).block_count (blocks d) };
 
-    /// What a block holds are bytes: numbers below 256.
+    /// A block holds bytes: numbers below 256.
     ghost bytes: { (d : Self) → HasBytes (blocks d) };
 
     /// The newest call, if there was one, left the blocks as they are.
     ghost newest: { (d : Self) → IsNewest (history d) (blocks d) };
 
-    /// Each call that didn't fail was obeyed.
+    /// Each call that didn't fail conforms: it did what the call is for, and changed no other
+    /// block.
     ghost conforms: { (d : Self) → AllConform (history d) };
 }

@@ -20,14 +20,14 @@ pub enum Which {
     Erase,
 }
 
-/// How much of the call at which a device fails is carried out before it fails.
+/// How much of the failing call a device does before it fails.
 #[derive(Clone, Copy, Debug, PartialEq, Eq)]
 pub enum Extent {
     /// Nothing: the bytes stay as they were.
     Nothing,
-    /// Of a program so many of its first bytes, and all where it has fewer. Of another call nothing.
+    /// Of a program the first `k` bytes, and all where it has fewer. Of another call nothing.
     FirstBytes(u32),
-    /// All of it.
+    /// All of the call.
     Whole,
 }
 
@@ -36,18 +36,19 @@ pub enum Extent {
 pub struct Fault {
     /// The calls that are counted.
     pub which: Which,
-    /// The how manieth of them fails, from 1 on. At 0 none does.
+    /// The number of the call that fails, among those that are counted, from 1 on. At 0 no call
+    /// fails.
     pub nth: u64,
-    /// Whether each call behind it fails too, with nothing of it carried out.
+    /// Whether each later call fails too, without an effect.
     pub stops: bool,
-    /// How much of it is carried out.
+    /// How much of the failing call is done.
     pub extent: Extent,
 }
 
-/// A device one of whose calls fails, over another device.
+/// A device over another device. One of its calls fails, for tests of faults.
 ///
-/// Each other call goes to the other device, and fails only where that one fails.
-/// The calls are counted up to `u64::MAX`.
+/// Each other call is passed to the device below, and fails only where that one fails. The calls
+/// are counted up to `u64::MAX`.
 #[derive(Drop)]
 pub struct FaultDevice<D: BlockDevice> {
     inner: D,
@@ -72,8 +73,9 @@ pub struct FaultDevice<D: BlockDevice> {
 impl<D: BlockDevice> FaultDevice<D> {
     ghost use Rattle.lfs_device.specs.FaultDevice.{inner_of, fault_of, tears_of, history_of};
 
-    /// A device whose `n`-th call of those that `which` names fails, from 1 on, with nothing of it carried out.
-    /// With `stop` each call behind that one fails too. Every byte counts as programmed.
+    /// Makes a device whose `n`-th call of those that `which` names fails without an effect. `n`
+    /// counts from 1; at 0 no call fails. With `stop` each later call fails too. Every byte counts
+    /// as programmed.
     pub fn new(inner: D, which: Which, n: u64, stop: bool) -> FaultDevice<D>
         ensures inner { inner_of result ≡ inner }
         ensures fault { fault_of result ≡ record { which = which; nth = n; stops = stop; extent = Extent.Nothing } }
@@ -98,7 +100,8 @@ impl<D: BlockDevice> FaultDevice<D> {
         }
     }
 
-    /// The same device, whose failing call, if it is a program, first stores its first `k` bytes.
+    /// Returns the same device, whose failing call, if it is a program, first stores its first `k`
+    /// bytes.
     pub fn torn(self, k: u32) -> FaultDevice<D>
         ensures inner { inner_of result ≡ inner_of self }
         ensures fault { fault_of result ≡ record (fault_of self) { extent = Extent.FirstBytes k } }
@@ -108,7 +111,7 @@ impl<D: BlockDevice> FaultDevice<D> {
         self.carrying_out(Extent::FirstBytes(k))
     }
 
-    /// The same device, whose failing call is carried out whole and then fails.
+    /// Returns the same device, whose failing call is done whole and then fails.
     pub fn whole(self) -> FaultDevice<D>
         ensures inner { inner_of result ≡ inner_of self }
         ensures fault { fault_of result ≡ record (fault_of self) { extent = Extent.Whole } }
@@ -129,7 +132,7 @@ impl<D: BlockDevice> FaultDevice<D> {
         self
     }
 
-    /// Gives back the device below.
+    /// Returns the device below.
     pub fn into_inner(self) -> D
         ensures { result ≡ inner_of self }
     {
@@ -145,14 +148,15 @@ impl<D: BlockDevice> FaultDevice<D> {
         inner
     }
 
-    /// The device below.
+    /// Borrows the device below.
     pub fn inner(&self) -> &D
         ensures { result.now ≡ inner_of self.now }
     {
         &self.inner
     }
 
-    /// How many calls there have been of those that `which` names, failed ones among them, and `u64::MAX` where there were more.
+    /// Returns how many calls there were of those that `which` names, with those that failed.
+    /// Returns `u64::MAX` where there were more.
     pub fn calls(&self, which: Which) -> u64
         ensures { result ≡ min (calls_of which (history_of self.now)) (2 ^ 64 - 1) }
     {
@@ -167,20 +171,22 @@ impl<D: BlockDevice> FaultDevice<D> {
         }
     }
 
-    /// Whether it was ever told to store the first bytes of a program alone.
+    /// Returns whether [`torn`](FaultDevice::torn) was ever called: then a program may store its
+    /// first bytes alone.
     pub fn tears(&self) -> bool
         ensures { result ≡ tears_of self.now }
     {
         self.tears
     }
 
-    /// Where no program is torn, and the devices below are reliable, it meets what is supposed of a device where a
-    /// contract speaks of a loss of power. It does nothing when it runs.
+    /// Shows a proof the premises of contracts about a loss of power. The device meets them where
+    /// no program is torn and the devices below are reliable. The call does nothing at run time.
     pub fn meets_premises(&self)
         ensures { tears_of self.now ≡ false → AreReliable ⟦<D as BlockDevice>⟧ → MeetsPremises (history_of self.now) }
     {}
 
-    // How much of the next call is carried out before it fails, if it is to fail. `counts` says whether it counts.
+    // Returns how much of the next call is done before it fails, if it is due to fail. `counts`
+    // says whether the call is counted.
     fn due(&self, counts: bool) -> Option<Extent>
         ensures { result ≡ due_if self.now.fault counts self.now.trace.events }
     {

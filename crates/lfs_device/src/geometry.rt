@@ -6,7 +6,8 @@ ghost use Rattle.lfs_model.specs.declared.order.NameOrder.TheVariants.{LongerFir
 use crate::Error;
 use lfs_model::NameOrder;
 
-/// How a device is divided: blocks, which are erased whole, and pages, which are programmed whole. Sizes are in bytes.
+/// How a device is divided: into blocks, which are erased whole, and pages, which are programmed
+/// whole. Sizes are in bytes.
 ///
 /// A page is a power of two from 8 to 512 and at most an eighth of a block.
 /// A block is a multiple of the page, from 1,024 to 65,536.
@@ -16,14 +17,17 @@ pub struct Geometry {
     pub block_size: u32,
     pub page: u32,
     pub block_count: u32,
-    /// The order of the names in the device's directories. A session takes the order that its image has in place of it.
+    /// The order of the names in the device's directories. A session uses the order of its image in
+    /// place of it.
     pub order: NameOrder,
     pub ghost valid: { IsGeometry block_size page block_count },
 }
 
 impl Geometry {
-    /// A geometry of these sizes, with the longer names first. `Invalid` exactly where the sizes are outside the limits. It
-    /// takes no memory.
+    /// Makes a geometry of these sizes in bytes, with the longer names first. The call takes no
+    /// memory.
+    ///
+    /// Errors: `Invalid` exactly where the sizes are outside the limits.
     pub fn new(block_size: u32, page: u32, block_count: u32) -> Result<Geometry, Error>
         ensures { MatchResult result
             (λ g. (g.block_size ≡ block_size) × (g.page ≡ page) × (g.block_count ≡ block_count) × (g.order ≡ LongerFirst))
@@ -53,7 +57,7 @@ impl Geometry {
         })
     }
 
-    /// The same geometry with that order of names.
+    /// Returns the same geometry with that order of names.
     pub fn ordered(self, order: NameOrder) -> Geometry
         ensures { result ≡ record self { order = order } }
     {
@@ -65,29 +69,32 @@ impl Geometry {
         }
     }
 
-    /// How many bytes the slots of a metadata pair that is written may take, each name, struct and attribute with its tag
-    /// of 4 bytes: a block less a page and 39 bytes, which are its revision, tail, move state and checksum.
+    /// Returns how many bytes the slots of a written metadata pair may take, each name, struct and
+    /// attribute with its tag of 4 bytes. These are a block less 39 bytes and a page, which the
+    /// revision, tail, move state and checksum may take (SPEC.md of littlefs, "Metadata pairs").
     pub fn pair_capacity(self) -> u32
         ensures { result ≡ pair_capacity self.block_size self.page }
     {
         self.block_size - 39 - self.page
     }
 
-    /// How many bytes a name and its attributes may take, with their tags: half of what the pair's slots may.
+    /// Returns how many bytes a name and its attributes may take, with their tags: half of the
+    /// bytes of a pair's slots.
     pub fn entry_limit(self) -> u32
         ensures { result ≡ entry_limit self.block_size self.page }
     {
         self.pair_capacity() / 2
     }
 
-    /// The size in bytes of the largest file that is kept in its entry: an eighth of a block, and at most 1,022.
+    /// Returns the size in bytes of the largest file that is kept inline: an eighth of a block, and
+    /// at most 1,022.
     pub fn inline_limit(self) -> u32
         ensures { result ≡ inline_limit self.block_size }
     {
         (self.block_size / 8).min(1022)
     }
 
-    /// How many slots a metadata pair that is written may have.
+    /// Returns how many slots a written metadata pair may have.
     pub fn slot_limit(self) -> usize
         ensures { result ≡ slot_limit }
     {

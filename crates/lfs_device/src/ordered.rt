@@ -1,4 +1,4 @@
-// A device with the order of the names on it.
+// A device with another order of names.
 
 ghost use Rattle.std.specs.Prelude.{◌≡◌};
 ghost use Rattle.lfs_device.specs.declared.geometry.Geometry.{Geometry};
@@ -6,7 +6,8 @@ ghost use Rattle.lfs_device.specs.declared.geometry.Geometry.{Geometry};
 use crate::{BlockDevice, Error, Geometry};
 use lfs_model::NameOrder;
 
-/// A device whose directories have their names in a given order. Its blocks and calls are those of the device below.
+/// A device whose directories have their names in a given order. Its blocks and calls are those of
+/// the device below.
 #[derive(Drop)]
 pub struct Ordered<D: BlockDevice> {
     inner: D,
@@ -21,21 +22,21 @@ impl<D: BlockDevice> Ordered<D> {
         Ordered { inner, order }
     }
 
-    /// The device below.
+    /// Borrows the device below.
     pub fn inner(&self) -> &D
         ensures { result.now ≡ self.now.inner }
     {
         &self.inner
     }
 
-    /// The device below, alone.
+    /// Returns the device below.
     pub fn into_inner(self) -> D
         ensures { result ≡ self.inner }
     {
         self.inner
     }
 
-    /// The order of the names.
+    /// Returns the order of the names.
     pub fn order(&self) -> NameOrder
         ensures { result ≡ self.now.order }
     {

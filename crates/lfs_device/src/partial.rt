@@ -9,7 +9,7 @@ ghost use Rattle.lfs_device.specs.Partial.{ChangesPart};
 use crate::fault::Extent;
 use crate::{BlockDevice, Error};
 
-/// Reads, or does as much of it as is due and fails.
+/// Reads, or does the part of the read that is due and fails.
 pub(crate) fn carry_out_read<D: BlockDevice>(
     device: &mut D,
     due: Option<Extent>,
@@ -37,7 +37,7 @@ pub(crate) fn carry_out_read<D: BlockDevice>(
     }
 }
 
-/// Programs, or does as much of it as is due and fails.
+/// Programs, or does the part of the program that is due and fails.
 pub(crate) fn carry_out_program<D: BlockDevice>(
     device: &mut D,
     due: Option<Extent>,
@@ -71,7 +71,7 @@ pub(crate) fn carry_out_program<D: BlockDevice>(
     }
 }
 
-/// Erases, or does as much of it as is due and fails.
+/// Erases, or does the part of the erase that is due and fails.
 pub(crate) fn carry_out_erase<D: BlockDevice>(
     device: &mut D,
     due: Option<Extent>,
@@ -95,7 +95,8 @@ pub(crate) fn carry_out_erase<D: BlockDevice>(
     }
 }
 
-/// Programs the first `k` of these bytes, all where there are fewer, and leaves those behind them as they are.
+/// Programs the first `k` of these bytes, all where there are fewer. The bytes after them stay as
+/// they are.
 pub(crate) fn program_first<D: BlockDevice>(
     device: &mut D,
     block: u32,
@@ -122,7 +123,7 @@ pub(crate) fn program_first<D: BlockDevice>(
     program_beginning(device, block, off + whole as u32, &bytes[whole..stored])
 }
 
-// Programs the beginning of a page, and the rest of the page with what it holds.
+// Programs the beginning of a page, and the remaining bytes of the page with what it holds.
 fn program_beginning<D: BlockDevice>(
     device: &mut D,
     block: u32,

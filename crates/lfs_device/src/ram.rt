@@ -14,9 +14,9 @@ use std::alloc::Global;
 /// What a successful erase leaves in each byte of a block.
 #[derive(Clone, Copy, Debug, PartialEq, Eq)]
 pub enum Erased {
-    /// This byte, as flash does with 0xff.
+    /// This byte, as flash is 0xff after an erase.
     Fill(u8),
-    /// What was there before.
+    /// The bytes from before the erase.
     Keep,
 }
 
@@ -38,9 +38,10 @@ pub struct RamDevice {
 impl RamDevice {
     ghost use Rattle.lfs_device.specs.RamDevice.{geometry_of, bytes_of, ram_blocks, erased_of, history_of};
 
-    /// A device that holds 0xff in every byte and erases to 0xff. Every byte counts as programmed.
+    /// Makes a device that holds 0xff in every byte. An erase fills a block with 0xff. Every byte
+    /// counts as programmed.
     ///
-    /// `NoMemory` where its bytes aren't granted.
+    /// Errors: `NoMemory` where memory for all bytes isn't granted.
     pub fn blank(alloc: Global, geometry: Geometry) -> Result<RamDevice, Error>
         ensures geometry { IfOk result (λ d. geometry_of d ≡ geometry) }
         ensures bytes { IfOk result (λ d. bytes_of d ≡ replicate (geometry.block_size * geometry.block_count) 255) }
@@ -58,9 +59,10 @@ impl RamDevice {
         })
     }
 
-    /// A device that holds these bytes, block after block, and erases to 0xff. Every byte counts as programmed.
+    /// Makes a device that holds these bytes, block after block. An erase fills a block with 0xff.
+    /// Every byte counts as programmed. The call takes no memory.
     ///
-    /// `Invalid` exactly where they aren't as many as the geometry has. It takes no memory.
+    /// Errors: `Invalid` exactly where the number of bytes isn't that of the geometry.
     pub fn from_bytes(geometry: Geometry, bytes: Vec<u8>) -> Result<RamDevice, Error>
         ensures made { MatchResult result
             (λ d. (geometry_of d ≡ geometry) × (bytes_of d ≡ bytes.items) × (erased_of d ≡ Erased.Fill 255))
@@ -78,7 +80,7 @@ impl RamDevice {
         })
     }
 
-    /// The same device, in which an erase leaves something else from now on.
+    /// Returns the same device, in which an erase leaves other bytes from now on.
     pub fn erased_as(self, erased: Erased) -> RamDevice
         ensures geometry { geometry_of result ≡ geometry_of self }
         ensures bytes { bytes_of result ≡ bytes_of self }
@@ -99,7 +101,7 @@ impl RamDevice {
         }
     }
 
-    /// All its bytes, block after block.
+    /// Borrows all bytes of the device, block after block.
     pub fn bytes(&self) -> &[u8]
         ensures bytes { result.now ≡ bytes_of self.now }
         ensures blocks { ram_blocks self.now ≡ cut (geometry_of self.now).block_size (geometry_of self.now).block_count result.now }
@@ -107,7 +109,7 @@ impl RamDevice {
         &self.bytes
     }
 
-    /// Gives up the device for its bytes.
+    /// Returns all bytes of the device, block after block. The device is dropped.
     pub fn to_bytes(self) -> Vec<u8>
         ensures bytes { result.items ≡ bytes_of self }
         ensures blocks { ram_blocks self ≡ cut (geometry_of self).block_size (geometry_of self).block_count result.items }
@@ -115,7 +117,7 @@ impl RamDevice {
         self.bytes
     }
 
-    // Where a byte lies.
+    // Returns where a byte of a block is among all bytes.
     fn position(&self, block: u32, off: u32) -> usize
         requires in_device { block < self.now.geometry.block_count }
         requires in_block { off ≤ self.now.geometry.block_size }
@@ -125,8 +127,9 @@ impl RamDevice {
     }
 }
 
-/// Devices in memory meet what is supposed of a device where a contract speaks of a loss of power: an erase leaves no
-/// log or the one that was there, and no call fails. It does nothing when it runs.
+/// Shows a proof the premises of contracts about a loss of power. Devices in memory meet them: an
+/// erase leaves no log or the one that was there, and no call fails. The call does nothing at run
+/// time.
 pub fn ram_devices_are_reliable()
     ensures { AreReliable ⟦<RamDevice as BlockDevice>⟧ }
 {}
@@ -139,7 +142,7 @@ fn overwrite(all: &mut Vec<u8>, at: usize, bytes: &[u8])
     all[at..at + bytes.len()].copy_from_slice(bytes);
 }
 
-// Leaves in the bytes from an offset on what an erase does.
+// Fills the bytes from an offset on with what an erase leaves.
 fn erase_at(all: &mut Vec<u8>, at: usize, len: usize, erased: Erased)
     requires { at + len ≤ length all.old.items }
     ensures erased { all.new.items ≡ erased_bytes erased all.old.items at len }

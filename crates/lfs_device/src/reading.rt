@@ -7,9 +7,10 @@ ghost use Rattle.lfs_model.specs.History.Call.{Read};
 use crate::{BlockDevice, Error};
 use std::alloc::Global;
 
-/// Reads `len` bytes of a block, from the offset `off` on, into a vector of their own.
+/// Reads `len` bytes of a block, from the offset `off` on, into a new vector.
 ///
-/// `NoMemory` where the vector isn't granted; the device is then untouched. `Io` where its read fails.
+/// Errors: `NoMemory` where memory for the vector isn't granted; the device is untouched then. `Io`
+/// where the read fails.
 pub fn read_part<D: BlockDevice>(
     alloc: Global,
     device: &mut D,
@@ -24,7 +25,7 @@ pub fn read_part<D: BlockDevice>(
     ensures faults { ReportsFaults D.BlockDevice device.old device.new result }
     ensures errors { IfErr result (λ e. (e ≡ Error.Io) ⊎ (e ≡ Error.NoMemory)) }
 
-    // One read, unless there was no memory.
+    // There is one read, unless memory wasn't granted.
     ensures ok { OnOk result (D.history device.new ≡ event (Read block off len) (D.blocks device.old) (D.blocks device.old) false ∷ D.history device.old) }
     ensures io { IsErrOf result Error.Io → D.history device.new ≡ event (Read block off len) (D.blocks device.old) (D.blocks device.old) true ∷ D.history device.old }
     ensures no_memory { IsErrOf result Error.NoMemory → D.history device.new ≡ D.history device.old }
@@ -34,9 +35,10 @@ pub fn read_part<D: BlockDevice>(
     Ok(bytes)
 }
 
-/// Reads a whole block into a vector of its own.
+/// Reads a whole block into a new vector.
 ///
-/// `NoMemory` where the vector isn't granted; the device is then untouched. `Io` where its read fails.
+/// Errors: `NoMemory` where memory for the vector isn't granted; the device is untouched then. `Io`
+/// where the read fails.
 pub fn read_block<D: BlockDevice>(
     alloc: Global,
     device: &mut D,
@@ -48,7 +50,7 @@ pub fn read_block<D: BlockDevice>(
     ensures faults { ReportsFaults D.BlockDevice device.old device.new result }
     ensures errors { IfErr result (λ e. (e ≡ Error.Io) ⊎ (e ≡ Error.NoMemory)) }
 
-    // One read, unless there was no memory.
+    // There is one read, unless memory wasn't granted.
     ensures ok { OnOk result (D.history device.new ≡ event (Read block 0 (D.geometry device.old).block_size) (D.blocks device.old) (D.blocks device.old) false ∷ D.history device.old) }
     ensures io { IsErrOf result Error.Io → D.history device.new ≡ event (Read block 0 (D.geometry device.old).block_size) (D.blocks device.old) (D.blocks device.old) true ∷ D.history device.old }
     ensures no_memory { IsErrOf result Error.NoMemory → D.history device.new ≡ D.history device.old }

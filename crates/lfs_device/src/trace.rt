@@ -4,10 +4,11 @@ ghost use Rattle.lfs_model.specs.History.{Event};
 
 use std::marker::Model;
 
-/// The history of a device, for those who write one. Only proofs read it: it takes no memory, and its methods do nothing when they run.
+/// The history of a device, for those who write a device. Only proofs read a trace: it takes no
+/// memory, and its methods do nothing at run time.
 ///
-/// A device keeps a `Trace` in a field, gives `events` of it as its ghost member `history`, and in each call assigns a new one.
-/// Callers of a device need none.
+/// A device has a `Trace` in a field. Its ghost member `history` is `events` of that field, and
+/// each call assigns a new trace. Callers of a device need no trace.
 #[derive(Drop)]
 pub struct Trace {
     pub ghost events: { List Event },
@@ -18,7 +19,8 @@ impl Model for Trace {
 }
 
 impl Trace {
-    /// Any history. The caller's proof picks it, from what the two references point to: mostly the device before the call and the call's arguments.
+    /// Makes any history. The caller's proof picks the history from what the two references point
+    /// to. They are mostly the device before the call and the call's arguments.
     pub fn from_proof<S, T>(_device: &S, _call: &T) -> Trace
         ghost events: { List Event }
         ensures { result.events ≡ events }

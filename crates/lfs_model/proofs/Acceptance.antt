@@ -243,7 +243,7 @@ tests disk ps bytes k =
     ∷ starts_with_superblock (first_slots (directory_pairs ps))
     ∷ []
 
--- these pairs stand on the disk, and the tests pass
+-- these pairs are on the disk, and the tests pass
 pub record IsImage (disk : Disk) (ps : List Pair) (bytes : List ℕ) (k : ℕ) : Type 0 where
   pub links : Links (Some anchor) ps
   pub contents : AllByRecursion (λ p. content_at disk p.at ≡ Some p.content) ps

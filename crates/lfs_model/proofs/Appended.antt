@@ -1,4 +1,4 @@
--- What a log comes to behind one commit more.
+-- What a log comes to after one commit more.
 use Rattle.std.proofs.Common.{ℕ, ◌≡◌, ◌==◌, true, List, [], ◌∷◌, ◌++◌, Some, flat_map, refl, ap, ◌∙◌, eq-eqb}
 use Rattle.std.proofs.lemmas.List.{append-nil}
 use Rattle.std.proofs.lemmas.List.Concat.{flat_map-append}
@@ -11,7 +11,7 @@ use Rattle.lfs_model.proofs.WrittenAnew.{then}
 pub checksum_stays : (c : RawContent) (e : LogEntry) → class_of e.tag ≡ 5 → content_after_all c (e ∷ []) ≡ Some c
 checksum_stays c e k = let five : class_of e.tag == 5 ≡ true = eq-eqb (class_of e.tag) 5 k in rw five refl
 
--- these entries behind earlier commits
+-- these entries after earlier commits
 pub appended_content : (block : List ℕ) (cs : List (List LogEntry)) (es : List LogEntry) (checksum : LogEntry) (held after : RawContent)
     → (chain_of block).commits ≡ cs ++ (es ++ checksum ∷ []) ∷ [] → class_of checksum.tag ≡ 5
     → content_after_all no_content (flat_map (λ c. c) cs) ≡ Some held → content_after_all held es ≡ Some after → content_after_all no_content (log_entries block) ≡ Some after

@@ -1,4 +1,4 @@
--- Changes, carried out on a small pair.
+-- Changes, applied on a small pair.
 use Rattle.std.specs.Prelude.{ℕ, ◌≡◌, true, false, List, [], ◌∷◌, ◌++◌, Some, None, map, codes}
 use Rattle.std.proofs.Common.{refl, replicate}
 use Rattle.lfs_model.specs.Slots.{no_gstate}
@@ -20,7 +20,7 @@ file = record { name = Some (file_name_type, codes "b"); struct = Some (inline_s
 abbrev holding : List RawSlot → RawContent
 holding slots = record { slots = slots; tail = None; move = no_gstate }
 
--- file b comes, then a in front of it, which goes again; b gets an attribute
+-- file b comes, then a before it, which goes again; b gets an attribute
 abbrev changes : List Change
 changes = empty_file 1 (codes "b") ++ (empty_file 1 (codes "a") ++ (Delete 1 ∷ PutAttribute 1 0x41 (codes "x") ∷ []))
 

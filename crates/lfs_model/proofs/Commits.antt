@@ -6,7 +6,7 @@ use Rattle.lfs_model.specs.Log.{LogEntry, IsChain, chain_of}
 use Rattle.lfs_model.specs.Content.{has_commit}
 use Rattle.lfs_model.proofs.Chains.{chain_sound, commit_space}
 
--- what a chain's end tells of its commits
+-- what a chain's end shows of its commits
 pub data Reach (at end : ℕ) (cs : List (List LogEntry)) : Type 0 where
   nowhere : length cs ≡ 0 → end ≡ at → Reach at end cs
   somewhere : 0 < length cs → at < end → Reach at end cs
@@ -31,7 +31,7 @@ has_commit-end block = go (chain_reach block)
     go (nowhere n e) = le-ltb 0 (length (chain_of block).commits) (omega arith) ∙ sym (le-ltb 4 (chain_of block).end (omega arith))
     go (somewhere n e) = lt-ltb 0 (length (chain_of block).commits) n ∙ sym (lt-ltb 4 (chain_of block).end e)
 
--- a test that tells whether there is one
+-- a test that shows whether there is one
 pub has_commit-from : (block : List ℕ) (b : Bool) → IsTrue b ↔ (4 < (chain_of block).end) → b ≡ has_commit block
 has_commit-from block b h = ltb_from_iff h ∙ sym (has_commit-end block)
 

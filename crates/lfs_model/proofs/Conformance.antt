@@ -1,4 +1,4 @@
--- Calls that were obeyed: one more, and what they left, which is among what a stop in them may leave.
+-- Calls that conform: one more, and what they left, which is among what a stop in them may leave.
 use Rattle.std.proofs.Common.{◌≡◌, ℕ, Bool, false, List, [], ◌∷◌, length, inl, inr, refl, sym, ap, subst, ◌∙◌, arith}
 use Rattle.std.specs.Prelude.{Contains}
 use Rattle.std.proofs.lemmas.Bool.{cases_lt}

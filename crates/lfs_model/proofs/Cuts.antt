@@ -61,7 +61,7 @@ take-overwritten size at bytes new more is fits =
     split : length (take at bytes ++ new) + more ≡ size
     split = omega (arith, is, length-append (take at bytes) new, length-take-le at bytes (omega arith))
 
--- leaves what lies behind it
+-- leaves what comes after it
 drop-overwritten : (size at : ℕ) (bytes new : List ℕ) (more : ℕ) → at + length new + more ≡ size → size ≤ length bytes → drop size (overwritten bytes at new) ≡ drop size bytes
 drop-overwritten size at bytes new more is fits =
     ap (λ n. drop n (overwritten bytes at new)) (sym split)

@@ -50,7 +50,7 @@ by_slots c e k t i =
 one_entry : (c d : RawContent) (e : LogEntry) → content_after c e ≡ Some d → content_after_all c (e ∷ []) ≡ Some d
 one_entry c d e h = ap (option_and_then (λ x. Some x)) h
 
--- the part stands in the table under any id
+-- the part is in the table under any id
 in_table_at : (class : ℕ) (part : ℕ × List ℕ) (id : ℕ) → class < 5 → id < 2 ^ 10 → IsPart class part → is_in_table (tag_with part.0 id (length part.1)) ≡ true
 in_table_at class part id c i h =
     let of : part.0 / 2 ^ 8 ≡ class = h.of_class in
@@ -197,7 +197,7 @@ removes_attribute c id attribute small low named = record {
 abbrev pub slot_named : ℕ × List ℕ → RawSlot
 slot_named name = record { name = Some name; struct = None; attributes = [] }
 
--- what stands at the place of an insert, and what is put there
+-- what is at the place of an insert, and what is put there
 inserted_at : (slots : List RawSlot) (id : ℕ) (s : RawSlot) → id ≤ length slots → slot_of_id (insert slots id s) id ≡ s
 inserted_at slots id s fits = ap (slot_of_id (insert slots id s)) (sym (length-take-le id slots fits)) ∙ get_or-append_seam (take id slots) s (drop id slots) empty_slot
 

@@ -26,7 +26,7 @@ cut_between block_size page front back f b = record {
   };
 }
 
--- It is cut in front of the slot or behind it. Behind it only where there is room for one slot more.
+-- It is cut before the slot or after it. After it only where there is room for one slot more.
 pub can_be_cut : (block_size page : ℕ) (front : List RawSlot) (s : RawSlot) (back : List RawSlot) → raw_slot_size s ≤ entry_limit block_size page
     → sum_by raw_slot_size front + sum_by raw_slot_size back ≤ pair_capacity block_size page → length front + length back ≤ slot_limit → CanBeCut block_size page (front ++ s ∷ back)
 can_be_cut block_size page front s back small size count = ⊎_elim
@@ -97,7 +97,7 @@ entry_small block_size page s large fits = go s.struct refl fits.inline
     go (Ctz head size) e h = bounded (omega (arith, ap struct_len e))
     go (Branch to) e h = bounded (omega (arith, ap struct_len e))
 
--- slots as they stand in a log, one of them apart
+-- slots as they are in a log, one of them apart
 record AreRaw (xs : List RawSlot) (front : List Slot) (s : Slot) (back : List Slot) : Type 0 where
   pub before : List RawSlot
   pub here : RawSlot
@@ -184,7 +184,7 @@ set_cut block_size page raw c old front was s back logged is before slots small 
     (omega (arith, ap (sum_by slot_size) before, sum_by-append slot_size front (was ∷ back), sum_by-cons slot_size was back, fits.size))
     (omega (arith, ap length before, length-append front (was ∷ back), fits.count))
 
--- where the content doesn't fit, the cut leaves slots in front and behind
+-- where the content doesn't fit, the cut leaves slots before and after
 pub content_cut_inside : (block_size page : ℕ) (raw : RawContent) (c : Content) (cut : ℕ) → IsLogged raw → completed raw ≡ Some c → ¬ (FitsPair block_size page c) → IsCut block_size page raw.slots cut
     → IsInside raw.slots cut
 content_cut_inside block_size page raw c cut logged is full cuts =

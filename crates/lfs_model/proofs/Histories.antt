@@ -41,7 +41,7 @@ EachSince-weaker {P} {Q} of since = record { events = since.events; extends = si
 pub EachSince-same : {P : Event → Type 0} {old new other later : List Event} → EachSince P old new → other ≡ old → later ≡ new → EachSince P other later
 EachSince-same since start end = record { events = since.events; extends = end ∙ since.extends ∙ ap (λ (l : List Event). since.events ++ l) (sym start); each = since.each }
 
--- What holds of all calls holds of those up to a moment between, of those behind it, and of the only one.
+-- What holds of all calls holds of those up to a history between, of those after it, and of the only one.
 
 same_events : {P Q R : Event → Type 0} {old mid new : List Event} (all : EachSince P old new) (first : EachSince Q old mid) (second : EachSince R mid new) → all.events ≡ second.events ++ first.events
 same_events {old = old} all first second =
@@ -204,7 +204,7 @@ pub unprogrammed-read : {old new : List Event} {read off len low high : ℕ} {be
     → AllUnprogrammed old block low high → AllUnprogrammed new block low high
 unprogrammed-read block is was k above below = ap (λ (h : List Event). unprogrammed h block k) is ∙ was k above below
 
--- after a program the bytes behind it, also one that failed
+-- after a program the bytes after it, also one that failed
 pub unprogrammed-program : {old new : List Event} {block off : ℕ} {bytes : List ℕ} {before after : Blocks} {failed : Bool} {low high later : ℕ} → new ≡ event (Program block off bytes) before after failed ∷ old
     → AllUnprogrammed old block low high → low ≤ later → off + length bytes ≤ later → AllUnprogrammed new block later high
 unprogrammed-program {old} {block = block} {off = off} {bytes = bytes} is was le behind k above below =

@@ -88,7 +88,7 @@ defined around (op ∷ operations) (reply ∷ replies) from to s h agrees (next,
 abbrev pub ArePairs : (Disk → List Pair → Type 0) → Disk → Type 0
 ArePairs Q disk = (ps : List Pair) × (IsAccepted disk ps × Q disk ps)
 
--- each operation that is carried out keeps it
+-- each operation that is applied keeps it
 abbrev pub StaysCarried : (Disk → List Pair → Type 0) → Type 0
 StaysCarried Q = (disk new : Disk) (ps qs : List Pair) (s : Session) (op : Operation) (calls : List Event) → IsEffectOnDisk disk ps s op calls new qs → Q disk ps → Q new qs
 

@@ -128,7 +128,7 @@ with_attribute_ascends e attributes h up = go (removes e.tag)
     go true = without_ascends 0 (chunk_of e.tag) attributes up
     go false = put_ascends 0 (chunk_of e.tag) e.bytes attributes (omega arith) (omega arith) (stored_short e h) up
 
--- the slots behind an entry
+-- the slots after an entry
 slots_parts : (slots : List RawSlot) (e : LogEntry) (new : List RawSlot) → HaveParts slots → IsStoredEntry e → is_in_table e.tag ≡ true → slots_after slots e ≡ Some new → HaveParts new
 slots_parts slots e new h stored t is =
     one_of (class_of e.tag == 0) (kind_of e.tag == create_type) (kind_of e.tag == delete_type) (nat_le (id_of e.tag) (length slots)) (nat_lt (id_of e.tag) (length slots))

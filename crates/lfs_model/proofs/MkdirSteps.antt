@@ -102,7 +102,7 @@ module _ (disk middle new : Disk) (chain before front mid after : List Pair) (x 
   abbrev rs : List Pair
   rs = thread_at there (q ∷ more)
 
-  -- the thread with some pairs in place of p, and some behind its directory
+  -- the thread with some pairs in place of p, and some after its directory
   turned : (us vs : List Pair) → (before ++ (front ++ (us ++ mid))) ++ vs ≡ (before ++ front) ++ (us ++ (mid ++ vs))
   turned us vs = append_assoc before (front ++ (us ++ mid)) vs ∙ ap (λ z. before ++ z) (append_assoc front (us ++ mid) vs ∙ ap (λ z. front ++ z) (append_assoc us mid vs)) ∙ sym (append_assoc before front (us ++ (mid ++ vs)))
 
@@ -137,7 +137,7 @@ module _ (disk middle new : Disk) (chain before front mid after : List Pair) (x 
   second = step_writable middle new (record { chain = chain; before = before; left = front; right = mid ++ y ∷ []; after = f ∷ after }) p [] q more extra2 [] l [] (new_directory name f.at ∷ []) r step2 put2.writable
       (put_within middle there p q more l [] (new_directory name f.at ∷ []) r put2) (put_filled middle there p q more l [] (new_directory name f.at ∷ []) r put2)
 
-  -- where the pairs stand before and after
+  -- where the pairs are before and after
   were : thread_at (last_site chain before (front ++ p ∷ mid) after) (x ∷ []) ≡ chain ++ ((before ++ front) ++ (p ∷ [] ++ (mid ++ x ∷ after)))
   were = ap (λ z. chain ++ z) (turned (p ∷ []) (x ∷ after))
 

@@ -1,4 +1,4 @@
--- An open of a new file takes a fresh disk to one with a file in its root: the step, and the operation's turn.
+-- An open of a new file takes a fresh disk to one with a file in its root: the step, and the session step.
 use Rattle.std.proofs.Common.{◌≡◌, true, [], ◌∷◌, ◌++◌, Some, None, refl, sym, arith}
 use Rattle.std.specs.Prelude.{codes, nat_eq}
 use Rattle.std.specs.List.{IsDistinct}

@@ -139,7 +139,7 @@ outlined (suc k) E u whole (n ∷ path) =
             ∙ found_below n c.name path (outline k E c) same ∙ deep
         by_name false other apart deep ih = ap (λ o. option_or o (found_in (n ∷ path) rest)) (found_beside n c.name path (outline k E c) other) ∙ ih
 
--- what is found stands in the outline
+-- what is found is in the outline
 pub found_holds : (P : Path → Slot → Type 0) (xs : Outline) → AllByRecursion (λ f. P f.0 f.1) xs → (path : Path) (s : Slot) → found_in path xs ≡ Some s → P path s
 found_holds P [] all path s e = absurd (cc)
 found_holds P (x ∷ xs) all path s e = go (found_holds P xs all.1 path s) (same_path path x.0) refl e

@@ -33,7 +33,7 @@ pub take-overwritten : (block : List ℕ) (at : ℕ) (new : List ℕ) → at ≤
 take-overwritten block at new fits =
     ap (take at) (append_assoc (take at block) new (drop (at + length new) block)) ∙ take_at (take at block) (new ++ drop (at + length new) block) at (length-take-le at block fits)
 
--- what lies behind
+-- what comes after
 pub drop-overwritten : (block : List ℕ) (at : ℕ) (new : List ℕ) → at ≤ length block → drop (at + length new) (overwritten block at new) ≡ drop (at + length new) block
 drop-overwritten block at new fits =
     ap (λ n. drop n (overwritten block at new)) (omega (arith, length-append (take at block) new, length-take-le at block fits))
@@ -56,7 +56,7 @@ overwritten_same block at n fits =
 pub overwritten_whole : (block new : List ℕ) → length new ≡ length block → overwritten block 0 new ≡ new
 overwritten_whole block new size = ap (λ (l : List ℕ). new ++ l) (drop_all (0 + length new) block (omega arith)) ∙ append-nil new
 
--- one write behind another is one write of both
+-- one write after another is one write of both
 pub overwritten_next : (block : List ℕ) (at : ℕ) (first second : List ℕ) → at ≤ length block
     → overwritten (overwritten block at first) (at + length first) second ≡ overwritten block at (first ++ second)
 overwritten_next block at first second fits =
@@ -73,7 +73,7 @@ overwritten_next block at first second fits =
     ∙ ap (λ (l : List ℕ). take at block ++ first ++ second ++ l) behind
     ∙ ap (λ (l : List ℕ). l ++ drop (at + length (first ++ second)) block) (append_assoc (take at block) first second)
 
--- a part of a source is written behind the part that is there already
+-- a part of a source is written after the part that is there already
 pub take-overwritten_next : (block source : List ℕ) (off n : ℕ) → off ≤ length block → off + n ≤ length source → take off block ≡ take off source
     → take (off + n) (overwritten block off (take n (drop off source))) ≡ take (off + n) source
 take-overwritten_next block source off n fits room so_far =
@@ -152,7 +152,7 @@ overwritten_none block at =
 pub programmed_none : (blocks : Blocks) (b at : ℕ) → programmed blocks b at [] ≡ blocks
 programmed_none blocks b at = ap (slice_set blocks b) (overwritten_none (block_in blocks b) at) ∙ set-get_or blocks b []
 
--- one program behind another is one program of both
+-- one program after another is one program of both
 pub programmed_next : (blocks : Blocks) (b at : ℕ) (first second : List ℕ) → b < length blocks → at + length first + length second ≤ length (block_in blocks b)
     → programmed (programmed blocks b at first) b (at + length first) second ≡ programmed blocks b at (first ++ second)
 programmed_next blocks b at first second lt room =

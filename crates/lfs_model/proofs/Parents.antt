@@ -1,4 +1,4 @@
--- Each node of a tree stands in a directory that has its name, and each name of a directory has a node.
+-- Each node of a tree is in a directory that has its name, and each name of a directory has a node.
 use Rattle.std.proofs.Common.{ℕ, zero, suc, ◌≡◌, true, cond, List, [], ◌∷◌, ◌++◌, map, Option, Some, None, refl, sym, ap, subst, ◌∙◌, arith, option_and_then, option_map}
 use Rattle.std.specs.Prelude.{Contains, is_some}
 use Rattle.lfs_model.proofs.Orders.{contains_in_order, contains_back}

@@ -1,4 +1,4 @@
--- Operations that a session performs, in turn.
+-- Operations that a session performs, in order.
 use Rattle.std.proofs.Common.{◌≡◌, List, [], ◌∷◌, ◌++◌, Option, refl, sym, subst}
 use Rattle.lfs_model.specs.History.{Event, EachEvent, EachSince}
 use Rattle.lfs_model.specs.Operations.{Operation, Reply}

@@ -32,7 +32,7 @@ use denote.Triple.Table.{entered}
 use denote.Triple.Walked.{Stays, stay_dropped, walk_of, Goes-dropped, walk_Meets}
 use Rattle.std.proofs.raw_atomic.Walks.{leaves}
 
--- the struct's name, its row, and the types behind the two references
+-- the struct's name, its row, and the types after the two references
 module _ (name : Sym) (row Y Z : RattleType) where
   abbrev R₀ : RattleType
   R₀ = param 0 Y

@@ -1,5 +1,5 @@
--- Where slots stand after a rename onto a directory, whatever the order in which the three pairs stand: the one that loses the slot, the
--- one that gains it, and the one of the directory that goes.
+-- Where slots are after a rename onto a directory, whatever the order in which the three pairs stand: the one that loses the
+-- slot, the one that gains it, and the one of the directory that goes.
 use Rattle.std.proofs.Common.{ℕ, ◌≡◌, ◌≢◌, ◌⊎◌, inl, inr, Bool, true, false, cond, List, [], ◌∷◌, ◌++◌, length, map, Option, Some, None, refl, sym, ap, subst, ◌∙◌, flat_map}
 use Rattle.std.specs.Prelude.{Any, is_some}
 use Rattle.std.proofs.lemmas.Option.{same_Some}
@@ -42,7 +42,7 @@ segment_of (Keeps o slots os) = record { old = o ∷ []; drafts = with_slots slo
 segment_of (Gains p slots q more) = record { old = p ∷ []; drafts = with_slots slots p ∷ []; parts = (q ∷ more) ∷ [] }
 segment_of (Goes g) = gone g
 
--- What is known of each piece, where the directory in front of it goes on; the one at d goes.
+-- What is known of each piece, where the directory before it goes on; the one at d goes.
 abbrev pub AreThere : Disk → ℕ × ℕ → Option (ℕ × ℕ) → List Piece → Type 0
 AreThere disk d from [] = Unit {0}
 AreThere disk d from (Stays ps ∷ pieces) = Each (λ x. same_pair x.at d ≡ false) ps × AreThere disk d (onward_all from ps) pieces
@@ -104,7 +104,7 @@ module _ (disk : Disk) (unreached : ℕ × ℕ → Type 0) (d : ℕ × ℕ) wher
       ends : OnApart d (onward from g)
       ends x k s = absurd (let z : None ≡ Some x = sym (ap (λ b. cond b (Some (begin_from from g)) None) there.2) ∙ k in cc)
 
-  -- behind the superblock's pairs
+  -- after the superblock's pairs
   pub pieces_stood : (chain : List Pair) (pieces : List Piece) (rs : List Pair) → Each (Fits disk) (chain ++ olds_of pieces) → HaveSlots false (olds_of pieces) → NoneGoes unreached None (olds_of pieces)
       → AreThere disk d None pieces → AreAlike (chain ++ joined_parts (parts_of (map segment_of pieces))) rs
       → Stood disk (GoesAt unreached d) (length chain) None (chain ++ drafts_of (map segment_of pieces)) rs

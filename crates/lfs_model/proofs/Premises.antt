@@ -1,4 +1,4 @@
--- What is supposed of a device's calls: one call more, and the calls since some moment.
+-- What is supposed of a device's calls: one call more, and the calls since some older history.
 use Rattle.std.proofs.Common.{◌≡◌, Bool, true, false, List, [], ◌∷◌, ◌++◌, sym, subst, refl}
 use Rattle.std.proofs.lemmas.List.Elements.{All-head}
 use Rattle.lfs_model.specs.Blocks.{Blocks}
@@ -51,6 +51,6 @@ part : (P : Event → Type 0) (events old : List Event) → EachEvent P (events 
 part P [] old all = tt
 part P (e ∷ events) old all = (all.0, part P events old all.1)
 
--- what is so of each call is so of those since some moment
+-- what is so of each call is so of those since some older history
 pub since_of_each : {P : Event → Type 0} {old new : List Event} (events : List Event) → new ≡ events ++ old → EachEvent P new → EachSince P old new
 since_of_each {P} {old} events is all = record { events = events; extends = is; each = part P events old (subst (EachEvent P) is all) }

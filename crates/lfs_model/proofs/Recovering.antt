@@ -28,7 +28,7 @@ use Rattle.lfs_model.proofs.Unthreaded.{IsUnthreaded, IsReady, unthread}
 
 -- ---- the pairs still to come
 
--- The pair stands there without the slot that a set move named; or it is gone already, since that was its only one.
+-- The pair is there without the slot that a set move named; or it is gone already, since that was its only one.
 abbrev pub Waits : List Pair → Option (ℕ × ℕ) → Pair → List Pair → Type 0
 Waits ps from p [] = (is_some from ≡ true) × (unmoved (gstate_of ps) p ≡ [])
 Waits ps from p (x ∷ []) = (x.at ≡ p.at) × (x.content.slots ≡ unmoved (gstate_of ps) p)
@@ -42,7 +42,7 @@ AllWait ps from (p ∷ todo) (now ∷ waits) = Waits ps from p now × AllWait ps
 
 -- ---- on the way
 
--- Of the pairs ps the ones seen came to parts, which stand there as kept; the others, todo, stand there as waits say.
+-- Of the pairs ps the ones seen came to parts, which are there as kept; the others, todo, are there as waits say.
 pub record IsRecovering (disk : Disk) (ps : List Pair) (now : Disk) (chain seen todo : List Pair) (parts waits : List (List Pair)) (kept : List Pair) : Type 0 where
   pub are : ps ≡ chain ++ (seen ++ todo)
   pub was_chain : IsChain chain (seen ++ todo)

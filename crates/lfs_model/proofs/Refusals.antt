@@ -166,7 +166,7 @@ suits_to Superblock s e = absurd e
 entry_to : (s : Slot) → IsEntry s → is_entry s ≡ true
 entry_to s h = and_from (is_name s.name) (suits s.kind s.struct) h.name (suits_to s.kind s.struct h.struct)
 
--- a slot behind the superblock's pairs is no entry
+-- a slot after the superblock's pairs is no entry
 pub fails_slots : (disk : Disk) (ps : List Pair) → list_all (λ p. list_all is_entry p.content.slots) (other_pairs ps) ≡ false → IsAccepted disk ps → ⊥
 fails_slots disk ps fails a = let e = all_to (λ p. list_all is_entry p.content.slots) (λ p. All IsEntry p.content.slots) (λ p. all_to is_entry IsEntry entry_to p.content.slots) (other_pairs ps) a.slots in cc
 

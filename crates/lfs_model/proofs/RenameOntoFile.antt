@@ -1,4 +1,4 @@
--- A rename within one pair onto a file, from its commit alone; the file stands behind the old slot or in front of it.
+-- A rename within one pair onto a file, from its commit alone; the file is after the old slot or before it.
 use Rattle.std.proofs.Common.{ℕ, ◌≡◌, true, false, not, List, [], ◌∷◌, ◌++◌, length, Some, None, refl, sym, ap, ◌∙◌, append_assoc, slice_get, remove, set}
 use Rattle.std.proofs.lemmas.List.Elements.{filter-append}
 use Rattle.std.proofs.Math.Seq.{set-append_seam}
@@ -28,7 +28,7 @@ both_entries xs ys = filter-append (λ (s : Slot). not (is_superblock s)) xs ys
 entry_among : (xs : List Slot) (u : Slot) (ys : List Slot) → is_superblock u ≡ false → entries_only (xs ++ u ∷ ys) ≡ entries_only xs ++ u ∷ entries_only ys
 entry_among xs u ys other = both_entries xs (u ∷ ys) ∙ ap (λ z. entries_only xs ++ z) (both_entries (u ∷ []) ys ∙ ap (λ z. z ++ entries_only ys) (entry_only u other))
 
--- the file stands behind the old slot
+-- the file is after the old slot
 module _ (disk new : Disk) (w : Site) (p q : Pair) (more : List Pair) (l : List Slot) (u : Slot) (passed : List Slot) (target : Slot) (r : List Slot)
     (c : IsCommit disk new w p q more [] l (u ∷ (passed ++ target ∷ [])) (passed ++ record u { name = target.name } ∷ []) r) (other : is_superblock u ≡ false) (entry : is_superblock target ≡ false) (file : branch_of target.struct ≡ None)
     (differs : target.name ≡ u.name → ⊥)
@@ -76,7 +76,7 @@ module _ (disk new : Disk) (w : Site) (p q : Pair) (more : List Pair) (l : List 
       _ (entry_moves_onto disk new w p [] q more (blocks_of more) [] l (u ∷ (passed ++ target ∷ [])) (passed ++ moved ∷ []) r (commit_step disk new w p q more [] l (u ∷ (passed ++ target ∷ [])) (passed ++ moved ∷ []) r c)
       P a leads same (place_at w l) u at_old number target there shown_moved (sibling_apart P u.name target.name differs) (λ e. (file, (recovered_from disk (thread_at w (p ∷ [])) c.accepted c.settled).reached)))
 
--- the file stands in front of it
+-- the file is before it
 module _ (disk new : Disk) (w : Site) (p q : Pair) (more : List Pair) (l : List Slot) (u : Slot) (passed : List Slot) (target : Slot) (r : List Slot)
     (c : IsCommit disk new w p q more [] l (target ∷ (passed ++ u ∷ [])) (record u { name = target.name } ∷ passed) r) (other : is_superblock u ≡ false) (entry : is_superblock target ≡ false) (file : branch_of target.struct ≡ None)
     (differs : target.name ≡ u.name → ⊥)

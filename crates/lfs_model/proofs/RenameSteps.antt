@@ -1,4 +1,4 @@
--- A rename within one pair, from its commit alone: to a name that is new, which stands behind the old slot or in front of it.
+-- A rename within one pair, from its commit alone: to a name that is new, which is after the old slot or before it.
 use Rattle.std.proofs.Common.{ℕ, zero, suc, ◌≡◌, ◌<◌, ◌≤◌, ⊎_elim, true, false, not, List, [], ◌∷◌, ◌++◌, length, Some, None, refl, sym, ap, subst, ◌∙◌, arith, append_assoc, length-append, get_or, slice_get, remove}
 use Rattle.std.specs.List.{insert}
 use Rattle.std.specs.declared.cmp.Ordering.TheVariants.{Less}
@@ -49,7 +49,7 @@ get_before [] u ys i d lt = absurd (omega arith)
 get_before (x ∷ xs) u ys zero d lt = refl
 get_before (x ∷ xs) u ys (suc i) d lt = get_before xs u ys i d (omega arith)
 
--- without an entry in front of it a place is one less
+-- without an entry before it a place is one less
 pub place_behind : {by : NameOrder} (xs : List Slot) (u : Slot) (ys : List Slot) (n : ℕ) (name : Name) → length xs ≤ n → IsPlace by (xs ++ u ∷ ys) (suc n) name → IsPlace by (xs ++ ys) n name
 place_behind {by} xs u ys n name le h = record {
   within = (let w = h.within in omega (arith, w, length-append xs (u ∷ ys), length-append xs ys));
@@ -61,7 +61,7 @@ place_behind {by} xs u ys n name le h = record {
       (h.above (suc j) d (omega arith) (omega (arith, length-append xs (u ∷ ys), length-append xs ys, high)));
 }
 
--- without one behind it it stays
+-- without one after it it stays
 pub place_ahead : {by : NameOrder} (xs : List Slot) (u : Slot) (ys : List Slot) (n : ℕ) (name : Name) → n ≤ length xs → IsPlace by (xs ++ u ∷ ys) n name → IsPlace by (xs ++ ys) n name
 place_ahead {by} xs u ys n name le h = record {
   within = omega (arith, le, length-append xs ys);
@@ -118,7 +118,7 @@ module _ (disk new : Disk) (w : Site) (p q : Pair) (more : List Pair) (l : List 
   abbrev number : ℕ
   number = length (shown_before w l ++ entries_only passed)
 
-  -- the place with the old slot in front of it
+  -- the place with the old slot before it
   number_is : place_at w (l ++ u ∷ passed) ≡ suc (length (shown_before w l ++ entries_only passed))
   number_is = ap length (ap entries_only (sym (append_assoc (slots_in w.left) l (u ∷ passed))) ∙ entries_of_both (slots_in w.left ++ l) (u ∷ passed)
       ∙ ap (λ z. ahead ++ z) (entries_of_both (u ∷ []) passed ∙ ap (λ z. z ++ entries_only passed) (entry_only u other)))

@@ -33,8 +33,9 @@ use Rattle.lfs_model.proofs.OneCommit.{some_filled}
 use Rattle.lfs_model.proofs.Trees.{not_before}
 use Rattle.lfs_model.proofs.RemovedDirectory.{none_both, none_apart, before_gone, onward_append}
 
--- The pair p has the slot u between lo and ro, and without it the target between l and r. It becomes q and more, with u under the new
--- name in the target's place. The target is the directory of the pair o alone, ahead of p in the thread or behind it, which goes.
+-- The pair p has the slot u between lo and ro, and without it the target between l and r. It becomes q and more, with u under the
+-- new name in the target's place. The target is the directory of the pair o alone, ahead of p in the thread or after it, which
+-- goes.
 pub record IsRenameWithinOnto (disk new : Disk) (rs : List Pair) (b : Bool) (chain front mid back : List Pair) (p o q : Pair) (more : List Pair)
     (lo : List Slot) (u : Slot) (ro l : List Slot) (target : Slot) (r : List Slot) (d : ℕ × ℕ) (old_path new_path : Path) (name : Name) : Type 0 where
   pub is_chain : IsChain chain (two b front (p ∷ []) mid (o ∷ []) back)
@@ -112,7 +113,7 @@ module _ (disk new : Disk) (rs : List Pair) (b : Bool) (chain front mid back : L
   goes_there : Goes_ o.at
   goes_there = subst (λ ds. (IsReached ps o.at → ⊥) ⊎ Any (λ at. same_pair o.at at ≡ true) ds) (sym gone) (inr (any_from (λ at. same_pair o.at at ≡ true) (d ∷ []) (inl c.alike_address)))
 
-  -- nothing goes on behind o
+  -- nothing goes on after o
   ends_there : (from : Option (ℕ × ℕ)) → onward from o ≡ None
   ends_there from = ap (λ t. cond t (Some (begin_from from o)) None) c.soft
 
@@ -122,7 +123,7 @@ module _ (disk new : Disk) (rs : List Pair) (b : Bool) (chain front mid back : L
   apart_seg : (xs ys : List Pair) → Each (λ x. same_pair x.at d ≡ false) (xs ++ ys) → Each (λ x. same_pair x.at d ≡ false) xs × Each (λ x. same_pair x.at d ≡ false) ys
   apart_seg xs ys h = (each_left (λ (x : Pair). same_pair x.at d ≡ false) xs ys h, each_right (λ (x : Pair). same_pair x.at d ≡ false) xs ys h)
 
-  -- of pairs in front of o and behind it none goes
+  -- of pairs before o and after it none goes
   none_around : (seg after : List Pair) → NoneGoes (λ x. IsReached ps x → ⊥) None (seg ++ (o ∷ [] ++ after)) → Each (λ x. same_pair x.at d ≡ false) seg → Each (λ x. same_pair x.at d ≡ false) after →
       NoneGoes Goes_ None seg × NoneGoes Goes_ None after
   none_around seg after h k m = (

@@ -1,5 +1,5 @@
--- A block of one repeated byte has no commit. Its first tag is an invalid one, or a checksum of no known type, or the one behind it is
--- invalid, since it is decoded with the same bytes.
+-- A block of one repeated byte has no commit. Its first tag is an invalid one, or a checksum of no known type, or the one after
+-- it is invalid, since it is decoded with the same bytes.
 use Rattle.std.proofs.Common.{ℕ, zero, suc, ◌≡◌, ◌-◌, ◌^◌, ◌<◌, ◌≤◌, ◌==◌, ◌||◌, ◌&&◌, not, Bool, true, false, List, replicate, Some, None, refl, sym, ap, ◌∙◌, arith, bit_xor}
 use Rattle.std.specs.Prelude.{nat_le}
 use Rattle.std.specs.Option.{option_map}
@@ -20,7 +20,7 @@ word byte = big_number 4 (replicate 4 byte)
 abbrev first_tag : ℕ → ℕ
 first_tag byte = bit_xor (word byte) 0xffffffff
 
--- the first tag ends no commit rightly, and the one behind it is invalid
+-- the first tag ends no commit rightly, and the one after it is invalid
 abbrev ends : ℕ → Bool
 ends byte =
     not (ends_commit (first_tag byte) && (kind_of (first_tag byte) == 0x500 || kind_of (first_tag byte) == 0x501))

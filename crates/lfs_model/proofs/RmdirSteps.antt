@@ -42,7 +42,7 @@ use Rattle.lfs_model.proofs.StepsTaken.{IsTaken, taken_then, taken_after, within
 use Rattle.lfs_model.proofs.Unthreaded.{Unthreads, unthread}
 use Rattle.lfs_model.proofs.Searches.{avoids_front, avoids_behind}
 
--- as many superblock's pairs stand in front after a step
+-- as many superblock's pairs are in front after a step
 pub step_chain : (disk new : Disk) (w : Site) (p : Pair) (mid : List Pair) (q : Pair) (more : List Pair) (extra fresh : List ℕ) (l olds news r : List Slot)
     → IsStep disk new w p mid q more extra fresh l olds news r → IsChain w.chain (dirs_at w (q ∷ more))
 step_chain disk new w p mid q more extra fresh l olds news r step =
@@ -50,7 +50,7 @@ step_chain disk new w p mid q more extra fresh l olds news r step =
     (splice_change disk new w.chain (w.before ++ w.left) p mid q more (w.right ++ w.after) extra fresh l olds news r step.accepted step.no_move step.still_none step.device step.free
     step.shape.at (step.shape.links (w.right ++ w.after)) step.shape.front step.shape.blocks step.was step.is step.splice)
 
--- the pair o behind x goes in the second step, and x becomes y
+-- the pair o after x goes in the second step, and x becomes y
 pub record IsGone (middle new : Disk) (chain front : List Pair) (x o y : Pair) (back : List Pair) : Type 0 where
   pub device : IsDevice middle new (chain ++ (front ++ x ∷ o ∷ back)) (chain ++ (front ++ y ∷ back))
   pub settled : gstate_of (chain ++ (front ++ y ∷ back)) ≡ no_gstate
@@ -119,7 +119,7 @@ module _ (disk middle new : Disk) (w : Site) (p : Pair) (mids : List Pair) (q : 
   pub rmdir_named : slot_of_path (thread_at w (p ∷ mids)) (P ++ u.name ∷ []) ≡ Some u
   rmdir_named = slot_there disk ps P a (place_at w l) u step.accepted leads (goes_from disk middle w p mids q [] [] [] l r u step other P a leads same)
 
--- nothing goes on behind a soft tail
+-- nothing goes on after a soft tail
 soft_end : (from : Option (ℕ × ℕ)) (xs : List Pair) (x : Pair) → is_hard x.content.tail ≡ false → onward_all from (xs ++ x ∷ []) ≡ None
 soft_end from [] x e = ap (λ b. cond b (Some (begin_from from x)) None) e
 soft_end from (z ∷ xs) x e = soft_end (onward from z) xs x e

@@ -88,7 +88,7 @@ avoids_front (x ∷ xs) p ys a h s = (
   avoids_front xs p ys a h.1.1 s,
 )
 
--- nor are those behind
+-- nor are those after
 pub avoids_behind : (xs : List Pair) (p : Pair) (ys : List Pair) (a : ℕ × ℕ) → IsDistinct nat_eq (blocks_of (xs ++ p ∷ ys)) → same_pair p.at a ≡ true → Each (λ x. same_pair x.at a ≡ false) ys
 unfolding IsDistinct
 avoids_behind [] p ys a h s = each_weaker (λ (x : Pair). same_pair p.at x.at ≡ false) (λ (x : Pair). same_pair x.at a ≡ false)
@@ -144,7 +144,7 @@ run_length_is disk ps P a first ok leads b =
 
 -- ---- lists
 
--- what stands behind as many
+-- what is after as many
 same_back : (xs ys us vs : List Pair) → length xs ≡ length us → xs ++ ys ≡ us ++ vs → ys ≡ vs
 same_back [] ys [] vs l e = e
 same_back [] ys (u ∷ us) vs l e = absurd (omega arith)
@@ -338,7 +338,7 @@ each_dropped P (suc m) zero ps l h = absurd (omega arith)
 each_dropped P (suc m) (suc n) [] l h = tt
 each_dropped P (suc m) (suc n) (p ∷ ps) l h = each_dropped P m n ps (omega arith) h
 
--- behind the first pair of a directory
+-- after the first pair of a directory
 pub plain_behind : (disk : Disk) (ps : List Pair) (first : ℕ) → IsAccepted disk ps → superblocks_before ps ≤ first → HaveNoSuperblock (drop (first + 1) ps)
 plain_behind disk ps first ok low =
     each_weaker (λ (p : Pair). All IsEntry p.content.slots) (λ (p : Pair). Each (λ s. is_superblock s ≡ false) p.content.slots)

@@ -1,4 +1,4 @@
--- What stands on a device's disk behind its last call, also behind one that failed.
+-- What is on a device's disk after its last call, also after one that failed.
 use Rattle.std.proofs.Common.{◌≡◌, ◌≢◌, Bool, true, false, List, [], ◌∷◌, ◌++◌, refl, sym, ap, subst, ◌∙◌}
 use Rattle.std.proofs.lemmas.List.{append_cancel_right}
 use Rattle.std.proofs.lemmas.List.Elements.{All-head}
@@ -23,7 +23,7 @@ use Rattle.lfs_model.proofs.Conformance.{conforming_stops}
 
 -- ---- the newest call
 
--- where there was a call, the newest tells the blocks
+-- where there was a call, the newest shows the blocks
 pub same_blocks : (history : List Event) (one other : Blocks) → history ≢ [] → IsNewest history one → IsNewest history other → one ≡ other
 same_blocks [] one other called first second = absurd (called refl)
 same_blocks (e ∷ older) one other called first second = sym (first e older refl) ∙ second e older refl
@@ -42,7 +42,7 @@ left_as_stopped e conforms clean fails = go e.failed refl
 
 -- ---- what stands
 
--- What stops leave has P, and so has what stands where there was no call: what stands behind the last call has it, too.
+-- What stops leave has P, and so has what stands where there was no call: what is after the last call has it, too.
 pub stands : {P : Blocks → Type 0} {old new : List Event} (last : Blocks) → (new ≡ old → P last) → IsNewest new last → AllConform new
     → LeavesOnly Stops old new P → EachSince ErasesCleanly old new → FailAsStopped old new → P last
 stands {P} {old} {new} last untouched newest conforms since cleanly fails = go since.events since.extends since.each
@@ -62,7 +62,7 @@ stands_since {P} {old} {new} first last called then now conforms since cleanly f
 
 -- ---- an operation
 
--- two moments of a device that had been called before
+-- two states of a device that had been called before
 pub one_device : (from to : SystemState) → from.calls ≢ [] → IsNewest from.calls from.disk.blocks → IsNewest to.calls to.disk.blocks → AllConform to.calls
     → to.disk ≡ with_blocks to.disk.blocks from.disk → IsOneDevice from to
 one_device from to called then now conforms same = record {

@@ -1,4 +1,4 @@
--- From what an operation does to the disk to its turn in a run.
+-- From what an operation does to the disk to its step in a run.
 use Rattle.std.proofs.Common.{◌≡◌, true, false, cond, List, [], ◌++◌, Option, Some, None, refl, sym, ap, subst, ◌∙◌}
 use Rattle.lfs_model.specs.Disk.{Disk, SameGeometry, block_count}
 use Rattle.lfs_model.specs.Content.{content_at}
@@ -42,7 +42,7 @@ answered_by disk ps s around op reply after over other e = record {
   answers = ap (λ b. cond b (remounted None) (answered_in around (Healthy s) op)) other ∙ ap (λ z. (Some z.0, Healthy z.1)) e;
 }
 
--- what a carried out operation does is said of any pairs, and those of an accepted disk are known
+-- what an applied operation does is said of any pairs, and those of an accepted disk are known
 carried_any : (disk new : Disk) (ps qs : List Pair) (s : Session) (op : Operation) (calls : List Event) → IsAccepted disk ps → IsAccepted new qs → IsEffectOnDisk disk ps s op calls new qs →
     (t : Session) → Healthy s ≡ Healthy t → (xs ys : List Pair) → IsAccepted disk xs → IsAccepted new ys → IsEffectOnDisk disk xs t op calls new ys
 carried_any disk new ps qs s op calls a b c t e xs ys x y =
@@ -50,7 +50,7 @@ carried_any disk new ps qs s op calls a b c t e xs ys x y =
     (subst (λ z. IsEffectOnDisk disk z s op calls new ys) (one_thread (content_at disk) (block_count disk) ps xs a.thread x.thread)
     (subst (IsEffectOnDisk disk ps s op calls new) (one_thread (content_at new) (block_count new) qs ys b.thread y.thread) c))
 
--- an operation that is carried out isn't answered by a refusal
+-- an operation that is applied isn't answered by a refusal
 pub no_refusal : (around : Surroundings) (s : Session) (op : Operation) → is_refusal (effect_of around s op).0 ≡ false
 no_refusal around s (ops.Read fd count) = go (reader_of (file_of s.files fd))
   where

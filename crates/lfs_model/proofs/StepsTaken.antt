@@ -113,7 +113,7 @@ end_taken disk new w p q more l u r change walk c step follows = record {
 
 -- ---- a pair goes
 
--- q has p's slots and the tail of o behind it, which goes
+-- q has p's slots and the tail of o after it, which goes
 pub record IsTakenOver (disk : Disk) (w : Site) (p o q : Pair) : Type 0 where
   pub writable : IsWritable disk (thread_at w (p ∷ o ∷ []))
   pub tail : q.content.tail ≡ o.content.tail
@@ -142,7 +142,7 @@ module _ (disk : Disk) (w : Site) (p o q : Pair) (c : IsTakenOver disk w p o q) 
     writable = end_writable disk new w p (o ∷ []) q [] l u r step c.writable over_within over_filled;
   }
 
--- the pair o behind p begins a directory, and goes from the thread; q has p's slots, and a soft tail to where o's led
+-- the pair o after p begins a directory, and goes from the thread; q has p's slots, and a soft tail to where o's led
 pub unthread_taken : (disk new : Disk) (chain before left after : List Pair) (p o q : Pair) (l r : List Slot) (change : Tree → Tree) (walk : Walk → Walk)
     → IsWritable disk (thread_at (last_site chain before left after) (p ∷ ([] ++ o ∷ []))) → q.content.tail ≡ softened o.content.tail → q.content.slots ≡ p.content.slots
     → IsStepDrop disk new chain before left after p [] o q [] [] [] l [] [] r
@@ -164,7 +164,7 @@ unthread_taken disk new chain before left after p o q l r change walk ok tail sl
 
 -- ---- a pair comes
 
--- p becomes q, or q and a new pair, with news where olds stood, and a fresh pair f without slots behind them
+-- p becomes q, or q and a new pair, with news where olds stood, and a fresh pair f without slots after them
 pub record IsPutBeside (disk : Disk) (w : Site) (p q : Pair) (more : List Pair) (f : Pair) (l olds news r : List Slot) : Type 0 where
   pub writable : IsWritable disk (thread_at w (p ∷ []))
   pub was : p.content.slots ≡ l ++ (olds ++ r)

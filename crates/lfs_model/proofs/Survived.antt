@@ -137,7 +137,7 @@ at_work at agrees profile = record {
   surrounds = record { block_size = refl; page = refl; block_count = refl; used = refl; gstate = refl; writable = ((λ e. profile.1.1), λ w. refl) };
 }
 
--- what a stop at any moment leaves has P, so has what this one left
+-- what a stop at any time leaves has P, so has what this one left
 stopped_has : (P : Blocks → Type 0) (old new : List Event) (blocks : Blocks) → LeavesOnly Stops old new P → IsStoppedSince old new blocks → P blocks
 stopped_has P old new blocks all since =
     among all.events (all.each) (among_from (λ e. Stops e blocks) all.events (subst (λ es. Any (λ e. Stops e blocks) es) (append_cancel_right since.events all.events old (sym since.extends ∙ all.extends)) since.stopped))
@@ -228,7 +228,7 @@ same_blocks disk new blocks g =
 
 -- ---- the run
 
--- one operation in front of others that are survived
+-- one operation before others that are survived
 further : (before : Option Operation) (op : Operation) (reply : Reply) (Others : Tree → Type 0) (from next to : SystemState) (left : Disk) → IsPerformed before from op reply next → EachSince IsAny next.calls to.calls →
     (MayLosePower next to → IsStopped next to left → IsSurvivedWith Others left) → MayLosePower from to → IsStopped from to left → IsSurvivedWith (λ tree. IsCutIn from op next left tree ⊎ Others tree) left
 further before op reply Others from next to left one second last may stop = go stop

@@ -1,4 +1,4 @@
--- Turns that survive stops survive them.
+-- Session steps that survive stops survive them.
 use Rattle.std.proofs.Common.{ℕ, ◌≡◌, Bool, true, false, cond, List, Option, refl, sym, ap, ap₂, subst, ◌∙◌}
 use Rattle.lfs_model.specs.Content.{content_at}
 use Rattle.lfs_model.specs.Disk.{Disk, block_count}
@@ -36,7 +36,7 @@ same_surroundings disk ps qs a b one other around about =
 
 -- ---- a turn
 
--- What stands at the end of a turn is what the definitions have there, so a turn that survives stops survives them.
+-- What is at the end of a session step is what the definitions have there, so a session step that survives stops survives them.
 pub session_step_survives_loss : (from : SystemState) (op : Operation) (reply : Reply) (to : SystemState) → Agrees from.disk from.state → IsSessionStep from op reply to → SurvivesStops from op to → SurvivesLoss from op to
 session_step_survives_loss from op reply to agrees turn survives = record { stops = survives; stands = λ s ps around work clean fails. stands s ps around work }
   where

@@ -1,4 +1,5 @@
--- The pair behind another begins a directory that no path leads to, and goes from the thread. So may any number of pairs, in their order.
+-- The pair after another begins a directory that no path leads to, and goes from the thread. So may any number of pairs, in their
+-- order.
 use Rattle.std.proofs.Common.{ℕ, ◌≡◌, ◌<◌, ◌≤◌, true, false, List, [], ◌∷◌, ◌++◌, length, refl, sym, ap, ap₂, subst, ◌∙◌, arith, append_assoc, append-nil, length-append}
 use Rattle.lfs_model.specs.Disk.{Disk}
 use Rattle.lfs_model.specs.Slots.{same_pair}
@@ -33,7 +34,7 @@ same_parts (x ∷ xs) p ys (u ∷ us) q vs n e =
     let s = same_parts xs p ys us q vs (omega arith) (cc) in
     record { front = ap₂ (λ a b. a ∷ b) (let h : x ≡ u = cc in h) s.front; pair = s.pair; back = s.back }
 
--- On the new disk q stands in place of p and o, with p's slots and a soft tail to where o's led.
+-- On the new disk q is in place of p and o, with p's slots and a soft tail to where o's led.
 pub record IsUnthreaded (disk new : Disk) (chain front : List Pair) (p o q : Pair) (back : List Pair) : Type 0 where
   pub device : IsDevice disk new (chain ++ (front ++ p ∷ o ∷ back)) (chain ++ (front ++ q ∷ back))
   pub no_move : HasNoMove (gstate_of (chain ++ (front ++ q ∷ back)))
@@ -45,7 +46,7 @@ pub record IsUnthreaded (disk new : Disk) (chain front : List Pair) (p o q : Pai
   pub unled : (path : Path) (x : ℕ × ℕ) → Leads (chain ++ (front ++ p ∷ o ∷ back)) path x → same_pair o.at x ≡ true → ⊥
   pub reached : (gstate_of (chain ++ (front ++ q ∷ back))).sync ≡ false → (is_hard o.content.tail ≡ false) × AllReachedBut (chain ++ (front ++ p ∷ o ∷ back)) o.at
 
--- the disk is accepted and in the profile, no move is set, and so many pairs stand before the root directory
+-- the disk is accepted and in the profile, no move is set, and so many pairs are before the root directory
 pub record IsReady (disk : Disk) (chain dirs : List Pair) : Type 0 where
   pub accepted : IsAccepted disk (chain ++ dirs)
   pub writable : IsWritable disk (chain ++ dirs)

@@ -160,7 +160,7 @@ attribute_written c slots s type bytes named n t short =
         let is_attribute : class_of e.tag == 3 ≡ true = eq-eqb (class_of e.tag) 3 k in
         rw (stays, is_attribute) refl
 
--- attributes behind those that the last slot has
+-- attributes after those that the last slot has
 attributes_written : (c : RawContent) (slots : List RawSlot) (s : RawSlot) (low : ℕ) (rest : Attributes) → is_some s.name ≡ true → length slots < 0x3ff → Below low s.attributes → Ascend low rest
     → content_after_all (record c { slots = last slots s }) (attribute_entries (length slots) rest) ≡ Some (record c { slots = last slots (record s { attributes = s.attributes ++ rest }) })
 attributes_written c slots s low [] named n below up =
@@ -173,13 +173,13 @@ attributes_written c slots s low (a ∷ rest) named n below up =
     ∙ attributes_written c slots (record s { attributes = s.attributes ++ (a.0, a.1) ∷ [] }) (a.0 + 1) rest named n (below_more a.0 (a.0 + 1) a.1 s.attributes (omega arith) (below_later low a.0 s.attributes up.0 below)) up.3
     ∙ ap (λ z. Some (record c { slots = last slots (record s { attributes = z }) })) (sym more)
 
--- a struct, if there is one, behind a name
+-- a struct, if there is one, after a name
 struct_part_written : (c : RawContent) (slots : List RawSlot) (s : RawSlot) (part : Option (ℕ × List ℕ)) → s.struct ≡ None → is_some s.name ≡ true → length slots < 0x3ff → IsPartIfSome 2 part
     → content_after_all (record c { slots = last slots s }) (part_entries (length slots) part) ≡ Some (record c { slots = last slots (record s { struct = part }) })
 struct_part_written c slots s None none named n h = ap (λ z. Some (record c { slots = last slots (record s { struct = z }) })) none
 struct_part_written c slots s (Some part) none named n h = ap (option_and_then (λ d. content_after_all d [])) (struct_written c slots s part named n h)
 
--- a slot behind others
+-- a slot after others
 pub slot_written : (c : RawContent) (s : RawSlot) → length c.slots < 0x3ff → is_some s.name ≡ true → HasParts s
     → content_after_all c (entries_of_slot (length c.slots) s) ≡ Some (record c { slots = last c.slots s })
 slot_written c s n has_name h =
@@ -198,7 +198,7 @@ slot_written c s n has_name h =
         go None e p = absurd (cc)
         go (Some part) e p = ap (option_and_then (λ d. content_after_all d [])) (name_written c part n p)
 
--- slots behind others
+-- slots after others
 pub slots_written : (c : RawContent) (slots : List RawSlot) → length c.slots + length slots < 0x400 → HaveNames slots → HaveParts slots
     → content_after_all c (entries_of_slots (length c.slots) slots) ≡ Some (record c { slots = c.slots ++ slots })
 slots_written c [] n m h = ap (λ z. Some (record c { slots = z })) (sym (append-nil c.slots))

@@ -1,4 +1,4 @@
--- Metadata blocks in bytes, from the entries that stand in them. Checksums are given as numbers.
+-- Metadata blocks in bytes, made of the entries in them. Checksums are given as numbers.
 use Rattle.std.specs.Prelude.{ℕ, ◌-◌, List, [], ◌∷◌, ◌++◌, length, replicate}
 use Rattle.byteorder.specs.Endian.{little_bytes}
 use Rattle.lfs_model.specs.Log.{LogEntry}

@@ -1,7 +1,7 @@
 -- Which blocks are used and which are in flight: two sets without a common member, as one state for each block.
 use Rattle.std.specs.Prelude.{◌≡◌, ◌↔◌, ℕ, Bool, true, false, List, Some, Contains, count_by, slice_get}
 
--- A block in flight has been handed out, and no commit has settled it yet.
+-- A block in flight was taken, and no commit has settled it yet.
 pub data BlockState : Type 0 where
   Free : BlockState
   InFlight : BlockState

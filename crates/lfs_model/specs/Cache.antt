@@ -16,6 +16,6 @@ cached cache b = lookup (nat_eq b) cache
 abbrev pub without : CachedBlocks → ℕ → CachedBlocks
 without cache b = filter (λ e. not (nat_eq b e.0)) cache
 
--- this block with these bytes in front of the others, of which one too many goes from the end
+-- this block with these bytes, followed by the others without it; the last one is dropped where there is one too many
 abbrev pub put_first : CachedBlocks → ℕ → List ℕ → CachedBlocks
 put_first cache b bytes = take cache_limit ((b, bytes) ∷ without cache b)

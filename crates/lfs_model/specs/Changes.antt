@@ -1,4 +1,4 @@
--- Changes to what a pair holds. Each is some entries of its log, and changes what the log comes to as they do.
+-- Changes to what a pair holds. Each change is some entries of the pair's log.
 use Rattle.std.specs.Prelude.{ℕ, ◌+◌, ◌^◌, ◌&&◌, nat_le, nat_lt, if◌then◌else◌, Bool, List, [], ◌∷◌, length, Option, None}
 use Rattle.std.specs.List.{flat_map, list_all}
 use Rattle.std.specs.Option.{option_and_then}
@@ -11,13 +11,13 @@ use Rattle.lfs_model.specs.WrittenContent.{entry_with, attribute_type, tail_entr
 
 -- kind is the type of a name or of a struct, attribute the type of an attribute from 0 on
 pub data Change : Type 0 where
-  -- a slot comes at the id, with that name
+  -- a slot is inserted at the id, with that name
   Create : (id kind : ℕ) (name : List ℕ) → Change
   Delete : (id : ℕ) → Change
   PutStruct : (id kind : ℕ) (bytes : List ℕ) → Change
   PutAttribute : (id attribute : ℕ) (bytes : List ℕ) → Change
   RemoveAttribute : (id attribute : ℕ) → Change
-  -- without a pair there is no tail
+  -- the tail is removed where there is no pair
   PutTail : (hard : Bool) (pair : Option (ℕ × ℕ)) → Change
   PutMove : (state : Gstate) → Change
 
@@ -59,7 +59,7 @@ is_storable (PutMove state) = nat_lt state.kind (2 ^ 11) && (nat_lt state.id (2 
 
 -- ---- what changes make
 
--- What the changes make of the content, in turn; none where one can't be stored, or may not stand in the log.
+-- What the changes make of the content, in order; none where one can't be stored, or isn't allowed in the log.
 abbrev pub changed_by : RawContent → List Change → Option RawContent
 changed_by c changes = if list_all is_storable changes then content_after_all c (entries_of_changes changes) else None
 

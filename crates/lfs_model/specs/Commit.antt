@@ -22,7 +22,7 @@ page_end page at = next_multiple_of (at + 8) page
 abbrev pub next_at : List ℕ → ℕ → Option (List ℕ)
 next_at block at = if nat_lt (length block) (at + 4) then None else Some (take 4 (drop at block))
 
--- The type of the checksum in front of these bytes. They must decode as an invalid tag, and 0x501 turns that tag's top bit.
+-- The type of the checksum before these bytes. They must decode as an invalid tag, and 0x501 inverts the top bit of that tag.
 abbrev pub checksum_type : Option (List ℕ) → ℕ
 checksum_type None = 0x500
 checksum_type (Some next) = if nat_lt (slice_index next 0) 0x80 then 0x501 else 0x500

@@ -9,7 +9,7 @@ pub record FitSlots (block_size page : ℕ) (slots : List RawSlot) : Type 0 wher
   pub size : sum_by raw_slot_size slots ≤ pair_capacity block_size page
   pub count : length slots ≤ slot_limit
 
--- so many slots stand in front, and both parts fit
+-- so many slots are before the cut, and both parts fit
 pub record IsCut (block_size page : ℕ) (slots : List RawSlot) (cut : ℕ) : Type 0 where
   pub within : cut ≤ length slots
   pub front : FitSlots block_size page (take cut slots)

@@ -30,15 +30,15 @@ pub record IsImage (block_size page : ℕ) (bytes : List ℕ) : Type 0 where
   pub geometry : IsGeometry block_size page (length bytes / block_size)
   pub whole : length bytes % block_size ≡ 0
 
--- the disk that an image is of
+-- the disk of an image
 abbrev pub disk_of : ℕ → ℕ → NameOrder → List ℕ → Disk
 disk_of block_size page order bytes = record { block_size = block_size; page = page; order = order; blocks = cut block_size (length bytes / block_size) bytes }
 
--- The largest file that is kept in its entry.
+-- The size of the largest file that is kept inline, in bytes.
 abbrev pub inline_limit : ℕ → ℕ
 inline_limit block_size = min (block_size / 8) data_limit
 
--- What the slots of a pair that is written may take: a block without revision (4), tail (12), move state (16),
+-- How many bytes the slots of a written pair may take. They take the block without revision (4), tail (12), move state (16),
 -- checksum (8) and the padding to a page (page - 1).
 abbrev pub pair_capacity : ℕ → ℕ → ℕ
 pair_capacity block_size page = block_size - 39 - page

@@ -12,7 +12,7 @@ use Rattle.lfs_model.specs.Writers.{after_write, after_truncate, after_sync, ope
 use Rattle.lfs_model.specs.Refusals.{as_path, refusal_of}
 use Rattle.lfs_model.specs.Slots.{set_move}
 
--- what an operation that no check refuses answers and leaves
+-- the reply to an operation that no check refuses, and the session after it
 
 abbrev pub size_of : Option Node → Option ℕ
 size_of None = None
@@ -26,7 +26,7 @@ abbrev pub with_bytes : List ℕ → Node → Node
 with_bytes bytes (FileNode attributes old) = FileNode attributes bytes
 with_bytes bytes (DirectoryNode attributes names) = DirectoryNode attributes names
 
--- a dirty writer's contents are in the tree
+-- the tree after a commit of a dirty writer's contents
 abbrev pub committed : Option OpenFile → Tree → Tree
 committed None t = t
 committed (Some (Reading r)) t = t
@@ -63,7 +63,7 @@ read_effect s fd count (Some r) = (
     found : List ℕ
     found = take count (drop r.position (bytes_at (s.tree r.path)))
 
--- what stands in a directory, in name order
+-- the entries of a directory, in name order
 abbrev pub items_in : Tree → Path → List Item
 items_in t path = map (λ name. record { name = name; size = size_of (t (path ++ name ∷ [])) }) (names_of (t path))
 
@@ -127,7 +127,7 @@ effect_of around s ops.AskGstate = (
 )
 effect_of around s (ops.IsUsed block) = (ops.Yes (list_any (λ b. b == block) around.used), s)
 effect_of around s ops.UsedCount = (ops.Count (length around.used), s)
--- A recovery shows nothing new. What a remount shows only the disk says (State).
+-- A recovery shows nothing new. What a remount shows depends on the disk alone (State).
 effect_of around s _ = (ops.Done, s)
 
 -- the reply, and the session after it

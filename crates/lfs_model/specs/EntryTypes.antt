@@ -40,7 +40,7 @@ hard_tail_type = 0x601
 abbrev pub move_state_type : ℕ
 move_state_type = 0x7ff
 
--- the length that removes an attribute stands nowhere else
+-- the length that removes an attribute is allowed in no other entry
 abbrev pub removes : ℕ → Bool
 removes tag = len_of tag == removal_length
 
@@ -61,7 +61,7 @@ has_eight_bytes tag =
 abbrev pub has_no_bytes : ℕ → Bool
 has_no_bytes tag = kind_of tag == create_type || kind_of tag == delete_type
 
--- the type is one that an entry may have, beside a checksum's, with its length
+-- the format has the type, with the length; a checksum's type is not among these
 abbrev pub is_in_table : ℕ → Bool
 is_in_table tag =
     if removes tag then class_of tag == 3

@@ -1,4 +1,4 @@
--- What calls that failed left, as stops in them would.
+-- What failed calls left, which is what stops in them may leave.
 use Rattle.std.specs.Prelude.{◌≡◌, true, List, [], ◌∷◌}
 use Rattle.lfs_model.specs.Blocks.{Blocks}
 use Rattle.lfs_model.specs.History.{Event, EachSince}
@@ -13,7 +13,7 @@ abbrev pub IsLeftByNewest : (Event → Blocks → Type 0) → List Event → Blo
 IsLeftByNewest stops [] disk = ⊥
 IsLeftByNewest stops (e ∷ older) disk = stops e disk
 
--- the newest call failed, and left that
+-- the newest call failed, and left these blocks
 abbrev pub HasFailedWith : List Event → Blocks → Type 0
 HasFailedWith [] disk = ⊥
 HasFailedWith (e ∷ older) disk = (e.failed ≡ true) × (e.after ≡ disk)

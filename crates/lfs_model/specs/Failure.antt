@@ -1,4 +1,4 @@
--- Where an error ends an operation, in place of a reply: the device failed, memory was wanting, or a remount found no accepted disk.
+-- How an error ends an operation without a reply. The device failed, memory was wanting, or a remount found no accepted disk.
 use Rattle.std.specs.Prelude.{◌≡◌, true, false, List, [], ◌++◌}
 use Rattle.lfs_model.specs.Disk.{SameGeometry}
 use Rattle.lfs_model.specs.Thread.{Pair}
@@ -10,8 +10,8 @@ use Rattle.lfs_model.specs.Session.{Session}
 use Rattle.lfs_model.specs.State.{HasFailed, Healthy, is_remount}
 use Rattle.lfs_model.specs.Run.{SystemState, only_asks, renames_to_itself, IsUntouched}
 
--- The session fails in an operation. What asks only, a rename to itself and a remount write nothing, nor does anything on an image
--- outside the writing profile; a session that had failed makes no call but for a remount.
+-- The session fails in an operation. A query, a rename to itself and a remount write nothing. Nor does any operation on an image
+-- outside the writing profile. A session that had failed makes no call but for a remount.
 pub record Fails (from : SystemState) (op : Operation) (to : SystemState) : Type 0 where
   pub failed : to.state ≡ HasFailed
   pub geometry : SameGeometry from.disk to.disk

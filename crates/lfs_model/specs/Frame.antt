@@ -1,4 +1,4 @@
--- Which blocks an operation leaves alone, how many reads a look-up may take, and what comes without a call.
+-- Which blocks an operation leaves alone, how many reads a look-up may take, and which operations make no call.
 use Rattle.std.specs.Prelude.{ℕ, ◌≡◌, ◌≤◌, Bool, true, false, if◌then◌else◌, not, List, [], ◌∷◌, ◌++◌, length, map, Option, Some, None, All, Any, Contains, sum_by}
 use Rattle.lfs_model.specs.Disk.{Disk, block_at}
 use Rattle.lfs_model.specs.Slots.{Slot, same_pair, is_superblock}
@@ -45,7 +45,7 @@ paths_of s (ops.Sync fd) = path_of_open (file_of s.files fd)
 paths_of s (ops.Close fd) = path_of_open (file_of s.files fd)
 paths_of s _ = []
 
--- an entry of that name; a superblock's slot is none
+-- the slot is an entry of that name; a superblock's slot isn't
 abbrev pub IsNamed : Name → Slot → Type 0
 IsNamed name s = (is_superblock s ≡ false) × (same_name name s.name ≡ true)
 
@@ -57,8 +57,8 @@ HoldsSlot ps p path = (at : ℕ × ℕ) × (Leads ps (parent_of path) at × Cont
 abbrev pub SameBlocks : Disk → Disk → Pair → Type 0
 SameBlocks disk new p = (block_at new p.at.0 ≡ block_at disk p.at.0) × (block_at new p.at.1 ≡ block_at disk p.at.1)
 
--- Every block of a file's list holds what it did. So do both blocks of a pair that stays with what it holds, unless it
--- holds a slot that the operation is about.
+-- Every block of a file's list keeps its bytes. So do both blocks of a pair that stays with what it holds. Excepted are pairs
+-- that hold a slot that the operation is about.
 pub record LeavesAlone (disk : Disk) (ps : List Pair) (s : Session) (op : Operation) (new : Disk) (qs : List Pair) : Type 0 where
   pub files : All (λ t. All (λ b. block_at new b ≡ block_at disk b) (file_blocks disk t.struct)) (all_slots ps)
   pub pairs : (p : Pair) → Contains ps p → Contains qs p → (Any (HoldsSlot ps p) (paths_of s op) → ⊥) → SameBlocks disk new p
@@ -95,7 +95,7 @@ pairs_of_path ps path = count (directory_at (entries_in ps) (root_of ps) path)
 abbrev pub ReadsFew : List Pair → Operation → List Event → Type 0
 ReadsFew ps op calls = looks_up op ≡ true → reads calls ≤ sum_by (pairs_of_path ps) (searched op)
 
--- it is answered from what is kept, without the device
+-- the session answers the operation from its own state, without the device
 abbrev pub is_kept : Operation → Bool
 is_kept ops.AskGstate = true
 is_kept (ops.IsUsed block) = true
@@ -114,12 +114,12 @@ pub record FollowsLookUp (ps : List Pair) (before op : Operation) : Type 0 where
 
 -- ---- what comes at once
 
--- neither the device nor memory is wanted: what is kept answers it, or is all that changes
+-- The operation takes neither the device nor memory. The session answers it from its own state, or nothing else changes.
 abbrev pub takes_nothing : Session → Operation → Bool
 takes_nothing s (ops.Seek fd position) = true
 takes_nothing s op = needs_no_call s op
 
--- such a refusal needs no look-up, nor does any of a write or a truncate
+-- a refusal with this error needs no look-up, and none of a write or a truncate does
 abbrev pub comes_at_once : Operation → Refusal → Bool
 comes_at_once op Failed = not (is_remount op)
 comes_at_once op ReadOnly = true

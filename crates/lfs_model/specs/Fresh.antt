@@ -1,4 +1,4 @@
--- A file system as it is made: its superblock, and nothing in the root directory.
+-- A file system after a format: its superblock, and an empty root directory.
 use Rattle.std.specs.Prelude.{ℕ, ◌≡◌, List, [], ◌∷◌, Some, None, codes}
 use Rattle.std.specs.List.{flat_map}
 use Rattle.byteorder.specs.Endian.{little_bytes}
@@ -25,7 +25,7 @@ fresh_content block_size blocks = record { slots = superblock_slot block_size bl
 abbrev pub fresh_pair : Disk → Pair
 fresh_pair disk = record { at = anchor; content = fresh_content disk.block_size (block_count disk) }
 
--- The pair {0, 1} holds the superblock and nothing else. What stands in the other blocks is open.
+-- The pair {0, 1} holds the superblock and nothing else. The other blocks may have any bytes.
 pub record IsFresh (disk : Disk) : Type 0 where
   pub geometry : IsGeometry disk.block_size disk.page (block_count disk)
   pub content : content_at disk anchor ≡ Some (fresh_content disk.block_size (block_count disk))

@@ -1,4 +1,4 @@
--- The calls that a device has had, the newest first, and what follows from them.
+-- The calls that a device has had, the newest first, and what follows from these.
 use Rattle.std.specs.Prelude.{◌≡◌, ◌≢◌, All, ◌≤◌, ◌<◌, ℕ, ◌+◌, Bool, true, false, not, ◌&&◌, if◌then◌else◌, ◌==◌, nat_le, nat_lt, List, [], ◌∷◌, ◌++◌, length}
 use Rattle.lfs_model.specs.Blocks.{Blocks, SameBut}
 
@@ -55,7 +55,7 @@ unprogrammed_after (Read block off len) failed b k was = was
 unprogrammed_after (Program block off bytes) failed b k was = was && not (b == block && nat_le off k && nat_lt k (off + length bytes))
 unprogrammed_after (Erase block) failed b k was = if b == block then not failed else was
 
--- whether the byte k of block b is unprogrammed since its last erase; what was there at first is programmed
+-- whether the byte k of block b is unprogrammed since the block's last erase; at first all bytes are programmed
 abbrev pub unprogrammed : List Event → ℕ → ℕ → Bool
 unprogrammed [] b k = false
 unprogrammed (e ∷ older) b k = unprogrammed_after e.call e.failed b k (unprogrammed older b k)
@@ -64,7 +64,7 @@ unprogrammed (e ∷ older) b k = unprogrammed_after e.call e.failed b k (unprogr
 abbrev pub AllUnprogrammed : List Event → ℕ → ℕ → ℕ → Type 0
 AllUnprogrammed history b low high = (k : ℕ) → low ≤ k → k < high → unprogrammed history b k ≡ true
 
--- what was unprogrammed outside these blocks still is
+-- bytes outside these blocks that were unprogrammed still are
 pub record StayUnprogrammed (bs : List ℕ) (old new : List Event) : Type 0 where
   pub stays : (b k : ℕ) → All (λ c. c ≢ b) bs → unprogrammed old b k ≡ true → unprogrammed new b k ≡ true
 
@@ -72,7 +72,7 @@ abbrev pub EachEvent : (Event → Type 0) → List Event → Type 0
 EachEvent P [] = Unit {0}
 EachEvent P (e ∷ older) = P e × EachEvent P older
 
--- the new history goes on from the old one, by events that have P
+-- the new history continues the old one, by events that have P
 pub record EachSince (P : Event → Type 0) (old new : List Event) : Type 0 where
   pub events : List Event
   pub extends : new ≡ events ++ old
@@ -97,11 +97,11 @@ at_worst (Erase block) before disk = SameBut block before disk
 abbrev pub AtWorst : Event → Blocks → Type 0
 AtWorst e disk = at_worst e.call e.before disk
 
--- a stop at any moment since the old history leaves a disk that has P
+-- a stop at any time since the old history leaves a disk that has P
 abbrev pub LeavesOnly : (Event → Blocks → Type 0) → List Event → List Event → (Blocks → Type 0) → Type 0
 LeavesOnly stops old new P = EachSince (λ e. (disk : Blocks) → stops e disk → P disk) old new
 
--- the newest call again, with what it left and whether it failed
+-- the newest call again, with the blocks that it left and whether it failed
 abbrev pub amended : List Event → Blocks → Bool → List Event
 amended [] after failed = []
 amended (e ∷ older) after failed = event e.call e.before after failed ∷ older

@@ -1,4 +1,4 @@
--- Where a name stands among the pairs of a directory, or where it belongs. Pairs are known by their numbers in the thread.
+-- Where a name is among the pairs of a directory, or where it belongs. Pairs are known by their numbers in the thread.
 use Rattle.std.specs.Prelude.{ℕ, ◌≡◌, ◌≢◌, ◌⊎◌, ◌+◌, not, Bool, true, false, if◌then◌else◌, List, [], ◌∷◌, ◌++◌, length, filter, slice_get, Some}
 use Rattle.std.specs.List.{flat_map, AllByRecursion}
 use Rattle.std.specs.declared.cmp.Ordering.TheVariants.{Less}
@@ -13,7 +13,7 @@ use Rattle.lfs_model.specs.Thread.{Pair, is_hard, starts_with_superblock}
 abbrev pub entries_only : List Slot → List Slot
 entries_only slots = filter (λ s. not (is_superblock s)) slots
 
--- the slots of pairs, in turn
+-- the slots of pairs, in order
 abbrev pub slots_in : List Pair → List Slot
 slots_in ps = flat_map (λ p. p.content.slots) ps
 
@@ -27,14 +27,14 @@ pub record StandsAt (slots : List Slot) (name : Name) (id : ℕ) : Type 0 where
   pub entry : is_superblock slot ≡ false
   pub named : slot.name ≡ name
 
--- these begin with a greater name
+-- these slots begin with a greater name
 pub record BeginsAbove (order : NameOrder) (name : Name) (slots : List Slot) : Type 0 where
   pub first : Slot
   pub rest : List Slot
   pub are : slots ≡ first ∷ rest
   pub above : name_cmp order name first.name ≡ Less
 
--- In front of the id all names are less; at the id there is a greater one, or nothing behind it.
+-- Before the id all names are less. At the id there is a greater one, or no slot is left.
 pub record PlaceAt (order : NameOrder) (slots : List Slot) (name : Name) (id : ℕ) : Type 0 where
   pub left : List Slot
   pub right : List Slot
@@ -49,11 +49,11 @@ pub record PlaceAt (order : NameOrder) (slots : List Slot) (name : Name) (id : �
 abbrev pub IsJoined : Pair → Type 0
 IsJoined p = is_hard p.content.tail ≡ true
 
--- a superblock stands at most in the first pair of a directory
+-- only the first pair of a directory may have a superblock
 abbrev pub HaveNoSuperblock : List Pair → Type 0
 HaveNoSuperblock ps = AllByRecursion (λ p. AllByRecursion (λ s. is_superblock s ≡ false) p.content.slots) ps
 
--- how many pairs hard tails join to the first, itself counted
+-- how many pairs hard tails join to the first, with the first
 abbrev pub run_length : List Pair → ℕ
 run_length [] = 0
 run_length (p ∷ ps) = if is_hard p.content.tail then 1 + run_length ps else 1
@@ -67,7 +67,7 @@ abbrev pub last_is_joined : Pair → List Pair → Bool
 last_is_joined p [] = is_hard p.content.tail
 last_is_joined p (q ∷ qs) = last_is_joined q qs
 
--- a pair of the directory that begins with the pair of number `first`, and the directory's pairs in front of it
+-- a pair of the directory that begins with the pair of number `first`, and the directory's pairs before it
 pub record IsBehind (ps : List Pair) (first index : ℕ) (pair : Pair) (rest : List Pair) : Type 0 where
   pub front : List Pair
   pub left : List Pair
@@ -82,15 +82,15 @@ pub record BeginsAt (ps : List Pair) (at : ℕ × ℕ) (first : ℕ) : Type 0 wh
   pub there : slice_get ps first ≡ Some pair
   pub same : same_pair pair.at at ≡ true
 
--- the name stands there
+-- the directory has the name at this place
 pub record Stands (ps : List Pair) (first : ℕ) (name : Name) (index id : ℕ) : Type 0 where
   pub pair : Pair
   pub rest : List Pair
   pub place : IsBehind ps first index pair rest
   pub stands : StandsAt pair.content.slots name id
 
--- The name belongs there: the pair is the directory's first or has an entry less than the name, and behind the place a greater
--- name comes first, in this pair or a later one, or there is none in the directory.
+-- The name belongs at this place. The pair is the directory's first or has an entry less than the name. After the place a greater
+-- name comes first, in this pair or a later one, or no entry is left in the directory.
 pub record Belongs (order : NameOrder) (ps : List Pair) (first : ℕ) (name : Name) (index id : ℕ) : Type 0 where
   pub pair : Pair
   pub later : List Pair

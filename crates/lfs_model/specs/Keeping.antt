@@ -1,4 +1,4 @@
--- What an operation leaves of the files that it isn't about: the structs that they have.
+-- The files that an operation isn't about keep their structs.
 use Rattle.std.specs.Prelude.{◌≡◌, Bool, true, false, ◌||◌, List, Option, Some, None, is_some}
 use Rattle.std.specs.Option.{option_map}
 use Rattle.lfs_model.specs.Disk.{Disk}
@@ -13,7 +13,7 @@ use Rattle.lfs_model.specs.Session.{Session, OpenFile, path_of_file, file_of}
 use Rattle.lfs_model.specs.Refusals.{as_path}
 use Rattle.lfs_model.specs.SlotEdits.{slot_of_path}
 
--- it takes away or moves what stands at that path, or something above it
+-- the operation removes or moves the entry at that path, or an entry above it
 abbrev pub takes_or_moves : Operation → Path → Bool
 takes_or_moves (ops.Remove path) q = is_some (rest_after (as_path path) q)
 takes_or_moves (ops.Rename old new) q = is_some (rest_after (as_path old) q) || is_some (rest_after (as_path new) q)
@@ -23,7 +23,7 @@ abbrev pub is_at_path : Option OpenFile → Path → Bool
 is_at_path None q = false
 is_at_path (Some file) q = same_path (path_of_file file) q
 
--- it may store an open file's contents at that path
+-- the operation may store an open file's contents at that path
 abbrev pub stores_at : Session → Operation → Path → Bool
 stores_at s (ops.Sync fd) q = is_at_path (file_of s.files fd) q
 stores_at s (ops.Close fd) q = is_at_path (file_of s.files fd) q
@@ -33,6 +33,6 @@ stores_at s _ q = false
 abbrev pub struct_at : List Pair → Path → Option Struct
 struct_at ps path = option_map (λ u. u.struct) (slot_of_path ps path)
 
--- Every file that it isn't about has the struct that it had; qs are the pairs after it.
+-- Every file that the operation isn't about has the struct that it had; qs are the pairs after it.
 abbrev pub KeepsStructs : Disk → List Pair → Session → Operation → List Pair → Type 0
 KeepsStructs disk ps s op qs = (q : Path) → is_file (tree_in disk ps q) ≡ true → takes_or_moves op q ≡ false → stores_at s op q ≡ false → struct_at qs q ≡ struct_at ps q

@@ -1,4 +1,4 @@
--- What stands in a tree, depth first and in name order, and how it is listed, unpacked and carried over.
+-- The entries of a tree, depth first and in name order, and how they are listed, unpacked and copied.
 use Rattle.std.specs.Prelude.{ℕ, ◌+◌, ◌/◌, ◌%◌, ◌≡◌, Bool, true, false, not, ◌&&◌, ◌==◌, nat_le, nat_lt, if◌then◌else◌, List, [], ◌∷◌, ◌++◌, length, map, Some, codes}
 use Rattle.std.specs.List.{flat_map}
 use Rattle.std.specs.Fmt.{decimal}
@@ -12,25 +12,24 @@ pub record Entry : Type 0 where
   pub path : Path
   pub node : Node
 
--- the paths of what stands in the directory at a path, in name order
+-- the paths of the entries of the directory at a path, in name order
 abbrev pub paths_in : Tree → Path → List Path
 paths_in tree path = map (λ name. path ++ name ∷ []) (names_of (tree path))
 
--- These entries are what the paths lead to, in turn, and what stands beneath each: a directory comes before what
--- stands beneath it, and that before the next path.
+-- The entries that the paths lead to, in order, each followed by the entries beneath it.
 abbrev pub IsWalk : Tree → List Path → List Entry → Type 0
 IsWalk tree [] [] = Unit {0}
 IsWalk tree [] (e ∷ es) = ⊥
 IsWalk tree (p ∷ ps) [] = ⊥
 IsWalk tree (p ∷ ps) (e ∷ es) = (e.path ≡ p) × (tree p ≡ Some e.node) × IsWalk tree (paths_in tree p ++ ps) es
 
--- all that stands beneath the root
+-- all entries beneath the root
 abbrev pub IsWalkOf : Tree → List Entry → Type 0
 IsWalkOf tree entries = IsWalk tree (paths_in tree []) entries
 
 -- ---- lines
 
--- the bytes from the space to `~` stand for themselves, but not the backslash
+-- the bytes from the space to `~` are shown as themselves, but not the backslash
 abbrev pub is_plain : ℕ → Bool
 is_plain b = nat_le 0x20 b && (nat_le b 0x7e && not (b == 0x5c))
 
@@ -48,7 +47,7 @@ escaped_text = flat_map escaped
 abbrev pub newline : List ℕ
 newline = 0x0a ∷ []
 
--- what a line says before the path
+-- the part of a line before the path
 abbrev pub line_head : Node → List ℕ
 line_head (FileNode attributes bytes) = codes "f " ++ decimal (length bytes) ++ codes " "
 line_head (DirectoryNode attributes names) = codes "d 0 "
@@ -65,7 +64,7 @@ IsListing tree text = (entries : List Entry) × (IsWalkOf tree entries × (text 
 
 -- ---- actions
 
--- what the target of an unpacking is asked to do; a path is its bytes
+-- an action of an unpacking; a path is its bytes
 pub data Action : Type 0 where
   MakeDirectory : (path : List ℕ) → Action
   PutFile : (path bytes : List ℕ) → Action
@@ -83,11 +82,11 @@ IsUnpacking tree actions = (entries : List Entry) × (IsWalkOf tree entries × (
 
 -- ---- operations
 
--- write and create
+-- the flags to write and to create a file
 abbrev pub new_file_flags : Flags
 new_file_flags = record { read = false; write = true; create = true; exclusive = false; truncate = false; append = false; unknown = false }
 
--- what carries a file or a directory over into a session without open files: a file gets number 0
+-- the operations that copy a file or a directory into a session without open files: a file gets number 0
 abbrev pub operations_for : List ℕ → Node → List Operation
 operations_for path (FileNode attributes bytes) = ops.Open path new_file_flags ∷ ops.Write 0 bytes ∷ ops.Close 0 ∷ []
 operations_for path (DirectoryNode attributes names) = ops.Mkdir path ∷ []
@@ -95,7 +94,7 @@ operations_for path (DirectoryNode attributes names) = ops.Mkdir path ∷ []
 abbrev pub operations_of : Entry → List Operation
 operations_of e = operations_for (path_bytes e.path) e.node
 
--- the operations that carry a tree over
+-- the operations that copy a tree
 abbrev pub IsCarryingOver : Tree → List Operation → Type 0
 IsCarryingOver tree operations =
     (entries : List Entry) × (IsWalkOf tree entries × (operations ≡ flat_map operations_of entries))

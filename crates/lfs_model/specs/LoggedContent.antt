@@ -6,7 +6,7 @@ use Rattle.lfs_model.specs.Slots.{Attributes, Tail, Gstate, null_address}
 use Rattle.lfs_model.specs.Content.{RawSlot, RawContent}
 use Rattle.lfs_model.specs.EntryTypes.{is_in_table, no_id}
 
--- a type of that class, with bytes of its length
+-- a name or a struct: a type of that class, with bytes of its length
 pub record IsPart (class : ℕ) (part : ℕ × List ℕ) : Type 0 where
   pub of_class : part.0 / 2 ^ 8 ≡ class
   pub short : length part.1 < removal_length
@@ -62,7 +62,7 @@ pub record IsSoundContent (c : RawContent) : Type 0 where
   pub names : HaveNames c.slots
   pub few : length c.slots < no_id
 
--- an entry as it stands in a block: as many bytes as its tag says, and in a tail or a move state each below 256
+-- an entry as it is in a block: as many bytes as its tag says, and in a tail or a move state each below 256
 pub record IsStoredEntry (e : LogEntry) : Type 0 where
   pub size : length e.bytes ≡ data_size e.tag
   pub bytes : 6 ≤ class_of e.tag → (i : ℕ) → slice_index e.bytes i < 256

@@ -1,4 +1,4 @@
--- What the slots of a log hold for an id, and where a name stands among them.
+-- What the slots of a log hold for an id, and where a name is among them.
 use Rattle.std.specs.Prelude.{ℕ, ◌≡◌, ◌<◌, ◌≤◌, ◌/◌, ◌%◌, ◌^◌, ◌==◌, ◌&&◌, not, if◌then◌else◌, Bool, true, false, List, length, Option, Some, None}
 use Rattle.std.specs.Option.{option_and_then, option_map_or}
 use Rattle.lfs_model.specs.declared.order.NameOrder.{NameOrder}
@@ -11,7 +11,7 @@ abbrev pub bytes_typed : ℕ → Option (ℕ × List ℕ) → Option (List ℕ)
 bytes_typed type None = None
 bytes_typed type (Some part) = if part.0 == type then Some part.1 else None
 
--- what a slot holds of a name's, a struct's or an attribute's type; there is nothing of any other
+-- the bytes that a slot holds of a name's, a struct's or an attribute's type; a slot holds no other type
 abbrev pub bytes_in : ℕ → RawSlot → Option (List ℕ)
 bytes_in type s =
     if type / 2 ^ 8 == 0 then bytes_typed type s.name
@@ -27,7 +27,7 @@ typed_bytes_at slots type id = bytes_in type (slot_of_id slots id)
 abbrev pub entry_name : RawSlot → Option Name
 entry_name s = option_and_then (λ name. if name.0 == superblock_name_type then None else Some name.1) s.name
 
--- the slot at an id has such a name, and isn't the one that is passed over
+-- the slot at an id has a name that passes, and isn't the one that is passed over
 abbrev pub is_named : (Name → Bool) → Option ℕ → List RawSlot → ℕ → Bool
 is_named passes skip slots id = option_map_or passes (entry_name (slot_of_id slots id)) false && not (option_map_or (λ k. k == id) skip false)
 
@@ -39,7 +39,7 @@ pub record IsFound (name : Name) (skip : Option ℕ) (slots : List RawSlot) (id 
   pub named : is_named (same_name name) skip slots id ≡ true
   pub least : (other : ℕ) → other < id → is_named (same_name name) skip slots other ≡ false
 
--- no slot has the name, and this is the least id of a greater one, or the count where there is none
+-- no slot has the name, and this is the least id of a greater name, or the number of slots where there is none
 pub record IsPlace (order : NameOrder) (name : Name) (skip : Option ℕ) (slots : List RawSlot) (id : ℕ) : Type 0 where
   pub absent : (other : ℕ) → is_named (same_name name) skip slots other ≡ false
   pub least : (other : ℕ) → other < id → is_named (is_behind order name) skip slots other ≡ false

@@ -6,13 +6,13 @@ use Rattle.lfs_model.specs.Failure.{Fails}
 use Rattle.lfs_model.specs.PowerLoss.{SurvivesLoss}
 use Rattle.lfs_model.specs.ReadBounds.{IsWithinReadBounds, AsksFew, if_accepted}
 
--- An operation that is carried out or refused, behind the operation before, if that was accepted.
+-- An operation that is applied or refused, after the operation before, if that was accepted.
 pub record IsPerformed (before : Option Operation) (from : SystemState) (op : Operation) (reply : Reply) (to : SystemState) : Type 0 where
   pub turn : IsSessionStep from op reply to
   pub survives_loss : SurvivesLoss from op to
   pub read_bounds : IsWithinReadBounds before from op turn.calls to
 
--- operations in turn, with their replies
+-- operations in order, with their replies
 abbrev pub ArePerformed : Option Operation → SystemState → List Operation → List Reply → SystemState → Type 0
 ArePerformed before from [] [] to = from ≡ to
 ArePerformed before from [] (reply ∷ replies) to = ⊥
@@ -32,6 +32,6 @@ pub record IsCutShort (from : SystemState) (operations : List Operation) (to : S
   pub survives_loss : SurvivesLoss at next to
   pub few : AsksFew at next to
 
--- operations that end so or so
+-- the operations are all performed, or the run is cut short
 abbrev pub IsRun : SystemState → List Operation → SystemState → Type 0
 IsRun from operations to = ((replies : List Reply) × ArePerformed None from operations replies to) ⊎ IsCutShort from operations to

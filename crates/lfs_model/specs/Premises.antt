@@ -1,4 +1,4 @@
--- What is supposed of a device's calls where a contract speaks of a loss of power.
+-- The premises about a device's calls in contracts about a loss of power.
 use Rattle.std.specs.Prelude.{List}
 use Rattle.lfs_model.specs.History.{Event, EachEvent}
 use Rattle.lfs_model.specs.Stops.{ErasesCleanly}

@@ -26,7 +26,7 @@ pub record FitsEntry (block_size page : ℕ) (s : Slot) : Type 0 where
 abbrev pub FitsSlot : ℕ → ℕ → Slot → Type 0
 FitsSlot block_size page s = (is_superblock s ≡ true → HasWrittenLimits s) × (is_superblock s ≡ false → FitsEntry block_size page s)
 
--- a pair that another one's hard tail names has slots; after says whether the one in front has a hard tail
+-- a pair that a hard tail names has slots; `after` tells whether the pair before has a hard tail
 abbrev pub HaveSlots : Bool → List Pair → Type 0
 HaveSlots after [] = Unit {0}
 HaveSlots after (p ∷ ps) = (after ≡ true → p.content.slots ≢ []) × HaveSlots (is_hard p.content.tail) ps

@@ -15,7 +15,7 @@ abbrev pub ReadsKept : List Pair → Option Operation → Operation → List Eve
 ReadsKept ps None op calls = Unit {0}
 ReadsKept ps (Some before) op calls = FollowsLookUp ps before op → reads calls ≡ 0
 
--- An operation's turn by these calls, behind the operation before, if that was accepted.
+-- What an operation by these calls leaves alone and may read, after the operation before, if that was accepted.
 pub record IsWithinReadBounds (before : Option Operation) (from : SystemState) (op : Operation) (calls : List Event) (to : SystemState) : Type 0 where
   pub alone : (s : Session) → from.state ≡ Healthy s → (ps qs : List Pair) → IsAccepted from.disk ps → IsAccepted to.disk qs → gstate_of ps ≡ no_gstate
       → LeavesAlone from.disk ps s op to.disk qs

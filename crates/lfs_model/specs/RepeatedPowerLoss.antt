@@ -31,7 +31,7 @@ pub record IsMounted (disk : Disk) (begin : SystemState) : Type 0 where
   pub shows : Shows disk (Some tree)
   pub healthy : begin.state ≡ Healthy (mounted tree)
 
--- the same bytes; a mount may take the other order of names
+-- both disks have the same bytes; a mount may take the other order of names
 abbrev pub SameBytes : Disk → Disk → Type 0
 SameBytes disk other = other ≡ record disk { order = other.order }
 
@@ -62,8 +62,8 @@ pub record IsStoppedSince (old new : List Event) (blocks : Blocks) : Type 0 wher
   pub extends : new ≡ events ++ old
   pub stopped : Any (λ e. Stops e blocks) events
 
--- Power went before the first call between these moments; or in one of the calls; or behind the last one, where each call that failed
--- left what a stop in it may leave.
+-- Power was lost before the first call between these states, or in one of the calls, or after the last one. After the last one,
+-- each call that failed left what a stop in it may leave.
 abbrev pub IsStopped : SystemState → SystemState → Disk → Type 0
 IsStopped from to left =
     (left ≡ from.disk)
@@ -79,21 +79,21 @@ pub record IsCutIn (from : SystemState) (op : Operation) (next : SystemState) (l
   pub work : IsAtWork from session pairs around
   pub either : (tree ≡ session.tree) ⊎ (tree ≡ (applied around session op).1.tree)
 
--- Power was lost where every operation of a run was done. The tree is the session's.
+-- Power was lost after all operations of a run. The tree is the session's.
 pub record IsCutAtEnd (at : SystemState) (left : Disk) (tree : Tree) : Type 0 where
   pub stays : left ≡ at.disk
   pub session : Session
   pub healthy : at.state ≡ Healthy session
   pub is : tree ≡ session.tree
 
--- Power was lost in one of the operations that were performed, or at the end of them.
+-- Power was lost in one of the operations that were performed, or after all of them.
 abbrev pub IsCutAmong : (before : Option Operation) (from : SystemState) (operations : List Operation) (replies : List Reply) (to : SystemState) → ArePerformed before from operations replies to → Disk → Tree → Type 0 → Type 0
 IsCutAmong before from [] replies to steps left tree AtEnd = AtEnd
 IsCutAmong before from (op ∷ operations) [] to steps left tree AtEnd = ⊥
 IsCutAmong before from (op ∷ operations) (reply ∷ replies) to (next, (one, others)) left tree AtEnd =
     IsCutIn from op next left tree ⊎ IsCutAmong (if_accepted op reply) next operations replies to others left tree AtEnd
 
--- Power was lost in one of the operations of this run, among them the one that an error ended, or at the end.
+-- Power was lost in one of the operations of this run, or after all of them. An error may have ended the last operation.
 abbrev pub IsCut : (from : SystemState) (operations : List Operation) (to : SystemState) → IsRun from operations to → Disk → Tree → Type 0
 IsCut from operations to (inl (replies, steps)) left tree = IsCutAmong None from operations replies to steps left tree (IsCutAtEnd to left tree)
 IsCut from operations to (inr short) left tree = IsCutAmong None from short.done short.replies short.at short.performed left tree (IsCutIn short.at short.next to left tree)
@@ -106,7 +106,7 @@ pub record IsSurvived (from : SystemState) (operations : List Operation) (to : S
   pub cut : IsCut from operations to run left tree
   pub safe : IsSafe tree left
 
--- A session mounts the disk and performs operations, a recovery for example. Power is lost in them, and leaves another disk.
+-- A session mounts the disk and performs operations, a recovery for example. Power is lost during them, and another disk is left.
 pub record LosesPower (disk left : Disk) : Type 0 where
   pub other : Disk
   pub same : SameBytes disk other
@@ -134,8 +134,8 @@ pub record MayLosePower (from to : SystemState) : Type 0 where
   pub profile : IsInProfile from.disk
   pub cleanly : EachSince ErasesCleanly from.calls to.calls
 
--- The operations were a run between these states. Wherever power is lost in that run, it is survived, in the operation that was cut. So
--- are any number of losses after it, also in the recovery.
+-- The operations were a run between these states. Wherever power is lost in that run, it is survived, in the operation that was
+-- cut. So is any number of losses after it, also in the recovery.
 pub record SurvivesPowerLoss (from : SystemState) (operations : List Operation) (to : SystemState) : Type 0 where
   pub run : IsRun from operations to
   pub once : (left : Disk) → IsStopped from to left → IsSurvived from operations to run left

@@ -35,7 +35,7 @@ file_blocks disk (Ctz head size) = blocks_back disk.blocks (blocks_for disk.bloc
 file_blocks disk (Inline bytes) = []
 file_blocks disk (Branch to) = []
 
--- the slots of all pairs, without one that the global state says is moved away
+-- the slots of all pairs, without the one that a set move names
 abbrev pub all_slots : List Pair → List Slot
 all_slots ps = flat_map (unmoved (gstate_of ps)) ps
 

@@ -21,7 +21,7 @@ abbrev pub bytes_before : ℕ → ℕ → ℕ
 bytes_before block_size zero = 0
 bytes_before block_size (suc i) = bytes_before block_size i + capacity_of block_size i
 
--- the file's byte pos stands in block index of the list, at that offset of the block
+-- the file's byte `pos` is in block `index` of the list, at that offset of the block
 pub record IsBytePlace (block_size pos index offset : ℕ) : Type 0 where
   pub from : bytes_before block_size index ≤ pos
   pub below : pos < bytes_before block_size index + capacity_of block_size index
@@ -42,7 +42,7 @@ blocks_back disk zero head = []
 blocks_back disk (suc zero) head = head ∷ []
 blocks_back disk (suc (suc n)) head = blocks_back disk (suc n) (word_at (block_in disk head) 0) ++ head ∷ []
 
--- so many blocks, followed back from the head, stand on the disk as a list's first blocks
+-- so many blocks, followed back from the head, are on the disk as a list's first blocks
 pub record AreListBlocks (disk : Blocks) (count head : ℕ) : Type 0 where
   pub in_range : All (λ b. b < length disk) (blocks_back disk count head)
   pub distinct : IsDistinct nat_eq (blocks_back disk count head)

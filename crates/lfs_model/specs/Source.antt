@@ -1,4 +1,4 @@
--- What a tree of files is made from: folders that name what stands in them, in any order, and files.
+-- What a tree of files is made from: folders that list their names, in any order, and files.
 use Rattle.std.specs.Prelude.{ℕ, ◌≡◌, ◌≤◌, ◌⊎◌, Bool, false, if◌then◌else◌, List, [], ◌∷◌, ◌++◌, map, find, Option, Some, None, AllPairs, sum_by}
 use Rattle.std.specs.List.Sorted.{IsPermutation}
 use Rattle.std.specs.Option.{option_and_then, option_map}
@@ -7,7 +7,7 @@ use Rattle.lfs_model.specs.declared.order.NameOrder.TheVariants.{ShorterFirst}
 use Rattle.lfs_model.specs.Names.{Name, name_cmp, same_name, is_component, slash}
 use Rattle.lfs_model.specs.Tree.{Path, Node, FileNode, DirectoryNode, Tree}
 
--- A path is its bytes, a slash before each component. The folder that all stands in has the empty path.
+-- A path is its bytes, a slash before each component. The topmost folder has the empty path.
 pub record Source : Type 0 where
   -- the names in a folder, each with whether it is a folder's
   pub names : List ℕ → List (Name × Bool)
@@ -27,7 +27,7 @@ given_names given = map (λ g. g.0) given
 abbrev pub times : Name → List Name → ℕ
 times name names = sum_by (λ n. if same_name name n then 1 else 0) names
 
--- a name is given that is no component of a path, or one is given twice
+-- a name is given that is no component of a path, or a name is given twice
 abbrev pub AreBad : List Name → Type 0
 AreBad names = ((name : Name) × (is_component name ≡ false) × (1 ≤ times name names)) ⊎ ((name : Name) × (2 ≤ times name names))
 
@@ -52,7 +52,7 @@ standing s folder [] = Some (AFolder (given_names (s.names folder)))
 standing s folder (name ∷ rest) =
     option_and_then (λ is_folder. if is_folder then standing s (path_in folder name) rest else file_at s (path_in folder name) rest) (kind_given name (s.names folder))
 
--- A tree has this at a path. It has a folder's names in order.
+-- A tree has this node at a path. A directory has the folder's names in order.
 abbrev pub IsNodeOf : Option Standing → Option Node → Type 0
 IsNodeOf None None = Unit {0}
 IsNodeOf (Some (AFile bytes)) (Some (FileNode attributes shown)) = (attributes ≡ []) × (shown ≡ bytes)

@@ -1,4 +1,4 @@
--- A session over a disk: what it takes from the disk, and a session that has failed.
+-- A session over a disk: what the session takes from the disk, and a session that has failed.
 use Rattle.std.specs.Prelude.{◌≡◌, Bool, true, false, if◌then◌else◌, List, [], Option, Some, None}
 use Rattle.lfs_model.specs.Disk.{Disk, block_count}
 use Rattle.lfs_model.specs.Thread.{Pair, gstate_of}
@@ -32,7 +32,7 @@ abbrev pub is_remount : Operation → Bool
 is_remount ops.Remount = true
 is_remount _ = false
 
--- A remount takes the tree of the disk, or none where it isn't accepted. Then it answers an error and gives no reply.
+-- A remount takes the tree of the disk, or none where the disk isn't accepted. Then the remount fails and gives no reply.
 abbrev pub remounted : Option Tree → Option Reply × State
 remounted None = (None, HasFailed)
 remounted (Some tree) = (Some ops.Done, Healthy (mounted tree))
@@ -41,6 +41,6 @@ abbrev pub answered_in : Surroundings → State → Operation → Option Reply �
 answered_in around HasFailed op = (Some (ops.Refused Failed), HasFailed)
 answered_in around (Healthy s) op = (Some (applied around s op).0, Healthy (applied around s op).1)
 
--- the reply, where no error is answered in its place, and the state after it
+-- the reply, where no error comes in its place, and the state after it
 abbrev pub answered : Surroundings → Option Tree → State → Operation → Option Reply × State
 answered around shown state op = if is_remount op then remounted shown else answered_in around state op

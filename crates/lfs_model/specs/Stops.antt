@@ -10,8 +10,8 @@ SameLog new old = log_of new ≡ log_of old
 abbrev pub HasNoLog : List ℕ → Type 0
 HasNoLog block = log_of block ≡ None
 
--- The program of some bytes at an offset was stopped: the log is the one before it, or the one that all of it makes. Where
--- it begins at offset 0 there may be none.
+-- The program of some bytes at an offset was stopped: the log is the one before it, or the one after the whole program. A program
+-- at offset 0 may leave no log.
 abbrev pub LeftByProgram : (off : ℕ) (bytes old new : List ℕ) → Type 0
 LeftByProgram off bytes old new = SameLog new old ⊎ (SameLog new (overwritten old off bytes) ⊎ ((off ≡ 0) × HasNoLog new))
 
@@ -28,8 +28,8 @@ stops_in (Erase block) before disk = SameBut block before disk × LeftByErase (b
 abbrev pub Stops : Event → Blocks → Type 0
 Stops e disk = stops_in e.call e.before disk
 
--- An erase that succeeds leaves a block without a log, or with the one that it had. That isn't said of any device, since
--- an erase may leave any bytes: it is a premise of what is said of stops.
+-- An erase that succeeds leaves a block without a log, or with the one that it had. This isn't so of any device, since an erase
+-- may leave any bytes. So it is a premise of each promise about stops.
 abbrev pub erases_cleanly : Call → Bool → Blocks → Blocks → Type 0
 erases_cleanly (Read block off len) failed before after = Unit {0}
 erases_cleanly (Program block off bytes) failed before after = Unit {0}

@@ -94,7 +94,7 @@ raw_slot_size s = part_size s.name + part_size s.struct + attributes_size s.attr
 abbrev pub raw_size : RawContent → ℕ
 raw_size c = sum_by raw_slot_size c.slots
 
--- a pair that is written keeps within these
+-- the limits of a written pair
 pub record FitsRaw (block_size page : ℕ) (c : RawContent) : Type 0 where
   pub size : raw_size c ≤ pair_capacity block_size page
   pub count : length c.slots ≤ slot_limit

@@ -1,4 +1,4 @@
--- Images, histories, sessions and sources as worked by hand.
+-- Images, histories, sessions and sources for worked examples.
 pub mod Images
 pub mod Histories
 pub mod Sessions

@@ -1,4 +1,4 @@
-// What the history of a device's calls tells.
+// What the history of a device's calls shows.
 
 ghost use Rattle.std.specs.Prelude.{◌≡◌, ℕ, true, false, List, [], ◌∷◌, map};
 ghost use Rattle.lfs_model.specs.Blocks.{Blocks, block_in};
@@ -23,7 +23,7 @@ pub fn bytes_are_unprogrammed()
     ensures dont_stay { StayUnprogrammed (1 ∷ []) after_erase after_read → ⊥ }
 {}
 
-/// What all calls since a moment have in common.
+/// What all calls since an older history have in common.
 pub fn calls_have_in_common()
     ensures succeeded { EachSince (λ (e : Event). e.failed ≡ false) [] after_program }
     ensures one_failed { EachSince (λ (e : Event). e.failed ≡ false) [] after_read → ⊥ }
@@ -31,13 +31,13 @@ pub fn calls_have_in_common()
     ensures not_only { OnlyReads last_blocks after_erase after_read → ⊥ }
 {}
 
-/// What a stop at any of the calls since a moment may leave, at worst.
+/// What a stop in any of the calls since an older history may leave, at worst.
 pub fn stop_leaves_other_blocks()
     ensures block_1 { LeavesOnly AtWorst [] after_read (λ (blocks : Blocks). block_in blocks 1 ≡ 5 ∷ 6 ∷ 7 ∷ 8 ∷ []) }
     ensures block_0 { LeavesOnly AtWorst [] after_read (λ (blocks : Blocks). block_in blocks 0 ≡ 9 ∷ 9 ∷ 0xff ∷ 0xff ∷ []) → ⊥ }
 {}
 
-/// Each call that didn't fail was obeyed.
+/// Each call that didn't fail conforms.
 pub fn calls_conform()
     ensures conforms { AllConform after_read }
     ensures not_programmed { AllConform (forgetting ∷ []) → ⊥ }

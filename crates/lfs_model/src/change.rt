@@ -10,9 +10,9 @@ ghost use Rattle.lfs_model.specs.LoggedContent.{IsSoundContent};
 ghost use Rattle.lfs_model.specs.Changes.{Create, Delete, PutStruct, PutAttribute, RemoveAttribute, PutTail, PutMove, entries_of_changes, changed_by};
 ghost use Rattle.lfs_model.specs.examples.Images.{raw_root, raw_file, raw_content, shifting_changes};
 
-/// Changes do what their entries do, in turn.
+/// Changes do what their entries do, in order.
 pub fn changes_are_made()
-    // "b" comes, "a" comes before it and goes again, and "b" gets an attribute.
+    // "b" is created, "a" is created before it and removed again, and "b" gets an attribute.
     ensures shifted { changed_by (raw_content (raw_root ∷ [])) shifting_changes
         ≡ Some (raw_content (raw_root ∷ record (raw_file (codes "b")) { attributes = (0x41, codes "x") ∷ [] } ∷ [])) }
     ensures tags { map (λ (e : LogEntry). e.tag) (entries_of_changes shifting_changes)
@@ -26,11 +26,11 @@ pub fn changes_are_made()
     ensures no_tail { changed_by (record { slots = []; tail = Some (record { hard = false; to = (2, 3) }); move = record no_gstate { sync = true } }) (PutTail true None ∷ PutMove no_gstate ∷ [])
         ≡ Some no_content }
 
-    // What a compacted block is written from reads back.
+    // The content that a compacted block was written from is read back.
     ensures written { (c : RawContent) → IsSoundContent c → content_after_all no_content (written_entries c) ≡ Some c }
 {}
 
-/// Such a content can be written anew.
+/// A content that fits a pair can be written anew.
 pub fn content_is_sound()
     ensures { IsSoundContent (raw_content (raw_root ∷ record (raw_file (codes "b")) { attributes = (0x41, codes "x") ∷ [] } ∷ [])) }
 {}

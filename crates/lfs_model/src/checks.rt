@@ -1,4 +1,4 @@
-// What each operation checks, in which order, and what it asks of the disk.
+// What each operation checks, in which order, and what it queries of the disk.
 
 ghost use Rattle.std.specs.Prelude.{◌≡◌, true, false, List, [], ◌∷◌, ◌++◌, filter, Some, None, replicate, codes};
 ghost use Rattle.lfs_model.specs.Slots.{no_gstate};
@@ -10,7 +10,7 @@ ghost use Rattle.lfs_model.specs.Frame.{comes_at_once, takes_nothing};
 ghost use Rattle.lfs_model.specs.examples.Runs.{each_refusal, writing_at};
 ghost use Rattle.lfs_model.specs.examples.Sessions.{around, replies, fresh_replies, each_at, for_read, for_write, for_new};
 
-/// A disk outside the writing profile is read, and each changing call is refused before anything else is looked at.
+/// A disk outside the writing profile is read. Each call that would change it is refused before any other check.
 pub fn read_only_is_checked_first()
     ensures { replies (λ used. record (around 4096 256 16 used) { writable = false }) (mounted empty_tree) (each_at 2
         (ops.Open [] for_write ∷ ops.Open (codes "/a") (record for_write { read = true }) ∷ ops.Mkdir [] ∷ ops.Remove (codes "/")
@@ -21,7 +21,7 @@ pub fn read_only_is_checked_first()
         ∷ ops.Refused Invalid ∷ ops.Refused BadFile ∷ ops.Items [] ∷ ops.StatIs None ∷ ops.Refused Invalid ∷ [] }
 {}
 
-/// Which refusals come without a look-up, and what takes neither the device nor memory.
+/// Which refusals need no look-up, and which operations take neither the device nor memory.
 pub fn refusals_come_at_once()
     ensures made { filter (comes_at_once (ops.Mkdir (codes "/d"))) each_refusal ≡ BadFile ∷ Invalid ∷ ReadOnly ∷ ops.Failed ∷ [] }
     ensures written { filter (comes_at_once (ops.Write 0 [])) each_refusal ≡ each_refusal }
@@ -30,7 +30,7 @@ pub fn refusals_come_at_once()
         ≡ ops.Seek 0 1 ∷ ops.Write 0 [] ∷ ops.UsedCount ∷ [] }
 {}
 
-/// What is asked of the disk.
+/// The queries of a disk.
 pub fn disk_is_asked()
     ensures plain { replies (around 4096 256 16) (mounted empty_tree) (each_at 1
         (ops.AskGstate ∷ ops.IsUsed 0 ∷ ops.IsUsed 15 ∷ ops.IsUsed 16 ∷ ops.UsedCount ∷ ops.Recover ∷ []))
@@ -61,7 +61,8 @@ pub fn new_name_is_charged()
         ≡ ops.Opened 0 ∷ ops.Done ∷ ops.Done ∷ ops.Refused EntryFull ∷ ops.Refused NameTooLong ∷ ops.Refused NoEnt ∷ ops.Refused NoEnt ∷ ops.Refused NotDir ∷ [] }
 {}
 
-/// Where a write begins, and what a truncate and a sync make of the last end: three blocks are free, and a turned writer holds four.
+/// Where a write begins, and how a truncate and a sync change the end of the last write: three blocks are free, and a
+/// nonsequential writer holds four.
 pub fn last_end_is_kept()
     ensures gap { fresh_replies 1024 128 5 (each_at 2
         (ops.Open (codes "/a") for_new ∷ ops.Write 0 (replicate 500 7) ∷ ops.Seek 0 600 ∷ ops.Write 0 (1 ∷ []) ∷ ops.Seek 0 0 ∷ ops.Write 0 (1 ∷ []) ∷ []))

@@ -1,4 +1,4 @@
-// What the entries of a log say.
+// What the entries of a log mean.
 
 ghost use Rattle.std.specs.Prelude.{◌≡◌, ℕ, ◌<◌, ◌^◌, true, false, List, [], ◌∷◌, ◌++◌, Some, None, codes};
 ghost use Rattle.std.specs.declared.cmp.Ordering.TheVariants.{Less};
@@ -34,9 +34,9 @@ pub fn move_state_is_its_fields()
     ensures kept { (g : Gstate) → gstate_xor g no_gstate ≡ g }
 {}
 
-/// What entries make of an empty log, taken forward.
+/// What entries make of an empty log, applied in order.
 pub fn entries_make_slots()
-    // "b" comes, "a" comes before it and goes again, and "b" gets an attribute.
+    // "b" is created, "a" is created before it and removed again, and "b" gets an attribute.
     ensures shifted { content_after_all no_content
         (entry_with create_type 0 [] ∷ file_entries 0 (codes "b") []
         ++ entry_with create_type 0 [] ∷ file_entries 0 (codes "a") []
@@ -47,14 +47,14 @@ pub fn entries_make_slots()
     ensures extended { content_after_all no_content (entry_with file_name_type 1 (codes "a") ∷ [])
         ≡ Some (record no_content { slots = empty_slot ∷ record empty_slot { name = Some (file_name_type, codes "a") } ∷ [] }) }
 
-    // Attributes stand by ascending type. The last one holds, or none where it was removed.
+    // Attributes are in the order of their types. The last one of a type counts, or none where it was removed.
     ensures attributes { content_after_all no_content
         (entry_with file_name_type 0 (codes "a")
         ∷ entry_with 0x342 0 (codes "y") ∷ entry_with 0x341 0 (codes "x") ∷ entry_with 0x343 0 (codes "z")
         ∷ entry_with 0x342 0 (codes "w") ∷ record { tag = tag_with 0x343 0 0x3ff; bytes = [] } ∷ record { tag = tag_with 0x344 0 0x3ff; bytes = [] } ∷ [])
         ≡ Some (record no_content { slots = record empty_slot { name = Some (file_name_type, codes "a"); attributes = (0x41, codes "x") ∷ (0x42, codes "w") ∷ [] } ∷ [] }) }
 
-    // The last tail holds, and the last move state. Their ids are ignored.
+    // The last tail counts, and the last move state. Their ids are ignored.
     ensures tail { content_after_all no_content (tail_entry false (Some (2, 3)) ∷ tail_entry true (Some (4, 5)) ∷ [])
         ≡ Some (record no_content { tail = Some (record { hard = true; to = (4, 5) }) }) }
     ensures no_tail { content_after_all no_content (tail_entry true (Some (2, 3)) ∷ tail_entry true None ∷ []) ≡ Some no_content }
@@ -64,7 +64,7 @@ pub fn entries_make_slots()
         ≡ Some (record no_content { move = record no_gstate { sync = true } }) }
 {}
 
-/// Where entries may not stand.
+/// Where entries aren't allowed.
 pub fn bad_entry_is_refused()
     ensures unknown_name { content_after_all no_content (entry_with 0x003 0 (codes "a") ∷ []) ≡ None }
     ensures unknown_class { content_after_all no_content (entry_with file_name_type 0 (codes "a") ∷ entry_with 0x100 0 [] ∷ []) ≡ None }
@@ -92,7 +92,7 @@ pub fn bad_entry_is_refused()
     ensures removed_name { content_after_all no_content (record { tag = tag_with file_name_type 0 0x3ff; bytes = [] } ∷ []) ≡ None }
 {}
 
-/// Where a name stands among slots. The superblock's name and the slot that is passed over don't count.
+/// Where a name is among slots. The superblock's name and the slot that is passed over don't count.
 pub fn name_has_its_place()
     ensures found { IsFound (codes "b") None (raw_root ∷ raw_file (codes "b") ∷ []) 1 }
     ensures longer { name_cmp LongerFirst (codes "log.old") (codes "log") ≡ Less }

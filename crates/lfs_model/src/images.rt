@@ -53,7 +53,7 @@ pub fn file_is_shown()
         ∷ (codes "b" ∷ [], FileNode [] []) ∷ [])
         no_gstate (0 ∷ 1 ∷ [])) }
 
-    // Three blocks: the last has one byte, behind the addresses of the second and the first.
+    // Three blocks: the last has one byte, after the addresses of the second and the first.
     ensures list { HasView
         (image_with (root_block (long_file_entries 1 (codes "a") 4 8189) 0xaa94cc85 187)
         (replicate 4096 97
@@ -83,7 +83,7 @@ pub fn later_block_is_shown()
 
 /// A directory is its pairs, from the first that an entry names to the last that a hard tail names.
 pub fn directory_is_shown()
-    // The entry may name the two blocks in either order. Which of them holds, the thread's order decides.
+    // The entry may name the two blocks in either order. The thread's order decides which of them holds.
     ensures either_order { HasView
         (image_with (root_block (directory_entries 1 (codes "d") (3, 2) ++ tail_entry false (Some (2, 3)) ∷ []) 0x73136a7f 175)
         (pair_block (file_entries 0 (codes "x") (codes "hi")) 0x99061daa 233
@@ -106,7 +106,7 @@ pub fn directory_is_shown()
 
 /// A slot that a set move names isn't shown.
 pub fn moved_slot_is_hidden()
-    // "f" of {2, 3} has become "g" of the root, and hasn't gone from its old place.
+    // "f" of {2, 3} is "g" of the root now, and is still at its old place.
     ensures old_place { HasView
         (image_with (root_block (directory_entries 1 (codes "d") (2, 3) ++ file_entries 2 (codes "g") (codes "hi") ++ tail_entry false (Some (2, 3)) ∷ move_word_entry 0x4ff00000 (2, 3) ∷ []) 0x3341c275 148)
         (pair_block (file_entries 0 (codes "f") (codes "hi")) 0x6586f267 233 ∷ []))
@@ -166,7 +166,7 @@ pub fn superblock_chain_is_read()
         ∷ (codes "a" ∷ [], FileNode [] (codes "hi")) ∷ [])
         no_gstate (0 ∷ 1 ∷ 2 ∷ 3 ∷ [])) }
 
-    // The second superblock says 17 blocks.
+    // The superblock of the second pair gives 17 blocks.
     ensures other_bytes { IsRefused
         (image_with (root_block (tail_entry true (Some (2, 3)) ∷ []) 0xef8649c3 192)
         (pair_block (superblock_entries 4096 17 ++ file_entries 1 (codes "a") (codes "hi")) 0xa947a470 193 ∷ [])) }
@@ -177,7 +177,7 @@ pub fn superblock_chain_is_read()
         (root_block [] 0xf3277f4a 204 ∷ [])) }
 {}
 
-/// A superblock that moved on leaves pairs without slots in front of it.
+/// A superblock that was moved leaves pairs without slots before it.
 pub fn moved_superblock_is_read()
     ensures moved { HasView
         (image_with (pair_block (tail_entry true (Some (2, 3)) ∷ []) 0x9f96c0e0 232)
@@ -186,7 +186,7 @@ pub fn moved_superblock_is_read()
         ∷ (codes "a" ∷ [], FileNode [] (codes "hi")) ∷ [])
         no_gstate (0 ∷ 1 ∷ 2 ∷ 3 ∷ [])) }
 
-    // A copy in front, and a pair without a slot between.
+    // A copy of the superblock is in the first pair, and a pair without a slot is between.
     ensures between { HasView
         (image_with (root_block (tail_entry true (Some (2, 3)) ∷ []) 0xef8649c3 192)
         (pair_block (tail_entry true (Some (4, 5)) ∷ []) 0xb6c46c87 232 ∷ unwritten 4096
@@ -195,7 +195,7 @@ pub fn moved_superblock_is_read()
         ∷ (codes "a" ∷ [], FileNode [] (codes "hi")) ∷ [])
         no_gstate (0 ∷ 1 ∷ 2 ∷ 3 ∷ 4 ∷ 5 ∷ [])) }
 
-    // The pair without a slot has no superblock behind it, so it is the root's second one.
+    // No superblock follows the pair without a slot, so it is the root's second one.
     ensures no_more { HasView
         (image_with (root_block (tail_entry true (Some (2, 3)) ∷ []) 0xef8649c3 192)
         (pair_block (tail_entry true (Some (4, 5)) ∷ []) 0xb6c46c87 232 ∷ unwritten 4096
@@ -204,7 +204,7 @@ pub fn moved_superblock_is_read()
         ∷ (codes "a" ∷ [], FileNode [] (codes "hi")) ∷ [])
         no_gstate (0 ∷ 1 ∷ 2 ∷ 3 ∷ 4 ∷ 5 ∷ [])) }
 
-    // A soft tail doesn't lead on, and a superblock has to come.
+    // A soft tail doesn't continue the chain, and the chain must have a superblock.
     ensures soft { IsRefused
         (image_with (pair_block (tail_entry false (Some (2, 3)) ∷ []) 0xc7d2fcdf 232)
         (root_block (file_entries 1 (codes "a") (codes "hi")) 0xa7a04ca1 193 ∷ [])) }
@@ -215,7 +215,7 @@ pub fn moved_superblock_is_read()
 
 /// What other tools write is shown, and may not be written.
 pub fn other_profile_is_read_only()
-    // 600 bytes stand in an entry, where at most 512 are written.
+    // An entry has 600 bytes, where at most 512 are written.
     ensures long_entry { HasView (image_with (root_block (file_entries 1 (codes "a") (replicate 600 97)) 0x961dcdc4 107) [])
         (view_with (([], DirectoryNode [] (codes "a" ∷ []))
         ∷ (codes "a" ∷ [], FileNode [] (replicate 600 97)) ∷ [])

@@ -6,14 +6,14 @@ ghost use Rattle.lfs_model.specs.SkipLists.{IsBytePlace, IsList, blocks_for, blo
 ghost use Rattle.lfs_model.specs.Session.{ctz_blocks};
 ghost use Rattle.lfs_model.specs.examples.Images.{three_blocks, three_blocks_with, round_blocks};
 
-/// How many blocks a list of some bytes has, and how many bytes each block holds behind its pointers.
+/// How many blocks a list of some bytes has, and how many bytes each block holds after its pointers.
 pub fn list_has_its_blocks()
     ensures blocks { map (blocks_for 1024) (0 ∷ 1 ∷ 1024 ∷ 1025 ∷ 2044 ∷ 2045 ∷ 3060 ∷ 3061 ∷ 4080 ∷ 4081 ∷ [])
         ≡ 0 ∷ 1 ∷ 1 ∷ 2 ∷ 2 ∷ 3 ∷ 3 ∷ 4 ∷ 4 ∷ 5 ∷ [] }
     ensures pointers { map pointers_of (0 ∷ 1 ∷ 2 ∷ 3 ∷ 4 ∷ 5 ∷ 6 ∷ 7 ∷ 8 ∷ []) ≡ 0 ∷ 1 ∷ 2 ∷ 1 ∷ 3 ∷ 1 ∷ 2 ∷ 1 ∷ 4 ∷ [] }
     ensures capacities { map (capacity_of 1024) (0 ∷ 1 ∷ 2 ∷ 3 ∷ 4 ∷ []) ≡ 1024 ∷ 1020 ∷ 1016 ∷ 1020 ∷ 1012 ∷ [] }
 
-    // Where the file's bytes 1023, 1024, 2043, 2044 and 4080 stand: in which block, at which offset.
+    // Where the file's bytes 1023, 1024, 2043, 2044 and 4080 are: in which block, at which offset.
     ensures places { IsBytePlace 1024 1023 0 1023 × IsBytePlace 1024 1024 1 4 × IsBytePlace 1024 2043 1 1023 × IsBytePlace 1024 2044 2 8 × IsBytePlace 1024 4080 4 12 }
 
     // A file of at most an eighth of a block has no list.
@@ -26,7 +26,7 @@ pub fn list_is_read()
     ensures blocks { blocks_back three_blocks (blocks_for 1024 2045) 7 ≡ 5 ∷ 6 ∷ 7 ∷ [] }
     ensures bytes { bytes_of three_blocks 1024 7 2045 ≡ replicate 1024 1 ++ replicate 1020 2 ++ 3 ∷ [] }
 
-    // A list whose pointers 0 go round never gets to its first block.
+    // A list whose pointers 0 form a circle never gets to its first block.
     ensures round { IsList round_blocks 1024 7 2045 → ⊥ }
 
     // Pointer 1 of the last block names the second block.

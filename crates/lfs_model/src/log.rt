@@ -29,9 +29,9 @@ pub fn chain_is_longest()
         → take (length others) (chain_of block).commits ≡ others }
 {}
 
-/// A commit whose checksum is wrong ends the log before it, and so do the commits behind it.
+/// A commit whose checksum is wrong ends the log before it, and later commits don't count either.
 pub fn altered_commit_ends_log()
-    // One bit of the checksum of the only commit is turned.
+    // One bit of the checksum of the only commit is inverted.
     ensures no_log { (k : ℕ) → k < 32 → (chain_of (turned_block k)).commits ≡ [] }
     ensures no_image { (k : ℕ) → k < 32 → IsRefused (small_disk (turned_block k)) }
 
@@ -62,7 +62,7 @@ pub fn checksum_ends_commit()
         ∷ entry_with 0x502 no_id (little_bytes 4 0x0b5b94d0) ∷ [])) ≡ false }
     ensures not_its_tag { has_commit (metadata_block 64 1 (entry_with create_type 0 [] ∷ checksum_entry 0x0ffefba6 0 ∷ [])) ≡ false }
 
-    // Its padding goes past the end of the block; there is none at all.
+    // Its padding exceeds the end of the block; there is none at all.
     ensures past_the_end { has_commit (take 64 (metadata_block 64 1 (entry_with create_type 0 [] ∷ checksum_entry 0x7ea4b368 96 ∷ [])))
         ≡ false }
     ensures within { has_commit (metadata_block 64 1 (entry_with create_type 0 [] ∷ checksum_entry 0x7ea4b368 96 ∷ [])) ≡ true }

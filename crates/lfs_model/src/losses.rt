@@ -20,14 +20,14 @@ ghost use Rattle.lfs_model.specs.RepeatedPowerLoss.{IsRestored, IsSafe, IsStoppe
 ghost use Rattle.lfs_model.specs.examples.Images.{small_image, appended_image};
 ghost use Rattle.lfs_model.specs.examples.Runs.{fresh_system, failed_system, opened_system, no_disk, some_reads};
 
-/// A run ends where its session fails; what came before it was carried out.
+/// A run ends where its session fails; the operations before it were applied.
 pub fn error_ends_a_run()
     ensures second { IsCutShort fresh_system (ops.Stat (codes "/") ∷ ops.Mkdir (codes "/d") ∷ ops.UsedCount ∷ []) failed_system }
     ensures goes_on { IsCutShort fresh_system (ops.Stat (codes "/") ∷ []) fresh_system → ⊥ }
 {}
 
-/// A session that had failed makes no call. A failed remount, a rename to itself that fails, and what fails on a disk that
-/// isn't accepted write nothing.
+/// A session that had failed makes no call. A failed remount and a failed rename to itself write nothing. Nor does an operation
+/// that fails on a disk that isn't accepted.
 pub fn failure_writes_only_what_may_be_written()
     ensures no_call { Fails failed_system (ops.Stat (codes "/")) (record failed_system { calls = some_reads 1 }) → ⊥ }
     ensures no_write { Fails fresh_system ops.Remount (record failed_system { disk = appended_image }) → ⊥ }
@@ -44,24 +44,24 @@ pub fn losses_are_survived()
     ensures safe { IsSafe empty_tree small_image }
     ensures not_safe { (tree : Tree) → IsSafe tree no_disk → ⊥ }
 
-    // So it is of what a stop in any call leaves.
+    // The same holds for what a stop in any call leaves.
     ensures left { (disk : Disk) (before after : Tree) → IsLeftByStop disk before after
         → (tree : Tree) × (((tree ≡ before) ⊎ (tree ≡ after)) × IsSafe tree disk) }
 {}
 
-/// Wherever power is lost in a run, it is survived, and so is each loss behind it.
+/// Wherever power is lost in a run, it is survived, and so is each loss after it.
 pub fn power_loss_is_survived()
     ensures run { (from : SystemState) (operations : List Operation) (to : SystemState) → IsRun from operations to → MayLosePower from to → SurvivesPowerLoss from operations to }
 
-    // It is so of a session on a fresh disk. No disk without blocks is left, and no other tree. Where no operation was begun, the tree is
-    // the one that was there.
+    // A session on a fresh disk may lose power. No disk without blocks is left, and no other tree. Where no operation was begun,
+    // the tree is the one that was there.
     ensures may { MayLosePower fresh_system fresh_system }
     ensures none_begun { (to : SystemState) (run : IsRun fresh_system [] to) (left : Disk) (s : IsSurvived fresh_system [] to run left) → s.tree ≡ empty_tree }
     ensures not_lost { (to : SystemState) (run : IsRun fresh_system (ops.Stat (codes "/") ∷ []) to) → IsSurvived fresh_system (ops.Stat (codes "/") ∷ []) to run no_disk → ⊥ }
     ensures not_changed { (to : SystemState) (run : IsRun fresh_system (ops.Stat (codes "/") ∷ []) to) (s : IsSurvived fresh_system (ops.Stat (codes "/") ∷ []) to run small_image) → s.tree ≡ (λ path. None) → ⊥ }
 {}
 
-/// Power may be lost again and again, but what is lost then isn't the tree.
+/// Power may be lost again and again, but the tree isn't lost.
 pub fn power_is_lost_repeatedly()
     ensures once { LosesPower small_image small_image }
     ensures again { LosesPowerRepeatedly small_image (small_image ∷ small_image ∷ []) }
@@ -70,12 +70,13 @@ pub fn power_is_lost_repeatedly()
     ensures not_in_none { (blocks : Blocks) → IsStoppedSince [] [] blocks → ⊥ }
 {}
 
-/// What stands at the end of a turn is what the definitions have there, so a turn that survives stops survives them.
+/// At its end an operation leaves the tree that the definitions give. So an operation that survives stops survives losses of
+/// power.
 pub fn surviving_steps_survive_loss()
     ensures { (from to : SystemState) (op : Operation) (reply : Reply) → Agrees from.disk from.state → IsSessionStep from op reply to → SurvivesStops from op to → SurvivesLoss from op to }
 {}
 
-/// What a device that obeys holds behind its last call is among what stops leave, also where an error ended the operation.
+/// After its last call a device that conforms holds what a stop may leave. So it is also where an error ended the operation.
 pub fn stops_tell_what_stands()
     ensures left { (disk : Disk) (old new : List Event) (first last : Blocks) (before after : Tree) → old ≢ [] → IsNewest old first → IsNewest new last → AllConform new
         → Survives disk old new before after → EachSince ErasesCleanly old new → FailAsStopped old new

@@ -10,7 +10,7 @@ ghost use Rattle.lfs_model.specs.WrittenContent.{entry_with, pair_bytes, tail_en
 ghost use Rattle.lfs_model.specs.BlockBytes.{file_entries, directory_entries, move_word_entry};
 ghost use Rattle.lfs_model.specs.examples.Images.{view_with, IsRefused, IsReadOnly, root_block, pair_block, image_with};
 
-/// What each pair has of the global state is joined: here two sync bits come to none.
+/// The deltas of all pairs are joined: here two sync bits make none.
 pub fn deltas_are_joined()
     ensures { HasView
         (image_with (root_block (directory_entries 1 (codes "d") (2, 3) ++ tail_entry false (Some (2, 3)) ∷ move_word_entry 0x80000000 (0, 0) ∷ []) 0x39b2fed9 159)
@@ -19,7 +19,7 @@ pub fn deltas_are_joined()
         no_gstate (0 ∷ 1 ∷ 2 ∷ 3 ∷ [])) }
 {}
 
-/// A slot's kind and its struct go together, and each slot has both.
+/// A slot's kind matches its struct, and each slot has both.
 pub fn bad_slot_is_refused()
     ensures file_branch { IsRefused (image_with (root_block (entry_with file_name_type 1 (codes "a") ∷ entry_with directory_struct_type 1 (pair_bytes (2, 3)) ∷ []) 0x8e56fb44 187) []) }
     ensures directory_inline { IsRefused (image_with (root_block (entry_with directory_name_type 1 (codes "a") ∷ entry_with inline_struct_type 1 [] ∷ []) 0xc5617482 195) []) }
@@ -33,7 +33,7 @@ pub fn bad_first_entry_is_refused()
     ensures create_first { IsRefused (image_with (pair_block (entry_with create_type 0 [] ∷ superblock_entry ∷ entry_with inline_struct_type 0 (superblock_bytes 4096 16) ∷ []) 0x914ab51c 200) []) }
 {}
 
-/// What keeps an accepted image from being written.
+/// Which rules keep an accepted image from being written.
 pub fn other_limits_are_read_only()
     ensures charge { IsReadOnly (image_with (root_block (file_entries 1 (codes "a") [] ++ entry_with 0x341 1 (replicate 1022 1) ∷ entry_with 0x342 1 (replicate 400 1) ∷ []) 0xf45b3dfa 45) []) }
     ensures empty_pair { IsReadOnly (image_with (root_block (tail_entry true (Some (2, 3)) ∷ []) 0xef8649c3 192) (pair_block [] 0x43f29ceb 244 ∷ [])) }

@@ -1,6 +1,6 @@
 // The two orders in which a directory may have its names.
 
-/// In which order the names of a directory stand: by their bytes, and where one name is the beginning of another, as this says.
+/// In which order a directory has its names: by their bytes. The order decides where one name is the beginning of another.
 #[derive(Clone, Copy, Debug, PartialEq, Eq)]
 pub enum NameOrder {
     /// The shorter one comes first, as in any dictionary.

@@ -6,7 +6,7 @@ ghost use Rattle.lfs_model.specs.WrittenContent.{tail_entry};
 ghost use Rattle.lfs_model.specs.BlockBytes.{unwritten, filled, file_entries, long_file_entries, directory_entries, move_word_entry};
 ghost use Rattle.lfs_model.specs.examples.Images.{IsRefused, root_block, pair_block, image_with, resized, superblock_with, other_root};
 
-/// The thread has to end, within the disk, and no block may stand in it twice.
+/// The thread must end, within the disk, and must not have a block twice.
 pub fn bad_thread_is_refused()
     // The root's tail names the root.
     ensures itself { IsRefused (image_with (root_block (tail_entry false (Some (0, 1)) ∷ []) 0x19dcec1e 192) []) }
@@ -77,7 +77,7 @@ pub fn bad_move_is_refused()
     ensures other_type { IsRefused (image_with (root_block (move_word_entry 0x00100000 (0, 0) ∷ []) 0xdf2eca91 188) []) }
 {}
 
-/// The superblock says the block size and the block count, and the version 2.0.
+/// The superblock gives the block size, the block count and the version 2.0.
 pub fn bad_superblock_is_refused()
     // The 16 blocks of a fresh image cut to 2, and lengthened by one.
     ensures cut { IsRefused (resized 2) }

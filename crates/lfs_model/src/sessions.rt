@@ -77,7 +77,7 @@ pub fn open_files_are_busy()
         ∷ ops.Refused Busy ∷ ops.Refused Busy ∷ ops.Done ∷ ops.Refused BadFile ∷ ops.Opened 3 ∷ [] }
 {}
 
-/// What a rename replaces, and what it takes along.
+/// What a rename replaces, and what it moves.
 pub fn renames_take_all_along()
     ensures onto_itself { fresh_replies 4096 256 16 (each_at 2
         (ops.Rename (codes "/a") (codes "/a/b/c") ∷ ops.Rename (codes "/") (codes "/a")
@@ -95,7 +95,7 @@ pub fn renames_take_all_along()
         ≡ ops.Done ∷ ops.Opened 0 ∷ ops.Done ∷ ops.Refused NotEmpty ∷ ops.Done ∷ ops.Done
         ∷ ops.Items (record { name = codes "g"; size = Some 0 } ∷ []) ∷ [] }
 
-    // A directory goes with what stands in it, and replaces an empty one.
+    // A directory moves with the entries beneath it, and replaces an empty one.
     ensures directories { fresh_replies 4096 256 64
         ((2, ops.Mkdir (codes "/a")) ∷ (4, ops.Mkdir (codes "/a/b")) ∷ (6, ops.Mkdir (codes "/c")) ∷ each_at 8
         (ops.Open (codes "/a/b/f") for_new ∷ ops.Write 0 (codes "hello") ∷ ops.Rename (codes "/a") (codes "/c")
@@ -123,7 +123,7 @@ pub fn space_is_counted()
         ∷ ops.Close 0 ∷ ops.UsedCount ∷ []))
         ≡ ops.Refused NoSpace ∷ ops.Opened 0 ∷ ops.Count 1 ∷ ops.Refused NoSpace ∷ ops.Done ∷ ops.Count 2 ∷ [] }
 
-    // 5,000 bytes take five blocks. A write elsewhere turns the writer, which then holds them twice.
+    // 5,000 bytes take five blocks. A write elsewhere makes the writer nonsequential, and it then holds them twice.
     ensures not_turned { fresh_replies 1024 128 13
         (each_at 2 (ops.Open (codes "/a") for_new ∷ ops.Write 0 (replicate 5000 7) ∷ ops.Seek 0 10
         ∷ ops.Write 0 (1 ∷ []) ∷ ops.Close 0 ∷ []) ++ (7, ops.Stat (codes "/a")) ∷ [])
@@ -151,7 +151,7 @@ pub fn attributes_are_kept()
         ≡ ops.Opened 0 ∷ ops.Done ∷ ops.Done ∷ ops.Refused EntryFull
         ∷ ops.Bytes (replicate 33 1) ∷ ops.Done ∷ ops.Refused NoAttr ∷ ops.Refused NoAttr ∷ [] }
 
-    // A missing file is told before too many bytes, and those before a full entry.
+    // A missing file is reported before too many bytes, and these before a full entry.
     ensures order { fresh_replies 1024 128 64 (each_at 2
         (ops.SetAttr (codes "/none") 0x41 (replicate 1023 1) ∷ ops.Open (codes "/f") for_new
         ∷ ops.SetAttr (codes "/f") 0x41 (replicate 1023 1) ∷ ops.SetAttr (codes "/f") 0x41 (replicate 1022 1)

@@ -33,7 +33,7 @@ pub fn full_pair_can_be_cut()
         → sum_by raw_slot_size front + sum_by raw_slot_size back ≤ pair_capacity block_size page → length front + length back ≤ slot_limit
         → CanBeCut block_size page (front ++ s ∷ back) }
 
-    // an entry of the profile comes into a pair that fitted
+    // an entry of the profile is added to a pair that fitted
     ensures comes { (block_size page : ℕ) (raw : RawContent) (c old : Content) (id : ℕ) (s : Slot) → 1024 ≤ block_size → IsLogged raw → completed raw ≡ Some c
         → c.slots ≡ insert old.slots id s → FitsEntry block_size page s → FitsPair block_size page old → CanBeCut block_size page raw.slots }
     ensures changes { (block_size page : ℕ) (raw : RawContent) (c old : Content) (front : List Slot) (was s : Slot) (back : List Slot) → 1024 ≤ block_size → IsLogged raw
@@ -60,7 +60,7 @@ pub fn failed_call_leaves_what_a_stop_does()
         → FailAsStopped old new → faults old < faults new → HasFailedWith new blocks → IsLeftByStop (with_blocks blocks disk) before after }
 {}
 
-/// A list has as many bytes as its size says. It stays with them where only other blocks change.
+/// A list has as many bytes as its size gives. It keeps them where only other blocks change.
 pub fn list_keeps_its_bytes()
     ensures size { (disk : Blocks) (block_size block_count head size : ℕ) → 1024 ≤ block_size → IsDivided block_size block_count disk → IsList disk block_size head size
         → length (bytes_of disk block_size head size) ≡ size }
@@ -76,7 +76,7 @@ pub fn blocks_are_counted()
     ensures used { (sets : BlockSets) (bs : List ℕ) → ((b : ℕ) → IsUsed sets b → Contains bs b) → used_count sets ≤ length bs }
 {}
 
-/// A search in the pairs of a directory finds what stands at the name's path, and reads as many pairs as the directory has.
+/// A search in the pairs of a directory finds the entry at the name's path, and reads as many pairs as the directory has.
 pub fn search_finds_what_stands_at_a_path()
     ensures stands { (disk : Disk) (ps : List Pair) (path : Path) (at : ℕ × ℕ) (first pair id : ℕ) (name : Name) → IsAccepted disk ps → gstate_of ps ≡ no_gstate → Leads ps path at
         → BeginsAt ps at first → (s : Stands ps first name pair id) → slot_of_path ps (path ++ name ∷ []) ≡ Some s.stands.slot }

@@ -1,4 +1,4 @@
-// What operations make of slots, and of the pairs in which they stand.
+// What operations make of slots, and of the pairs that have them.
 
 ghost use Rattle.std.specs.Prelude.{◌≡◌, true, false, List, [], ◌∷◌, ◌++◌, filter, replicate, Some, None, codes};
 ghost use Rattle.lfs_model.specs.Disk.{Disk};
@@ -17,7 +17,7 @@ ghost use Rattle.lfs_model.specs.examples.Sessions.{for_new, for_read};
 ghost use Rattle.lfs_model.specs.examples.Images.{small_disk, small_image, large_image};
 ghost use Rattle.lfs_model.specs.examples.Runs.{pair_with, directories_with, two_directories, root_with, heavy_file, listed_file, each_operation, reading_at, writing_at};
 
-/// Which operations recover first, which change where slots stand, and which leave the disk alone.
+/// Which operations recover first, which change where slots are, and which leave the disk alone.
 pub fn operations_are_told_apart()
     ensures recover { filter recovers each_operation
         ≡ ops.Open (codes "/b") for_new ∷ ops.Mkdir (codes "/d") ∷ ops.Remove (codes "/b") ∷ ops.Rename (codes "/a") (codes "/b")
@@ -26,7 +26,7 @@ pub fn operations_are_told_apart()
         ≡ ops.Open (codes "/b") for_read ∷ ops.Read 0 1 ∷ ops.Seek 0 1 ∷ ops.Close 0 ∷ ops.ListAll (codes "/") ∷ ops.Stat (codes "/") ∷ ops.GetAttr (codes "/b") 0x41
         ∷ ops.AskGstate ∷ ops.IsUsed 0 ∷ ops.UsedCount ∷ ops.Remount ∷ [] }
 
-    // A dirty file is committed by a sync and by a close; nothing is done for one that isn't.
+    // A dirty file is committed by a sync and by a close. A file that isn't dirty isn't committed.
     ensures dirty { filter (lays_out (writing_at [] true [])) (ops.Sync 0 ∷ ops.Close 0 ∷ ops.Write 0 [] ∷ ops.Sync 1 ∷ []) ≡ ops.Sync 0 ∷ ops.Close 0 ∷ [] }
     ensures clean { filter (needs_no_call (writing_at [] false [])) each_operation
         ≡ ops.Write 0 [] ∷ ops.Sync 0 ∷ ops.Close 0 ∷ ops.AskGstate ∷ ops.IsUsed 0 ∷ ops.UsedCount ∷ [] }
@@ -44,7 +44,7 @@ pub fn slots_are_edited()
     ensures moved { Edits large_image two_directories (mounted empty_tree) (ops.Rename (codes "/d/a") (codes "/e")) [] two_directories
         (directories_with (new_file (codes "e") ∷ []) []) }
 
-    // The struct goes along: the bytes are the same under the new name.
+    // The struct moves, too: the bytes are the same under the new name.
     ensures other_bytes { Edits large_image (root_with (codes "a") (codes "x")) (mounted empty_tree) (ops.Rename (codes "/a") (codes "/b")) []
         (root_with (codes "a") (codes "x")) (root_with (codes "b") (codes "y")) → ⊥ }
     ensures removed { Edits large_image two_directories (mounted empty_tree) (ops.Remove (codes "/d/a")) [] two_directories (directories_with [] []) }
@@ -53,7 +53,7 @@ pub fn slots_are_edited()
         (root_with (codes "a") []) (root_with (codes "a") (codes "hi")) }
 {}
 
-/// Entries that others replace, and attributes that come and go.
+/// Entries that others replace, and attributes that are set and removed.
 pub fn entries_are_replaced()
     ensures onto { Edits large_image (directories_with (new_file (codes "e") ∷ []) (new_file (codes "a") ∷ [])) (mounted empty_tree) (ops.Rename (codes "/d/a") (codes "/e")) []
         (directories_with (new_file (codes "e") ∷ []) (new_file (codes "a") ∷ [])) (directories_with (new_file (codes "e") ∷ []) []) }
@@ -67,7 +67,7 @@ pub fn entries_are_replaced()
         (root_with (codes "a") []) (root_with (codes "a") []) → ⊥ }
 {}
 
-/// At most an eighth of a block stands in the entry, and more doesn't.
+/// At most an eighth of a block is in the entry, and more isn't.
 pub fn bytes_are_stored()
     ensures inline { Stores small_image (replicate 128 7) (Inline (replicate 128 7)) }
     ensures too_long { Stores small_image (replicate 129 7) (Inline (replicate 129 7)) → ⊥ }
@@ -85,7 +85,7 @@ pub fn pairs_are_cut_and_dropped()
     ensures first_stays { StandFor small_image true ⊥ (pair_with (2, 3) [] None) [] → ⊥ }
 {}
 
-/// A directory goes where it is removed, or where a rename replaces it.
+/// A directory is dropped where it is removed, or where a rename replaces it.
 pub fn replaced_directory_goes()
     ensures removed { removed_directories two_directories (ops.Remove (codes "/d")) ≡ (4, 5) ∷ [] }
     ensures file { removed_directories two_directories (ops.Remove (codes "/d/a")) ≡ [] }

@@ -26,7 +26,7 @@ pub fn stopped_erase_leaves_no_other_log()
     ensures none { (after : Blocks) → Stops (event (Erase 0) (small_block ∷ []) after true) (unwritten 1024 ∷ []) }
     ensures other { (after : Blocks) → Stops (event (Erase 0) (small_block ∷ []) after true) (filled 1024 (small_commit ++ appended_commit) ∷ []) → ⊥ }
 
-    // What is said of stops supposes that an erase which succeeds leaves no other log, either.
+    // The promises about stops suppose that an erase which succeeds leaves no other log, either.
     ensures clean { ErasesCleanly (event (Erase 0) (small_block ∷ []) (unwritten 1024 ∷ []) false) }
     ensures not_clean { ErasesCleanly (event (Erase 0) (small_block ∷ []) (filled 1024 (small_commit ++ appended_commit) ∷ []) false) → ⊥ }
 
@@ -35,7 +35,7 @@ pub fn stopped_erase_leaves_no_other_log()
     ensures not_stopped { FailsAsStopped (event (Erase 0) (small_block ∷ []) (filled 1024 (small_commit ++ appended_commit) ∷ []) true) → ⊥ }
 {}
 
-/// A call that was obeyed left what a stop in it may leave.
+/// A call that conforms left what a stop in it may leave.
 pub fn conforming_call_leaves_what_a_stop_may()
     ensures { (history : List Event) (e : Event) → AllConform history → Contains history e → e.failed ≡ false → ErasesCleanly e → Stops e e.after }
 {}
@@ -45,8 +45,8 @@ pub fn repeated_byte_has_no_log()
     ensures { (size byte : ℕ) → byte < 256 → HasNoLog (replicate size byte) }
 {}
 
-/// What is supposed of all calls of a device is so of those since any moment. Where no call was made it holds, and a truncated
-/// fact that it holds is as good as the fact.
+/// Premises about all calls of a device hold for the calls since any older history. An empty history meets the premises. A
+/// truncated proof of the premises is enough.
 pub fn premises_hold_since_any_moment()
     ensures none { MeetsPremises [] }
     ensures held { (history : List Event) → ∥ MeetsPremises history ∥₁ → MeetsPremises history }

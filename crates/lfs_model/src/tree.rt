@@ -11,8 +11,7 @@ ghost use Rattle.lfs_model.specs.Operations as ops;
 ghost use Rattle.lfs_model.specs.Listing.{Entry, IsWalkOf, lines_of, IsListing, MakeDirectory, PutFile, IsUnpacking, new_file_flags, IsCarryingOver};
 ghost use Rattle.lfs_model.specs.examples.Images.{tree_with, small_nodes};
 
-/// Whatever the pairs, what they show is a tree: each node stands in a directory that has its name, and each name of a
-/// directory has a node.
+/// Whatever the pairs, they show a tree: each node is in a directory that has its name, and each name of a directory has a node.
 pub fn tree_is_whole()
     ensures root { (disk : Disk) (ps : List Pair) → (names : List Name) × (tree_in disk ps [] ≡ Some (DirectoryNode [] names)) }
     ensures parent { (disk : Disk) (ps : List Pair) (path : Path) (name : Name) (node : Node) → tree_in disk ps (path ++ name ∷ []) ≡ Some node
@@ -21,7 +20,7 @@ pub fn tree_is_whole()
         → tree_in disk ps path ≡ Some (DirectoryNode attributes names) → Contains names name → is_some (tree_in disk ps (path ++ name ∷ [])) ≡ true }
 {}
 
-/// How a tree of a file, a directory and an empty file in it is listed, unpacked and carried over.
+/// How a tree of a file, a directory and an empty file in it is listed, unpacked and copied.
 pub fn tree_is_listed()
     ensures lines { IsListing (tree_with small_nodes) (codes "f 5 /a\nd 0 /d\nf 0 /d/x\n") }
     ensures actions { IsUnpacking (tree_with small_nodes) (PutFile (codes "/a") (codes "hello") ∷ MakeDirectory (codes "/d") ∷ PutFile (codes "/d/x") [] ∷ []) }

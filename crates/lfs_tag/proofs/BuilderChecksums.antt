@@ -56,7 +56,7 @@ len_is kind size small = omega arith
 
 -- ---- nothing follows
 
--- what the bytes behind the commit give as a tag
+-- what the bytes after the commit give as a tag
 top_of : (tag stored turn : ℕ) → tag < 2 ^ 31 → stored / 2 ^ 31 + turn ≡ 1 → bit_xor stored (bit_xor tag (turn * 2 ^ 31)) / 2 ^ 31 ≡ 1
 top_of tag stored turn lt is =
     let none : tag / 2 ^ 31 ≡ 0 = omega arith in

@@ -33,13 +33,13 @@ entry_read block rest at before e valid size fits here =
       bytes = sym (ap (take (data_size e.tag)) behind ∙ ap (λ (n : ℕ). take n (e.bytes ++ rest)) (sym size) ∙ take-append_seam e.bytes rest);
     })
 
--- one entry in front of a commit
+-- one entry before a commit
 commit_cons : (block : List ℕ) (start at before : ℕ) (e : LogEntry) (es : List LogEntry) (end last : ℕ) → entry_at block at before ≡ Some e → is_checksum e ≡ false
     → IsCommit block start (past at e) e.tag es end last → IsCommit block start at before (e ∷ es) end last
 commit_cons block start at before e [] end last is other rest = absurd rest
 commit_cons block start at before e (f ∷ es) end last is other rest = (is, other, rest)
 
--- entries as they are stored, in front of a checksum's
+-- entries as they are stored, before a checksum's
 pub entries_read : (block rest : List ℕ) (start at before : ℕ) (es : List LogEntry) (ck : LogEntry) (end last : ℕ) → AreStorable before es → drop at block ≡ stored before es ++ rest
     → IsCommit block start (at + entries_size es) (last_tag before es) (ck ∷ []) end last → IsCommit block start at before (es ++ ck ∷ []) end last
 entries_read block rest start at before [] ck end last all here base = rw add-zero at base

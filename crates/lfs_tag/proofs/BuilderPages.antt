@@ -78,7 +78,7 @@ module _ (b : Building) (next : Option (List ℕ)) (pages : List ℕ) (last sum 
       ∙ ap (λ (n : ℕ). drop n ((front_of b ++ tag_bytes) ++ (little_bytes 4 sum ++ pad))) from ∙ drop-append_seam (front_of b ++ tag_bytes) (little_bytes 4 sum ++ pad) in
       rw rest refl
 
-  -- what is behind the checksum
+  -- what is after the checksum
   padding_is : drop (checksum_start b + 8) pages ≡ pad
   padding_is =
       let front = front_of b ++ (tag_bytes ++ little_bytes 4 sum) in
@@ -116,7 +116,7 @@ one_more : (commits : List (List LogEntry)) (end : ℕ) → 0 < length commits �
 one_more [] end some = absurd (omega arith)
 one_more (c ∷ cs) end some = refl
 
--- behind the chain of a block
+-- after the chain of a block
 behind_chain : (block pages rest : List ℕ) (at previous : ℕ) (es : List LogEntry) (end last : ℕ) → at ≤ length block → 0 < length (chain_of block).commits → at ≡ (chain_of block).end
     → previous ≡ (chain_of block).last → IsCommit (take at block ++ (pages ++ rest)) at at previous es end last → commit_at (take at block ++ (pages ++ rest)) end end last ≡ None
     → chain_of (take at block ++ (pages ++ rest)) ≡ record { commits = (chain_of block).commits ++ es ∷ []; end = end; last = last }

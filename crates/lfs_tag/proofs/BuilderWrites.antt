@@ -36,14 +36,14 @@ take-overwritten at n old bytes le is =
     ap (λ (m : ℕ). take m (overwritten old at bytes)) (is ∙ sym (length-front at old bytes le))
     ∙ take-append_seam (take at old ++ bytes) (drop (at + length bytes) old)
 
--- and behind it
+-- and after it
 pub drop-overwritten : (at n more : ℕ) (old bytes : List ℕ) → at ≤ length old → n ≡ at + length bytes + more → drop n (overwritten old at bytes) ≡ drop n old
 drop-overwritten at n more old bytes le is =
     ap (λ (m : ℕ). drop m (overwritten old at bytes)) (is ∙ ap (λ (m : ℕ). m + more) (sym (length-front at old bytes le)))
     ∙ drop-append-add (take at old ++ bytes) (drop (at + length bytes) old) more
     ∙ drop-drop more (at + length bytes) old ∙ ap (λ (m : ℕ). drop m old) (sym is)
 
--- two writes, one behind the other
+-- two writes, one after the other
 pub overwritten-twice : (at second : ℕ) (old xs ys : List ℕ) → at + length xs ≤ length old → second ≡ at + length xs → overwritten (overwritten old at xs) second ys ≡ overwritten old at (xs ++ ys)
 overwritten-twice at second old xs ys le is =
     let front = take-overwritten at second old xs (omega arith) is in

@@ -10,7 +10,7 @@ use Rattle.lfs_model.specs.Log.{LogEntry}
 use Rattle.lfs_model.specs.Content.{RawSlot, RawContent, empty_slot, slot_of_id, changed, up_to, typed, with_attribute, slots_after, content_after}
 use Rattle.lfs_model.specs.EntryTypes.{is_in_table, has_its_id, removes, create_type, delete_type}
 
--- the slots before an entry and behind it
+-- the slots before an entry and after it
 pub data Effect (s t : List RawSlot) (e : LogEntry) : Type 0 where
   rests : 5 ≤ class_of e.tag → t ≡ s → Effect s t e
   names : class_of e.tag ≡ 0 → removes e.tag ≡ false → t ≡ changed (λ r. record r { name = typed e }) (up_to s (id_of e.tag)) (id_of e.tag) → Effect s t e

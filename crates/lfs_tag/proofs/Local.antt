@@ -81,7 +81,7 @@ chain_moves front x y start at before (c ∷ cs) end last le within h =
 
 -- ---- one commit more
 
--- where the next commit begins: behind the chain, or where the chain would
+-- where the next commit begins: after the chain, or where the chain would
 abbrev pub next_start : List (List LogEntry) → ℕ → ℕ → ℕ
 next_start [] start end = start
 next_start (c ∷ cs) start end = end
@@ -105,7 +105,7 @@ chain_is block start at before (c ∷ d ∷ cs) end last h none =
     chain_on block start at before (record { entries = c; end = h.0; last = h.1 }) (commit_complete block start at before c h.0 h.1 h.2)
     ∙ ap (with_commit c) (chain_is block h.0 h.0 h.1 (d ∷ cs) end last h.3 none)
 
--- one commit more, behind a chain that ends at the end of the front
+-- one commit more, after a chain that ends at the end of the front
 pub appended : (front x y : List ℕ) (es : List LogEntry) (end last : ℕ) → (chain_of (front ++ x)).end ≡ length front
     → IsCommit (front ++ y) (next_start (chain_of (front ++ x)).commits 0 (length front)) (length front) (chain_of (front ++ x)).last es end last
     → commit_at (front ++ y) end end last ≡ None

@@ -38,7 +38,7 @@ put_same type bytes (a ∷ xs) x lt same = elim (cases_order type a.0) [
       rw (l, t, e) (ap (λ (ys : Attributes). a ∷ ys) (put_same type bytes xs x (let m = rw l at lt in omega arith) (rw l at same)))
 ]
 
--- no attribute of that type stands there
+-- no attribute of that type is there
 pub put_other : (type : ℕ) (bytes : List ℕ) (xs : Attributes) (x : ℕ × List ℕ) → (first_not_below type xs < length xs → (get_or xs (first_not_below type xs) x).0 ≡ type → ⊥)
     → put_attribute type bytes xs ≡ insert xs (first_not_below type xs) (type, bytes)
 put_other type bytes [] x other = refl

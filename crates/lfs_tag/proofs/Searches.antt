@@ -41,7 +41,7 @@ bytes_of_part type s = either (eqb (type / 2 ^ 8) 0) (eqb (type / 2 ^ 8) 2) (eqb
     either false false true = attribute (attribute_of (type % 2 ^ 8) s.attributes)
     either false false false = refl
 
--- what an entry says of a type and an id is what the slots behind it hold
+-- what an entry says of a type and an id is what the slots after it hold
 abbrev Finds : LogEntry → ℕ → ℕ → List RawSlot → List RawSlot → Type 0
 Finds e type i s t = settled (verdict_of e type i) (part_at s type) ≡ part_at t type i
 

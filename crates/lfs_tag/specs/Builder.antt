@@ -6,8 +6,8 @@ use Rattle.lfs_model.specs.Commit.{entries_size, page_end, next_at, checksum_typ
 use Rattle.lfs_model.specs.EntryTypes.{no_id}
 use Rattle.lfs_model.specs.Blocks.{overwritten}
 
--- The entries so far, for a buffer of `room` bytes. `previous` is what the last tag before the commit carries. A block's
--- first commit has the block's revision.
+-- The entries so far, for a buffer of `room` bytes. `previous` is what the commit's first tag is decoded with. A block's first
+-- commit has the block's revision.
 pub record Building : Type 0 where
   pub page : ℕ
   pub room : ℕ
@@ -19,12 +19,12 @@ pub record Building : Type 0 where
 abbrev pub with_entry : LogEntry → Building → Building
 with_entry e b = record b { entries = b.entries ++ e ∷ [] }
 
--- the revision stands before the first entry
+-- the revision is before the first entry
 abbrev pub entries_start : Option ℕ → ℕ
 entries_start None = 0
 entries_start (Some revision) = 4
 
--- where the checksum's tag stands
+-- where the checksum's tag is
 abbrev pub checksum_start : Building → ℕ
 checksum_start b = entries_start b.revision + entries_size b.entries
 
@@ -42,7 +42,7 @@ checksum_entry b next pages = record { tag = checksum_tag b next; bytes = drop (
 
 -- ---- the log
 
--- Where a commit goes in a block: a first one to its beginning, another one to the end of the chain.
+-- Where a commit is in a block: a first one at the block's beginning, another one at the end of the chain.
 abbrev pub GoesTo : Option ℕ → ℕ → List ℕ → ℕ → Type 0
 GoesTo None previous block at = (0 < length (chain_of block).commits) × (at ≡ (chain_of block).end) × (previous ≡ (chain_of block).last)
 GoesTo (Some revision) previous block at = (at ≡ 0) × (previous ≡ 0xffffffff)
@@ -52,8 +52,8 @@ abbrev pub earlier : Option ℕ → List ℕ → List (List LogEntry)
 earlier None block = (chain_of block).commits
 earlier (Some revision) block = []
 
--- Pages that are the commit: in a block where they go, in front of the bytes that were told, the log has the earlier
--- commits and exactly this one.
+-- Pages that are the commit. In the block they are before the bytes `next`. Then the log has the earlier commits and exactly this
+-- one.
 pub record AreCommitted (b : Building) (next : Option (List ℕ)) (pages : List ℕ) : Type 0 where
   pub log : (block : List ℕ) (at : ℕ) → GoesTo b.revision b.previous block at → at + length pages ≤ length block → next_at block (at + length pages) ≡ next
       → chain_of (overwritten block at pages) ≡ record {

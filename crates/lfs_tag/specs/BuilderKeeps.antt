@@ -7,7 +7,7 @@ use Rattle.lfs_model.specs.Commit.{stored}
 use Rattle.lfs_model.specs.Geometry.{is_page}
 use Rattle.lfs_tag.specs.Builder.{Building, checksum_start}
 
--- what the last of the tags carries
+-- what the last of the tags is carried as
 abbrev pub last_tag : ℕ → List LogEntry → ℕ
 last_tag before [] = before
 last_tag before (e ∷ es) = last_tag (carried e.tag) es
@@ -16,11 +16,11 @@ abbrev pub revision_bytes : Option ℕ → List ℕ
 revision_bytes None = []
 revision_bytes (Some revision) = little_bytes 4 revision
 
--- all before the checksum
+-- all bytes before the checksum
 abbrev pub front_of : Building → List ℕ
 front_of b = revision_bytes b.revision ++ stored b.previous b.entries
 
--- an entry that is no checksum, and is read as what it is
+-- an entry that is no checksum, and is read as the same entry
 pub record IsStorable (before : ℕ) (e : LogEntry) : Type 0 where
   pub valid : IsValid e.tag
   pub other : is_checksum e ≡ false
@@ -31,7 +31,7 @@ abbrev pub AreStorable : ℕ → List LogEntry → Type 0
 AreStorable before [] = Unit {0}
 AreStorable before (e ∷ es) = IsStorable before e × AreStorable (carried e.tag) es
 
--- what a builder keeps: how many bytes there are, whether they fit or not, the last tag, and the bytes where they fit
+-- The fields of a builder: how many bytes there are, whether they fit or not, the last tag, and the bytes where they fit.
 pub record Keeps (page len last : ℕ) (buf : List ℕ) (b : Building) : Type 0 where
   pub page_is : page ≡ b.page
   pub power : is_page b.page ≡ true

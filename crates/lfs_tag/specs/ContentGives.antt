@@ -1,21 +1,21 @@
--- What a step of a content, or its reading, answers.
+-- What a step of a content, or its reading, returns.
 use Rattle.std.specs.Prelude.{◌≡◌, Result, Ok, Err, Option, Some, None}
 use Rattle.lfs_tag.specs.declared.content.ContentError.{ContentError}
 use Rattle.lfs_tag.specs.declared.content.ContentError.TheVariants as errors
 use Rattle.lfs_device.specs.declared.error.Error.{Error}
 use Rattle.lfs_device.specs.declared.error.Error.TheVariants.{Corrupt, NoMemory}
 
--- an error is the malformed log, or want of memory, which may come at any log
+-- The error is that of a malformed log, or of memory that wasn't granted, which may come at any log.
 abbrev pub ContentFails : {S : Type 0} → ContentError → Option S → Type 0
 ContentFails errors.NoMemory o = Unit {0}
 ContentFails errors.Malformed o = o ≡ None
 
--- what was computed is what is left, unless memory ran out
+-- the value that was computed is left, unless memory ran out
 abbrev pub Gives : {X S : Type 0} → (X → S) → Result X ContentError → Option S → Type 0
 Gives view (Ok x) o = o ≡ Some (view x)
 Gives view (Err e) o = ContentFails e o
 
--- as the file system's error
+-- the same as the file system's error
 abbrev pub error_of : ContentError → Error
 error_of errors.Malformed = Corrupt
 error_of errors.NoMemory = NoMemory

@@ -1,4 +1,4 @@
--- The content of the code, in the words of the definitions: without where its bytes lie in memory.
+-- The content of the code, as the definitions have it: without where its bytes are in memory.
 use Rattle.std.specs.Prelude.{ℕ, suc, if◌then◌else◌, nat_le, List, [], ◌∷◌, map}
 use Rattle.std.specs.Option.{option_map}
 use Rattle.lfs_model.specs.Slots.{Attributes, address_of}
@@ -34,7 +34,7 @@ content_view c = record {
   move = move_view c.move_state;
 }
 
--- where the first attribute of a type or a greater one stands, or past the end
+-- the place of the first attribute of a type or a greater one, or the length
 abbrev pub first_not_below : ℕ → Attributes → ℕ
 first_not_below type [] = 0
 first_not_below type (a ∷ others) = if nat_le type a.0 then 0 else suc (first_not_below type others)

@@ -1,4 +1,4 @@
--- The fields of the code, in the words of the definitions.
+-- The fields of the code, as the definitions have them.
 use Rattle.lfs_model.specs.Slots.{Gstate, address_of}
 use Rattle.lfs_model.specs.EntryTypes.{SuperblockFields}
 use Rattle.lfs_tag.specs.declared.fields.Superblock.{Superblock}

@@ -1,4 +1,4 @@
--- How each slot's name stands to a wanted one, kept while a log's entries are taken forward.
+-- The order of each slot's name and a wanted one, made by applying a log's entries in order.
 use Rattle.std.specs.Prelude.{ℕ, ◌+◌, ◌-◌, ◌==◌, ◌&&◌, not, nat_lt, nat_le, if◌then◌else◌, Bool, false, List, [], ◌∷◌, ◌++◌, length, replicate, slice_set, Option, Some, None}
 use Rattle.std.specs.Option.{option_map, option_map_or}
 use Rattle.std.specs.List.{insert, remove}
@@ -12,25 +12,25 @@ use Rattle.lfs_model.specs.Content.{RawSlot}
 use Rattle.lfs_model.specs.EntryTypes.{create_type, superblock_name_type}
 use Rattle.lfs_model.specs.Lookup.{entry_name}
 
--- how a wanted name stands to a slot's; none where the slot has no name that is looked up
+-- the order of a wanted name and a slot's; none where the slot has no name that is looked up
 abbrev pub rank_of : NameOrder → Name → RawSlot → Option Ordering
 rank_of order name s = option_map (name_cmp order name) (entry_name s)
 
--- to the name that an entry gives a slot
+-- the order of the wanted name and the name that an entry gives a slot
 abbrev pub entry_rank : NameOrder → Name → LogEntry → Option Ordering
 entry_rank order name e = if kind_of e.tag == superblock_name_type then None else Some (name_cmp order name e.bytes)
 
 abbrev pub ranks_up_to : List (Option Ordering) → ℕ → List (Option Ordering)
 ranks_up_to ranks id = ranks ++ replicate (id + 1 - length ranks) None
 
--- the ranks behind a create or a delete
+-- the ranks after a create or a delete
 abbrev pub spliced : List (Option Ordering) → LogEntry → List (Option Ordering)
 spliced ranks e =
     if kind_of e.tag == create_type
     then (if nat_le (id_of e.tag) (length ranks) then insert ranks (id_of e.tag) None else ranks)
     else (if nat_lt (id_of e.tag) (length ranks) then remove ranks (id_of e.tag) else ranks)
 
--- the ranks behind an entry, and behind all of these
+-- the ranks after an entry, and after all of these
 abbrev pub ranks_after : NameOrder → Name → List (Option Ordering) → LogEntry → List (Option Ordering)
 ranks_after order name ranks e =
     if class_of e.tag == 0 then slice_set (ranks_up_to ranks (id_of e.tag)) (id_of e.tag) (entry_rank order name e)
@@ -42,7 +42,7 @@ ranks_after_all order name ranks (e ∷ es) = ranks_after_all order name (ranks_
 
 -- ---- the first slot
 
--- what is looked for: a name, or one behind it
+-- the wanted rank: of the name itself, or of a greater one
 abbrev pub is_wanted : Bool → Ordering → Bool
 is_wanted same Less = not same
 is_wanted same Equal = same
@@ -54,7 +54,7 @@ is_skipped skip id = option_map_or (λ k. k == id) skip false
 abbrev pub is_first : Bool → Option ℕ → ℕ → Option Ordering → Bool
 is_first same skip id rank = option_map_or (is_wanted same) rank false && not (is_skipped skip id)
 
--- the first wanted one of the slots from an id on, or the id past them
+-- the first wanted one of the slots from an id on, or the number of slots
 abbrev pub first_from : Bool → Option ℕ → ℕ → List (Option Ordering) → ℕ
 first_from same skip id [] = id
 first_from same skip id (rank ∷ ranks) = if is_first same skip id rank then id else first_from same skip (id + 1) ranks

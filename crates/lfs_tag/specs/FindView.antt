@@ -1,4 +1,4 @@
--- What a search for a name answers.
+-- What a search for a name returns.
 use Rattle.std.specs.Prelude.{ℕ, List, Option}
 use Rattle.lfs_model.specs.declared.order.NameOrder.{NameOrder}
 use Rattle.lfs_model.specs.Content.{RawSlot}

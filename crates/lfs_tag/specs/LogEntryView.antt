@@ -1,4 +1,4 @@
--- An entry, without where it lies in memory.
+-- An entry, without where it is in memory.
 use Rattle.lfs_tag.specs.declared.entry.Entry.{Entry}
 use Rattle.lfs_model.specs.Log.{LogEntry}
 

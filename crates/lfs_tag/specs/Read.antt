@@ -1,4 +1,4 @@
--- What a `Log` keeps is what its block says.
+-- The fields of a `Log` agree with its block.
 use Rattle.std.specs.Prelude.{◌≡◌}
 use Rattle.lfs_tag.specs.declared.log.Log.TheInside.{Inside}
 use Rattle.lfs_model.specs.Log.{chain_of, revision_of}

@@ -5,7 +5,7 @@ use Rattle.lfs_model.specs.Log.{LogEntry}
 use Rattle.lfs_model.specs.EntryTypes.{create_type, removes}
 use Rattle.lfs_model.specs.Content.{typed}
 
--- What an entry says of an id behind it: what is held for it, its type and its bytes, or which id it was before the entry.
+-- What an entry means for an id after it: what the slot holds, its type and its bytes, or which id the slot had before the entry.
 pub data Verdict : Type 0 where
   Holds : (part : Option (ℕ × List ℕ)) → Verdict
   Was : (id : ℕ) → Verdict
@@ -15,7 +15,7 @@ abbrev pub is_about : LogEntry → ℕ → ℕ → Bool
 is_about e type id =
     id_of e.tag == id && (nat_lt (class_of e.tag) 4 && (class_of e.tag == type / 2 ^ 8 && (not (class_of e.tag == 3) || kind_of e.tag == type)))
 
--- what a create or a delete says
+-- what a create or a delete means
 abbrev pub splice_verdict : LogEntry → ℕ → Verdict
 splice_verdict e id =
     if kind_of e.tag == create_type
@@ -27,12 +27,12 @@ verdict_of e type id =
     if class_of e.tag == 4 then splice_verdict e id
     else (if is_about e type id then Holds (if removes e.tag then None else typed e) else Was id)
 
--- what a verdict comes to, where `before` is what the entries before say of an id
+-- what a verdict comes to, where `before` is what the earlier entries hold for an id
 abbrev pub settled : Verdict → (ℕ → Option (ℕ × List ℕ)) → Option (ℕ × List ℕ)
 settled (Holds part) before = part
 settled (Was id) before = before id
 
--- what entries say of a type and an id, the newest first; it may be of another type of that class
+-- what entries hold for a type and an id, the newest first; it may be of another type of that class
 abbrev pub found : List LogEntry → ℕ → ℕ → Option (ℕ × List ℕ)
 found [] type id = None
 found (e ∷ es) type id = settled (verdict_of e type id) (λ i. found es type i)

@@ -1,4 +1,4 @@
--- What a log comes to but for its slots: how many they are, and whether each has a name and a struct.
+-- The content of a log without its slots: how many there are, and whether each has a name and a struct.
 use Rattle.std.specs.Prelude.{◌≡◌, ℕ, ◌+◌, ◌-◌, ◌==◌, ◌&&◌, not, nat_lt, nat_le, if◌then◌else◌, Bool, true, false, List, [], ◌∷◌, ◌++◌, length, map, replicate, slice_set, slice_index_or, Option, Some, None, is_some}
 use Rattle.std.specs.Option.{option_map, option_and_then}
 use Rattle.std.specs.List.{insert, remove}
@@ -53,7 +53,7 @@ marks_up_to marks id = marks ++ replicate (id + 1 - length marks) no_mark
 abbrev pub is_whole : Mark → Bool
 is_whole m = m.has_name && m.has_struct
 
--- as the slots behind an entry
+-- the marks after an entry, or none where the entry isn't allowed there
 abbrev pub marks_after : List Mark → LogEntry → Option (List Mark)
 marks_after marks e =
     if class_of e.tag == 0 then Some (marked (λ m. record m { has_name = true }) (marks_up_to marks (id_of e.tag)) (id_of e.tag))
@@ -63,7 +63,7 @@ marks_after marks e =
     else (if class_of e.tag == 2 then Some (marked (λ m. record m { has_struct = true }) marks (id_of e.tag))
     else Some marks))))
 
--- as the content behind an entry
+-- the outline after an entry, or none where the log is malformed
 abbrev pub outline_after : Outline → LogEntry → Option Outline
 outline_after o e =
     if class_of e.tag == 5 then Some o

@@ -1,4 +1,4 @@
--- A verdict of the code, without where its bytes lie in memory.
+-- A verdict of the code, without where its bytes are in memory.
 use Rattle.std.specs.Option.{option_map}
 use Rattle.lfs_tag.specs.ContentView.{part_view}
 use Rattle.lfs_tag.specs.Search.{Verdict, Holds, Was}

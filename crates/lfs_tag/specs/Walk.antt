@@ -1,4 +1,4 @@
--- What is left of a walk over a log's entries.
+-- The entries that are left of a walk over a log.
 use Rattle.std.specs.Prelude.{List}
 use Rattle.lfs_tag.specs.declared.entries.Entries.TheInside.{Inside}
 use Rattle.lfs_model.specs.Log.{LogEntry, IsRun, entries_between}

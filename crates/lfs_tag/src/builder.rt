@@ -1,4 +1,4 @@
-// Commits, written.
+// Commits that are built in a buffer.
 
 ghost use Rattle.std.specs.Prelude.{◌≡◌, ℕ, IfSome, slice_index, ◌≢◌, ◌+◌, ◌-◌, ◌≤◌, ◌<◌, ◌^◌, ◌++◌, [], ◌↔◌, length, take, min, true, replicate, IsOk, IfOk, IfErr};
 ghost use Rattle.byteorder.specs.Endian.{big_bytes, little_bytes};
@@ -19,11 +19,11 @@ use byteorder::{BigEndian, ByteOrder, LittleEndian};
 use lfs_device::Error;
 use std::marker::Model;
 
-/// A commit that is being built in a buffer: entries, then the checksum and the padding to a page
+/// A commit that is built in a buffer: entries, then the checksum and the padding to a page
 /// (SPEC.md of littlefs, "Metadata pairs" and "0x5xx LFS_TYPE_CRC").
 ///
-/// The buffer stands for the bytes of a block from where its log ends, and for a first commit from
-/// the beginning of the block. It may be longer than the commit.
+/// The buffer is for the bytes of a block from its log's end on, or from its beginning for a first
+/// commit. It may be longer than the commit.
 #[derive(Drop)]
 pub struct CommitBuilder<'a> {
     page: usize,
@@ -46,7 +46,7 @@ impl<'a> Model for CommitBuilder<'a> {
     ghost invariant = { IsBuilt };
 }
 
-// Writes the revision of a block where there is room, and says how many bytes it takes.
+// Writes the revision of a block where there is room. Returns how many bytes it takes.
 fn write_revision(buf: &mut [u8], revision: u32) -> usize
     ensures value { result ≡ 4 }
     ensures len { length buf.new ≡ length buf.old }
@@ -58,7 +58,7 @@ fn write_revision(buf: &mut [u8], revision: u32) -> usize
     4
 }
 
-// Writes a stored tag and the bytes behind it.
+// Writes a stored tag and the bytes after it.
 fn put_entry(buf: &mut [u8], at: usize, stored: u32, bytes: &[u8])
     requires { at + 4 + length bytes.now ≤ length buf.old }
     ensures { buf.new ≡ overwritten buf.old at (big_bytes 4 stored ++ bytes.now) }
@@ -68,7 +68,7 @@ fn put_entry(buf: &mut [u8], at: usize, stored: u32, bytes: &[u8])
     buf[start..start + bytes.len()].copy_from_slice(bytes);
 }
 
-// Does so where there is room, and says where the bytes end, or would.
+// Writes a stored tag and its bytes where there is room. Returns where they end, or would end.
 fn write_entry(buf: &mut [u8], at: usize, stored: u32, bytes: &[u8]) -> usize
     ensures end { result ≡ min (at + 4 + length bytes.now) (2 ^ 64 - 1) }
     ensures exact { result ≤ length buf.old → result ≡ at + 4 + length bytes.now }
@@ -83,7 +83,7 @@ fn write_entry(buf: &mut [u8], at: usize, stored: u32, bytes: &[u8]) -> usize
     end
 }
 
-// Writes the checksum's stored tag, the checksum of all bytes up to there, and the padding.
+// Writes the checksum's stored tag, the checksum of all bytes before it, and the padding.
 fn seal(buf: &mut [u8], at: usize, stored: u32, end: usize)
     requires room { at + 8 ≤ end }
     requires within { end ≤ length buf.old }
@@ -98,7 +98,7 @@ fn seal(buf: &mut [u8], at: usize, stored: u32, end: usize)
     buf[at + 8..end].fill(0xff);
 }
 
-// The checksum's tag, where it has so many bytes.
+// Returns the checksum's tag for so many bytes.
 fn checksum_tag(next: Option<[u8; 4]>, size: usize) -> Tag
     requires { size < 2 ^ 10 }
     ensures tag { result ≡ tag_with (checksum_type next) no_id size }
@@ -113,11 +113,11 @@ fn checksum_tag(next: Option<[u8; 4]>, size: usize) -> Tag
 }
 
 impl<'a> CommitBuilder<'a> {
-    /// An empty commit, for pages of a size from 8 to 512 that is a power of two.
+    /// Makes an empty commit, for pages of 8 to 512 bytes. A page is a power of two.
     ///
-    /// With a revision it is a block's first commit: the revision stands before its entries, and
+    /// With a revision it is a block's first commit: the revision is before its entries, and
     /// `previous` is 0xffffffff. Else `previous` is the last tag of the block's log, as the next
-    /// one is decoded with it.
+    /// tag is decoded with it.
     pub fn new(
         page: u32,
         buf: &'a mut [u8],
@@ -146,8 +146,9 @@ impl<'a> CommitBuilder<'a> {
         }
     }
 
-    /// Adds an entry: a valid tag that is no checksum, and as many bytes as its length says, where
-    /// 0x3ff says none. What doesn't fit the buffer is only counted, and then the end refuses.
+    /// Adds an entry. The tag is valid and no checksum's, and `bytes` are as many as its length
+    /// says; the length 0x3ff says none. Bytes that don't fit the buffer are only counted, and then
+    /// [`finish`](CommitBuilder::finish) fails.
     pub fn push(&mut self, tag: Tag, bytes: &[u8])
         requires valid { IsValid tag }
         requires other { class_of tag ≢ 5 }
@@ -163,7 +164,7 @@ impl<'a> CommitBuilder<'a> {
         self.last = tag;
     }
 
-    // Where the padded commit ends, or the greatest number where it would be past that.
+    // Returns where the padded commit ends, or the greatest number where the end is past that.
     fn padded_end(&self) -> usize
         ensures { result ≡ min (padded_end self.now) (2 ^ 64 - 1) }
     {
@@ -173,17 +174,17 @@ impl<'a> CommitBuilder<'a> {
             .unwrap_or(usize::MAX)
     }
 
-    /// Where the padded commit will end, in bytes from the buffer's start, whether it fits the
-    /// buffer or not. It is `u32::MAX` where the end is past that.
+    /// Returns where the padded commit will end, in bytes from the buffer's start. The end may be
+    /// past the buffer's. Returns `u32::MAX` where the end is past that.
     pub fn end(&self) -> u32
         ensures { result ≡ min (padded_end self.now) (2 ^ 32 - 1) }
     {
         u32::try_from(self.padded_end()).unwrap_or(u32::MAX)
     }
 
-    /// The commit's last tag, as the next one in the block is stored with it. `next` is what
-    /// [`finish`](CommitBuilder::finish) is to be given. That the commit fits the buffer is the
-    /// caller's condition.
+    /// Returns the commit's last tag, as the next tag in the block is stored with it. `next` is the
+    /// argument that [`finish`](CommitBuilder::finish) will get. The caller's condition is that the
+    /// commit fits the buffer.
     pub fn last(&self, next: Option<[u8; 4]>) -> Tag
         requires { padded_end self.now ≤ self.now.room }
         ensures { result ≡ carried (checksum_entry_tag self.now next) }
@@ -192,12 +193,12 @@ impl<'a> CommitBuilder<'a> {
         checksum_tag(next, size).carried()
     }
 
-    /// The commit's pages, to be programmed where it goes. `next` is the four bytes of the block
-    /// behind them, or none at the block's end. The checksum's type is chosen so that they decode
-    /// as an invalid tag, since an erase may leave any bytes; the padding is 0xff.
+    /// Returns the commit's pages, which the caller programs into the block. `next` is the four
+    /// bytes of the block after them, or None at the block's end. An erase may leave any bytes, so
+    /// the checksum's type is chosen such that `next` decodes as an invalid tag. The padding is
+    /// 0xff.
     ///
-    /// `TooBig` exactly where the padded commit doesn't fit the buffer, whose bytes are then
-    /// without meaning.
+    /// Errors: `TooBig` exactly where the padded commit doesn't fit the buffer.
     pub fn finish(self, next: Option<[u8; 4]>) -> Result<&'a [u8], Error>
         ensures fits { IsOk result ↔ (padded_end self.entry ≤ self.entry.room) }
         ensures error { IfErr result (λ e. e ≡ Error.TooBig) }

@@ -5,13 +5,13 @@ ghost use Rattle.lfs_model.specs.Crc.{crc_of, IsChecksum};
 
 use crate::crc_table::{after_byte, after_eight};
 
-/// The CRC-32 of bytes that follow those with the checksum `start`: polynomial 0x04c11db7, lowest bit
-/// first. Nothing is inverted, so that the checksum of a commit begins at 0xffff_ffff and goes on
-/// from part to part (SPEC.md of littlefs, "CRC").
+/// Returns the CRC-32 of bytes that follow those with the checksum `start`: polynomial 0x04c11db7,
+/// lowest bit first. Nothing is inverted. So the checksum of a commit begins at 0xffff_ffff and
+/// continues from part to part (SPEC.md of littlefs, "0x5xx LFS_TYPE_CRC").
 pub fn crc(start: u32, bytes: &[u8]) -> u32
-    // The computed form, for the checksum of parts.
+    // The result is the computed form, for the checksum of parts.
     ensures value { result ≡ crc_of start bytes.now }
-    // It is the remainder of the polynomials.
+    // The result is the remainder of the polynomials.
     ensures remainder { IsChecksum start bytes.now result }
     // No other number is.
     ensures only { (other : ℕ) → other < 2 ^ 32 → IsChecksum start bytes.now other → other ≡ result }
@@ -25,7 +25,7 @@ pub fn crc(start: u32, bytes: &[u8]) -> u32
     after_bytes(sum, rest)
 }
 
-// The checksum byte by byte.
+// Computes the checksum byte by byte.
 fn after_bytes(start: u32, bytes: &[u8]) -> u32
     ensures { result ≡ crc_of start bytes.now }
 {

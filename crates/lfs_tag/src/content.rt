@@ -1,4 +1,4 @@
-// The content of a log, by taking its entries forward.
+// The content of a log, made by applying its entries in order.
 
 ghost use Rattle.std.specs.Prelude.{◌≡◌, ℕ, ◌+◌, ◌≤◌, ◌<◌, ◌++◌, List, [], ◌∷◌, length, map, OnOk, IfOk, IsTrue, replicate, remove, insert, slice_set, vec_len, is_some, filter, not, ◌==◌, Some, None};
 ghost use Rattle.std.specs.Option.{option_map};
@@ -31,30 +31,31 @@ pub struct Part<'a> {
     pub bytes: &'a [u8],
 }
 
-/// A user attribute: its type, and its bytes in the block.
+/// A user attribute: its own type, and its bytes in the block.
 #[derive(Clone, Copy, Drop)]
 pub struct Attribute<'a> {
     pub kind: u8,
     pub bytes: &'a [u8],
 }
 
-/// What a log says of one id. In a foreign image a slot may lack its name or its struct.
+/// A slot: what a log has for one id. In a foreign image a slot may lack its name or its struct.
 #[derive(Drop)]
 pub struct Slot<'a> {
     pub name: Option<Part<'a>>,
     pub structure: Option<Part<'a>>,
-    /// By ascending type, each type once.
+    /// The attributes by ascending type, each type once.
     pub attributes: Vec<Attribute<'a>>,
 }
 
-/// The next pair of the thread. A hard tail continues the directory.
+/// The next pair of the thread. A hard tail continues the directory, a soft one begins another
+/// (SPEC.md of littlefs, "0x6xx LFS_TYPE_TAIL").
 #[derive(Clone, Copy, Debug, PartialEq, Eq, Drop)]
 pub struct Tail {
     pub hard: bool,
     pub pair: [u32; 2],
 }
 
-/// Whether a tail goes on with the same directory: there is one, and it is hard.
+/// Returns whether the directory continues after this pair: there is a tail, and it is hard.
 pub fn is_hard(tail: Option<Tail>) -> bool
     ensures { result ≡ is_hard (option_map tail_view tail) }
 {
@@ -64,8 +65,8 @@ pub fn is_hard(tail: Option<Tail>) -> bool
     }
 }
 
-/// What a log's entries come to: the slots by their ids, the last tail and the last move state. A
-/// tail to two null addresses is none.
+/// The content of a log: the slots by their ids, the last tail and the last move state. A tail to
+/// two null addresses is none.
 #[derive(Drop)]
 pub struct Content<'a> {
     pub slots: Vec<Slot<'a>>,
@@ -73,13 +74,13 @@ pub struct Content<'a> {
     pub move_state: MoveState,
 }
 
-/// Why a log's content wasn't read.
+/// The cause for which a log's content wasn't read.
 #[derive(Clone, Copy, Debug, PartialEq, Eq, Drop)]
 pub enum ContentError {
-    /// An entry has a type that the format doesn't have, a length that doesn't go with its type,
-    /// or an id that may not stand there.
+    /// An entry has a type that the format doesn't have, or a length that doesn't match its type.
+    /// Or its id isn't allowed there.
     Malformed,
-    /// A growth was refused.
+    /// Memory wasn't granted.
     NoMemory,
 }
 
@@ -93,7 +94,7 @@ impl From<AllocError> for ContentError {
     }
 }
 
-/// A malformed log is an image that isn't accepted.
+/// Converts to the file system's error: a malformed log is `Corrupt`.
 impl From<ContentError> for Error {
     ghost use Rattle.lfs_tag.specs.ContentGives.{error_of};
 
@@ -107,7 +108,7 @@ impl From<ContentError> for Error {
     }
 }
 
-// Whether the format has a tag's type, with its length.
+// Returns whether the format has a tag's type, with its length.
 pub(crate) fn is_in_table(tag: Tag) -> bool
     ensures { result ≡ is_in_table tag }
 {
@@ -126,7 +127,7 @@ pub(crate) fn is_in_table(tag: Tag) -> bool
     }
 }
 
-// Whether a tag that needs an id has one.
+// Returns whether a tag that needs an id has one.
 pub(crate) fn has_its_id(tag: Tag) -> bool
     ensures { result ≡ has_its_id tag }
 {
@@ -143,7 +144,7 @@ fn empty_slot<'a>(alloc: Global) -> Slot<'a>
     }
 }
 
-// Where the first attribute of a type or a greater one stands, or the length.
+// Returns the place of the first attribute of a type or a greater one, or the length.
 fn place_of(attributes: &[Attribute<'_>], kind: u8) -> usize
     ensures { result ≡ first_not_below kind (map attribute_view attributes.now) }
 {
@@ -264,7 +265,7 @@ fn remove_slot(slots: &mut Vec<Slot<'_>>, id: usize)
     slots.remove(id);
 }
 
-// What an entry that is no checksum, tail or move state makes of the slots.
+// Applies to the slots an entry that is no checksum, tail or move state.
 fn apply_to_slots<'a>(
     alloc: Global,
     slots: &mut Vec<Slot<'a>>,
@@ -305,7 +306,7 @@ fn apply_to_slots<'a>(
     }
 }
 
-// The tail that an entry sets.
+// Returns the tail that an entry sets.
 pub(crate) fn tail_of(entry: &Entry<'_>) -> Option<Tail>
     requires { 8 ≤ length entry.now.bytes.now }
     ensures { option_map tail_view result ≡ tail_of (log_entry_view entry.now) }
@@ -321,7 +322,7 @@ pub(crate) fn tail_of(entry: &Entry<'_>) -> Option<Tail>
     }
 }
 
-// What an entry makes of the content.
+// Applies an entry to the content.
 fn apply<'a>(
     alloc: Global,
     content: &mut Content<'a>,
@@ -350,9 +351,11 @@ fn apply<'a>(
 }
 
 impl<'a> Content<'a> {
-    /// Reads a log's content, by taking its entries forward (SPEC.md of littlefs, "Metadata
-    /// tags"). Names, structs and attributes aren't copied. Answers `Malformed` exactly where the
-    /// log is.
+    /// Reads a log's content, by applying its entries in order (SPEC.md of littlefs, "Metadata
+    /// tags"). Names, structs and attributes aren't copied.
+    ///
+    /// Errors: `Malformed` exactly where the log is malformed. `NoMemory` where memory for slots
+    /// and attributes isn't granted.
     pub fn read(alloc: Global, log: &Log<'a>) -> Result<Content<'a>, ContentError>
         ensures content { IfOk result (λ c. content_after_all no_content (log_entries log.now) ≡ Some (content_view c)) }
         ensures malformed { result ≡ Err ContentError.Malformed → content_after_all no_content (log_entries log.now) ≡ None }
@@ -370,8 +373,9 @@ impl<'a> Content<'a> {
         Ok(content)
     }
 
-    /// Takes one entry more, as the reading of a longer log would. After an error nothing is known
-    /// of the content.
+    /// Applies one more entry, as if the log had it at its end.
+    ///
+    /// Errors are those of [`read`](Content::read). After an error nothing is known of the content.
     pub fn take(&mut self, alloc: Global, entry: &Entry<'a>) -> Result<(), ContentError>
         ensures { Gives (λ _. content_view self.new) result (content_after (content_view self.old) (log_entry_view entry.now)) }
     {

@@ -13,7 +13,7 @@ use crate::tag::Tag;
 use byteorder::{BigEndian, ByteOrder};
 use std::marker::Model;
 
-/// The entries of a log that are left, from both ends.
+/// The entries of a log that the walk hasn't returned yet, from both ends.
 #[derive(Drop)]
 pub struct Entries<'a> {
     block: &'a [u8],
@@ -37,7 +37,7 @@ impl<'a> Model for Entries<'a> {
 }
 
 impl<'a> Entries<'a> {
-    // The entries of a block's chain, which ends so.
+    // Returns the entries of a block's chain that ends at this place, with this last tag.
     pub(crate) fn of_chain(block: &'a [u8], end: usize, last: Tag) -> Entries<'a>
         requires end { end ≡ (chain_of block.now).end }
         requires last { last ≡ (chain_of block.now).last }
@@ -55,7 +55,7 @@ impl<'a> Entries<'a> {
 }
 
 impl<'a> Entries<'a> {
-    // The same entries once more.
+    // Returns the same entries once more.
     pub(crate) fn rest(&self) -> Entries<'a>
         ensures { result ≡ self.now }
     {
@@ -89,7 +89,8 @@ impl<'a> Iterator for Entries<'a> {
     }
 }
 
-// The entry that ends at `end` and whose tag carries `last`: where it begins, and what the tag before it carries.
+// Returns where the entry begins that ends at `end` and whose tag is carried as `last`. Returns
+// also what the tag before it is carried as.
 fn entry_before(block: &[u8], end: usize, last: Tag) -> (usize, Tag, Entry<'_>)
     requires room { 4 + data_size (last % 2 ^ 31) ≤ end }
     requires within { end ≤ length block.now }

@@ -5,7 +5,7 @@ ghost use Rattle.lfs_model.specs.Tag.{data_size};
 
 use crate::tag::Tag;
 
-/// A tag and the bytes that follow it, which lie in the block that was read.
+/// A tag and the bytes that follow it, which are in the block that was read.
 #[derive(Clone, Copy, Drop)]
 pub struct Entry<'a> {
     pub tag: Tag,

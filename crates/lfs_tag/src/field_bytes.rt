@@ -12,7 +12,7 @@ ghost use Rattle.lfs_tag.specs.FieldsView.{superblock_view, move_view};
 use crate::fields::{MoveState, Superblock};
 use byteorder::{ByteOrder, LittleEndian};
 
-/// The bytes of a tail or of a directory's struct that names this pair.
+/// Returns the bytes of a tail, or of a directory's struct, that names this pair.
 pub fn pair_bytes(pair: [u32; 2]) -> [u8; 8]
     ensures bytes { result ≡ pair_bytes (address_of pair) }
     ensures read { pair_at result ≡ address_of pair }
@@ -22,8 +22,8 @@ pub fn pair_bytes(pair: [u32; 2]) -> [u8; 8]
     bytes
 }
 
-/// The bytes of a file's struct that names a skip list: the address of its last block, and its
-/// size in bytes (SPEC.md of littlefs, "CTZ structs").
+/// Returns the bytes of a file's struct that names a skip list: the address of its last block, and
+/// its size in bytes (SPEC.md of littlefs, "0x202 LFS_TYPE_CTZSTRUCT").
 pub fn ctz_bytes(head: u32, size: u32) -> [u8; 8]
     ensures bytes { result ≡ pair_bytes (head, size) }
     ensures read { struct_typed ctz_struct_type result ≡ Ctz head size }
@@ -31,7 +31,7 @@ pub fn ctz_bytes(head: u32, size: u32) -> [u8; 8]
     pair_bytes([head, size])
 }
 
-/// The bytes of a superblock's struct.
+/// Returns the bytes of a superblock's struct (SPEC.md of littlefs, "0x0ff LFS_TYPE_SUPERBLOCK").
 pub fn superblock_bytes(superblock: &Superblock) -> [u8; 24]
     ensures bytes { result ≡ fields_bytes (superblock_view superblock.now) }
     ensures read { superblock_at result ≡ superblock_view superblock.now }
@@ -46,7 +46,7 @@ pub fn superblock_bytes(superblock: &Superblock) -> [u8; 24]
     ])
 }
 
-// The same of a superblock's six numbers, in their order.
+// Returns the bytes of a superblock's six numbers, in their order.
 fn words_bytes(words: [u32; 6]) -> [u8; 24]
     ensures bytes { result ≡ flat_map (little_bytes 4) words }
     ensures read { superblock_at result ≡ record {
@@ -63,7 +63,8 @@ fn words_bytes(words: [u32; 6]) -> [u8; 24]
     bytes
 }
 
-/// The bytes of a move state. The lowest ten bits of the first word, which say nothing, are 0.
+/// Returns the bytes of a move state. The lowest ten bits of the first word have no meaning, and
+/// are 0.
 pub fn move_bytes(state: &MoveState) -> [u8; 12]
     requires kind { state.now.kind < 2 ^ 11 }
     requires id { state.now.id < 2 ^ 10 }

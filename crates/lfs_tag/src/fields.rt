@@ -16,12 +16,12 @@ use lfs_device::Geometry;
 /// The address that names no block.
 pub const NULL_ADDRESS: u32 = 0xffff_ffff;
 
-/// The fields of the superblock's struct (SPEC.md of littlefs, "superblock").
+/// The fields of the superblock's struct (SPEC.md of littlefs, "0x0ff LFS_TYPE_SUPERBLOCK").
 #[derive(Clone, Copy, Debug, PartialEq, Eq, Drop)]
 pub struct Superblock {
     /// The on-disk version: the major number in the upper 16 bits, the minor one in the lower.
     pub version: u32,
-    /// In bytes.
+    /// The size of a block, in bytes.
     pub block_size: u32,
     pub block_count: u32,
     /// The longest name, in bytes.
@@ -32,11 +32,11 @@ pub struct Superblock {
     pub attr_max: u32,
 }
 
-/// A pair's delta of the global state, or the global state itself, which is the exclusive or of
-/// all deltas (DESIGN.md of littlefs, "The move problem").
+/// A pair's delta of the global state, or the global state itself, which is the exclusive or of all
+/// deltas (DESIGN.md of littlefs, "The move problem").
 #[derive(Clone, Copy, Debug, PartialEq, Eq, Drop)]
 pub struct MoveState {
-    /// A pair of the thread may be reached from no directory.
+    /// Whether a pair of the thread may be an orphan: no directory leads to it.
     pub sync: bool,
     /// 0, or the type of a delete where a slot counts as deleted.
     pub kind: u16,
@@ -62,8 +62,8 @@ impl Superblock {
     /// The longest attribute that is written, in bytes.
     pub const ATTR_MAX: u32 = 1022;
 
-    /// What the superblock of a fresh image says: this version, the device's geometry and the
-    /// limits that are written.
+    /// Returns the superblock's fields for a fresh image: the on-disk version, the device's
+    /// geometry and the limits that are written.
     pub fn of(geometry: &Geometry) -> Superblock
         ensures fields { superblock_view result ≡ record {
           version = 0x00020000;
@@ -87,7 +87,7 @@ impl Superblock {
 }
 
 impl MoveState {
-    /// No delta, which changes nothing of the global state.
+    /// Returns the delta that changes nothing of the global state.
     pub fn none() -> MoveState
         ensures { move_view result ≡ no_gstate }
     {
@@ -99,7 +99,7 @@ impl MoveState {
         }
     }
 
-    /// Whether there is nothing in it: then a pair that is written anew has no entry for it.
+    /// Returns whether the delta is zero. Then a pair that is written anew has no entry for it.
     pub fn is_none(&self) -> bool
         ensures { result ≡ is_no_gstate (move_view self.now) }
     {
@@ -107,7 +107,7 @@ impl MoveState {
     }
 }
 
-// The two addresses that these bytes begin with.
+// Returns the two addresses with which these bytes begin.
 pub(crate) fn pair_at(bytes: &[u8]) -> [u32; 2]
     requires { 8 ≤ length bytes.now }
     ensures { address_of result ≡ pair_at bytes.now }
@@ -117,7 +117,7 @@ pub(crate) fn pair_at(bytes: &[u8]) -> [u32; 2]
     [first, second]
 }
 
-// The move state that these bytes begin with.
+// Returns the move state with which these bytes begin.
 pub(crate) fn move_at(bytes: &[u8]) -> MoveState
     requires { 12 ≤ length bytes.now }
     ensures { move_view result ≡ gstate_at bytes.now }
@@ -131,15 +131,15 @@ pub(crate) fn move_at(bytes: &[u8]) -> MoveState
     }
 }
 
-/// The pair that a tail or a directory's struct names.
+/// Returns the pair that a tail or a directory's struct names.
 pub fn pair_of(bytes: &[u8; 8]) -> [u32; 2]
     ensures { address_of result ≡ pair_at bytes.now }
 {
     pair_at(bytes)
 }
 
-/// The head and the size of a skip list, from a file's struct. The head is the address of its
-/// last block, and the size is in bytes (SPEC.md of littlefs, "CTZ structs").
+/// Returns the head and the size of a skip list, from a file's struct. The head is the address of
+/// its last block, and the size is in bytes (SPEC.md of littlefs, "0x202 LFS_TYPE_CTZSTRUCT").
 pub fn ctz_of(bytes: &[u8; 8]) -> (u32, u32)
     ensures { struct_typed ctz_struct_type bytes.now ≡ Ctz result.0 result.1 }
 {
@@ -147,7 +147,7 @@ pub fn ctz_of(bytes: &[u8; 8]) -> (u32, u32)
     (words[0], words[1])
 }
 
-/// The fields of a superblock's struct.
+/// Returns the fields of a superblock's struct.
 pub fn superblock_of(bytes: &[u8; 24]) -> Superblock
     ensures { superblock_view result ≡ superblock_at bytes.now }
 {
@@ -161,7 +161,8 @@ pub fn superblock_of(bytes: &[u8; 24]) -> Superblock
     }
 }
 
-/// The move state in an entry's bytes. The lowest ten bits of the first word say nothing.
+/// Returns the move state in an entry's bytes. The lowest ten bits of the first word have no
+/// meaning.
 pub fn move_of(bytes: &[u8; 12]) -> MoveState
     ensures { move_view result ≡ gstate_at bytes.now }
 {

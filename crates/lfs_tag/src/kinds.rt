@@ -9,19 +9,19 @@ pub const DIRECTORY_NAME: u16 = 0x002;
 pub const SUPERBLOCK_NAME: u16 = 0x0ff;
 /// A directory's struct: the address of its first pair.
 pub const DIRECTORY_STRUCT: u16 = 0x200;
-/// A file's struct that is its bytes.
+/// A file's struct that has the file's bytes (inline struct).
 pub const INLINE_STRUCT: u16 = 0x201;
 /// A file's struct that names a skip list.
 pub const CTZ_STRUCT: u16 = 0x202;
-/// The first type of a user attribute; its own type is added.
+/// The first type of a user attribute; the attribute's own type is added.
 pub const ATTRIBUTE: u16 = 0x300;
 /// Inserts a slot.
 pub const CREATE: u16 = 0x401;
 /// Removes a slot.
 pub const DELETE: u16 = 0x4ff;
-/// Ends a commit; the tag behind it is stored as it is.
+/// Ends a commit; the tag after it is stored without a change.
 pub const CHECKSUM: u16 = 0x500;
-/// Ends a commit; the tag behind it is stored with its top bit turned.
+/// Ends a commit; the tag after it is stored with its top bit inverted.
 pub const TURNED_CHECKSUM: u16 = 0x501;
 /// A forward checksum of version 2.1, which is read as an entry without meaning.
 pub const FORWARD_CHECKSUM: u16 = 0x5ff;

@@ -14,7 +14,7 @@ use crate::tag::Tag;
 use byteorder::{BigEndian, ByteOrder, LittleEndian};
 use std::marker::Model;
 
-// The entry at an offset, where the tag before it carries `before`.
+// Returns the entry at an offset, where the tag before it is carried as `before`.
 #[tactic(auto, unfolding(lfs_model::specs::Log::entry_at))]
 pub(crate) fn entry_at(block: &[u8], at: usize, before: Tag) -> Option<Entry<'_>>
     ensures value { option_map log_entry_view result ≡ entry_at block.now at before }
@@ -35,7 +35,7 @@ pub(crate) fn entry_at(block: &[u8], at: usize, before: Tag) -> Option<Entry<'_>
     })
 }
 
-// Whether the checksum entry at an offset ends the commit that begins at `start`.
+// Returns whether the checksum entry at an offset ends the commit that begins at `start`.
 #[tactic(auto, unfolding(lfs_model::specs::Log::closes))]
 fn closes(block: &[u8], start: usize, at: usize, entry: &Entry<'_>) -> bool
     requires start { start ≤ at }
@@ -50,7 +50,8 @@ fn closes(block: &[u8], start: usize, at: usize, entry: &Entry<'_>) -> bool
                 && LittleEndian::read_u32(entry.bytes) == crc(0xffff_ffff, &block[start..at + 4])))
 }
 
-// Where the commit ends that begins at `start` and whose next entry is at `at`, and what its last tag carries.
+// Returns where the commit ends that begins at `start` and whose next entry is at `at`. Returns
+// also what its last tag is carried as.
 fn commit_end(block: &[u8], start: usize, mut at: usize, mut before: Tag) -> Option<(usize, Tag)>
     requires { start ≤ at }
     ensures value { result ≡ option_map (λ c. (c.end, c.last)) (commit_at block.now start at before) }
@@ -72,7 +73,7 @@ fn commit_end(block: &[u8], start: usize, mut at: usize, mut before: Tag) -> Opt
     None
 }
 
-// The revision, or 0 in a block too short for one.
+// Returns the revision, or 0 in a block that is too short for one.
 fn revision(block: &[u8]) -> u32
     ensures { result ≡ revision_of block.now }
 {
@@ -83,8 +84,8 @@ fn revision(block: &[u8]) -> u32
     }
 }
 
-/// The valid commits of a block: the longest chain of commits from offset 4, each of them with the
-/// right checksum (SPEC.md of littlefs, "Metadata pairs"). To a contract a log is its block's bytes.
+/// The valid commits of a block: the longest chain of commits from offset 4, each with the right
+/// checksum (SPEC.md of littlefs, "Metadata pairs"). A contract sees a log as its block's bytes.
 #[derive(Drop)]
 pub struct Log<'a> {
     block: &'a [u8],
@@ -106,11 +107,11 @@ impl<'a> Model for Log<'a> {
 }
 
 impl<'a> Log<'a> {
-    /// Reads a block of any length and any bytes. The chain ends in front of the first commit that an
-    /// entry of it spoils: an invalid tag, bytes past the end of the block, a type of class 5 that is
-    /// no checksum's, a checksum of less than 4 or more than 1,022 bytes, or one with the wrong
-    /// number. A forward checksum of version 2.1 (type 0x5ff, at most 1,022 bytes) is an entry like
-    /// any other, and means nothing. There may be no commit.
+    /// Reads a block of any length and any bytes. The chain ends before the first commit that has a
+    /// bad entry. A bad entry has an invalid tag, bytes past the end of the block, or a type of
+    /// class 5 that is no checksum's. A checksum is bad with less than 4 or more than 1,022 bytes,
+    /// or with the wrong number. A forward checksum of version 2.1 (type 0x5ff, at most 1,022
+    /// bytes) is an entry like any other, without a meaning. The log may have no commit.
     pub fn read(block: &'a [u8]) -> Log<'a>
         ensures { result ≡ block.now }
     {
@@ -125,9 +126,9 @@ impl<'a> Log<'a> {
         Log::known(block, end, last)
     }
 
-    /// The log of a block whose chain is known to end so, without reading the block again: what
-    /// [`end`](Log::end) and [`last`](Log::last) said of these bytes. That they still say so is the
-    /// caller's condition.
+    /// Makes the log of a block whose chain is known to end at `end` with the tag `last`. The block
+    /// isn't read again. The caller's condition is that [`end`](Log::end) and [`last`](Log::last)
+    /// would return these for the bytes.
     pub fn known(block: &'a [u8], end: usize, last: Tag) -> Log<'a>
         requires end { end ≡ (chain_of block.now).end }
         requires last { last ≡ (chain_of block.now).last }
@@ -141,42 +142,45 @@ impl<'a> Log<'a> {
         }
     }
 
-    /// Whether there is a commit.
+    /// Returns whether the log has a commit.
     pub fn has_commit(&self) -> bool
         ensures { result ≡ has_commit self.now }
     {
         4 < self.end
     }
 
-    /// Where the last commit ends, in bytes; 4 where there is none.
+    /// Returns where the last commit ends, in bytes from the block's beginning. Returns 4 where
+    /// there is no commit.
     pub fn end(&self) -> usize
         ensures { result ≡ (chain_of self.now).end }
     {
         self.end
     }
 
-    /// What the tag behind the last commit is decoded with; all bits set where there is no commit.
+    /// Returns what the tag after the last commit is decoded with. Returns all bits set where there
+    /// is no commit.
     pub fn last(&self) -> Tag
         ensures { result ≡ (chain_of self.now).last }
     {
         self.last
     }
 
-    /// The block's revision count, or 0 in a block of less than 4 bytes.
+    /// Returns the block's revision count, or 0 in a block of less than 4 bytes.
     pub fn revision(&self) -> u32
         ensures { result ≡ revision_of self.now }
     {
         self.revision
     }
 
-    // The bytes of the block.
+    // Returns the bytes of the block.
     pub(crate) fn block(&self) -> &'a [u8]
         ensures { result.now ≡ self.now }
     {
         self.block
     }
 
-    /// The entries of all commits, oldest first; they can be taken from both ends. Nothing is copied.
+    /// Returns the entries of all commits, oldest first. They can be taken from both ends, and
+    /// nothing is copied.
     pub fn entries(&self) -> Entries<'a>
         ensures value { result ≡ log_entries self.now }
         ensures small { length (log_entries self.now) < 2 ^ 62 }

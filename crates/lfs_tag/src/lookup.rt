@@ -16,27 +16,30 @@ use lfs_device::NameOrder;
 use std::alloc::{AllocError, Global};
 use std::cmp::Ordering;
 
-/// Where a name stands among a log's slots.
+/// Where a name is among a log's slots.
 #[derive(Clone, Copy, Debug, PartialEq, Eq, Drop)]
 pub enum Lookup {
     /// The least id that has the name.
     Found(u16),
-    /// No slot has it: the least id of a greater name, or the number of slots.
+    /// No slot has the name. The place is the least id of a greater name, or the number of slots.
     Place(u16),
 }
 
 const BLOCK_MAX: usize = 65536;
 
-// For each slot how the wanted name stands to its own; `None` where it has none, or the
+// The order of the wanted name and each slot's own name; `None` where the slot has no name, or the
 // superblock's.
 type Ranks = Vec<Option<Ordering>>;
 
-/// Where a name stands among a log's slots, or where it belongs, which is in front of the first
-/// slot with a name that is greater in that order. A superblock's slot and the slot `skip` are passed over, though they keep their ids.
+/// Finds where a name is among a log's slots, or where it belongs. It belongs before the first slot
+/// with a name that is greater in that order. A superblock's slot and the slot `skip` are passed
+/// over, though they keep their ids.
 ///
-/// The answer is of a log that isn't malformed, in a block of at most 65,536 bytes. The log's
-/// entries are taken once, and each name is compared once. It takes memory for a byte for each slot
-/// that the log has on the way.
+/// The result counts where the log isn't malformed and its block has at most 65,536 bytes. The
+/// log's entries are taken once, and each name is compared once. The call takes a byte of memory
+/// for each slot that the log ever has.
+///
+/// Errors: `AllocError` where that memory isn't granted.
 pub fn find(
     alloc: Global,
     log: &Log<'_>,
@@ -59,7 +62,7 @@ pub fn find(
     }
 }
 
-// The ranks of a log's slots.
+// Returns the ranks of a log's slots.
 #[tactic(auto, using(crate::proofs::Ranks::few_entries))]
 fn rank_slots(
     ranks: &mut Ranks,
@@ -78,7 +81,7 @@ fn rank_slots(
     Ok(())
 }
 
-// What an entry makes of the ranks.
+// Applies an entry to the ranks.
 fn take(
     ranks: &mut Ranks,
     order: NameOrder,
@@ -98,7 +101,7 @@ fn take(
     Ok(())
 }
 
-// How the wanted name stands to the one that an entry gives a slot.
+// Returns the order of the wanted name and the name that an entry gives a slot.
 fn entry_rank(order: NameOrder, name: &[u8], entry: &Entry<'_>) -> Option<Ordering>
     ensures { result ≡ entry_rank order name.now (log_entry_view entry.now) }
 {
@@ -133,7 +136,7 @@ fn fill_up(ranks: &mut Ranks, id: usize) -> Result<(), AllocError>
     Ok(())
 }
 
-// Carries out a create or a delete.
+// Applies a create or a delete.
 fn splice(ranks: &mut Ranks, entry: &Entry<'_>) -> Result<(), AllocError>
     ensures ranks { OnOk result (ranks.new.items ≡ spliced ranks.old.items (log_entry_view entry.now)) }
     ensures room { OnOk result (vec_len ranks.new ≤ vec_len ranks.old + 1) }
@@ -149,7 +152,8 @@ fn splice(ranks: &mut Ranks, entry: &Entry<'_>) -> Result<(), AllocError>
     Ok(())
 }
 
-// The first slot whose name is the wanted one, or is behind it; the number of slots where none is.
+// Returns the first slot whose name is the wanted one, or a greater one. Returns the number of
+// slots where there is none.
 fn first(ranks: &[Option<Ordering>], same: bool, skip: Option<u16>) -> usize
     ensures first { result ≡ first_from same skip 0 ranks.now }
     ensures within { result ≤ length ranks.now }

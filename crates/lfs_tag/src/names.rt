@@ -7,15 +7,15 @@ ghost use Rattle.lfs_model.specs.Names.{is_component, is_name, longer_first, nam
 use lfs_device::NameOrder;
 use std::cmp::Ordering;
 
-/// Whether a path may have such a component, of any length: it isn't empty, has neither a byte 0
-/// nor a slash, and is neither `.` nor `..`.
+/// Returns whether a path may have such a component, of any length. It isn't empty, has neither a
+/// byte 0 nor a slash, and is neither `.` nor `..`.
 pub fn is_component(name: &[u8]) -> bool
     ensures { result ≡ is_component name.now }
 {
     !name.is_empty() && are_plain(name) && !is_same(name, b".") && !is_same(name, b"..")
 }
 
-/// Whether a directory may have such a name: a component of at most 255 bytes.
+/// Returns whether a directory may have such a name: a component of at most 255 bytes.
 pub fn is_name(name: &[u8]) -> bool
     ensures { result ≡ is_name name.now }
 {
@@ -28,14 +28,15 @@ fn is_same(name: &[u8], other: &[u8]) -> bool
     name == other
 }
 
-// Whether neither 0 nor '/' is among the bytes.
+// Returns whether neither 0 nor '/' is among the bytes.
 fn are_plain(name: &[u8]) -> bool
     ensures { result ≡ list_all (λ b. not (b == 0 || b == slash)) name.now }
 {
     name.iter().all(|byte| !(*byte == 0 || *byte == b'/'))
 }
 
-/// How two names stand in that order: by their bytes, and where one is the beginning of the other, as the order says.
+/// Compares two names by their bytes. The order decides where one name is the beginning of the
+/// other.
 pub fn name_cmp(order: NameOrder, name: &[u8], other: &[u8]) -> Ordering
     ensures { result ≡ name_cmp order name.now other.now }
 {

@@ -1,4 +1,4 @@
-// What a commit builder was given, for its contract alone.
+// The commit of a builder, for its contract alone.
 
 ghost use Rattle.std.specs.Prelude.{◌≡◌};
 ghost use Rattle.std.specs.Borrow.{ftrue};
@@ -17,7 +17,7 @@ impl Model for Pushed {
 }
 
 impl Pushed {
-    // Any commit, which the caller's proof picks from what is referred to.
+    // Makes any commit. The caller's proof picks the commit from what the references point to.
     pub(crate) fn from_proof<S, T>(_before: &S, _pushed: &T) -> Pushed
         ghost so_far: { Building }
         ensures { result.so_far ≡ so_far }

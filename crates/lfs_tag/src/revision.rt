@@ -3,8 +3,8 @@
 ghost use Rattle.std.specs.Prelude.{◌≡◌};
 ghost use Rattle.lfs_model.specs.Content.{is_later};
 
-/// Whether the revision `b` is later than `a`, by the sign of their difference: revisions go on
-/// from 0 behind the greatest (SPEC.md of littlefs, "Metadata pairs").
+/// Returns whether the revision `b` is later than `a`, by the sign of their difference. So 0
+/// follows the greatest revision (SPEC.md of littlefs, "Metadata pairs").
 pub fn is_later(a: u32, b: u32) -> bool
     ensures { result ≡ is_later a b }
 {

@@ -1,4 +1,4 @@
-// What a log holds of a type for an id, found from its newest entry back.
+// A search for what a log holds of a type for an id, from its newest entry back.
 
 ghost use Rattle.std.specs.Prelude.{◌≡◌, ℕ, ◌+◌, ◌-◌, ◌≤◌, ◌<◌, ◌^◌, ◌/◌, List, length, reverse, min, Some};
 ghost use Rattle.std.specs.Option.{option_copied, option_map};
@@ -17,15 +17,15 @@ use crate::kinds::{ATTRIBUTE_CLASS, CREATE, NAME_CLASS, SPLICE_CLASS, STRUCT_CLA
 use crate::log::Log;
 use crate::steps::Steps;
 
-// What an entry says of an id behind it.
+// What an entry means for an id after it.
 enum Verdict<'a> {
-    // What is held for it, if anything is.
+    // What the slot holds, if anything.
     Holds(Option<Part<'a>>),
-    // The id that it was before the entry.
+    // The id that the slot had before the entry.
     Was(u64),
 }
 
-// What a create or a delete says of an id behind it.
+// Returns what a create or a delete means for an id after it.
 fn splice_verdict<'a>(entry: &Entry<'a>, id: u64) -> Verdict<'a>
     requires { id < 2 ^ 64 - 1 }
     ensures { verdict_view result ≡ splice_verdict (log_entry_view entry.now) id }
@@ -42,7 +42,7 @@ fn splice_verdict<'a>(entry: &Entry<'a>, id: u64) -> Verdict<'a>
     }
 }
 
-// What an entry says of a type and an id behind it.
+// Returns what an entry means for a type and an id after it.
 fn verdict_of<'a>(entry: &Entry<'a>, kind: u16, id: u64) -> Verdict<'a>
     requires { id < 2 ^ 64 - 1 }
     ensures { verdict_view result ≡ verdict_of (log_entry_view entry.now) kind id }
@@ -69,7 +69,7 @@ fn verdict_of<'a>(entry: &Entry<'a>, kind: u16, id: u64) -> Verdict<'a>
     }
 }
 
-// Searches from the newest entry back; answers also how many entries it looked at.
+// Searches from the newest entry back. Returns also how many entries the search looked at.
 fn search<'a>(mut entries: Entries<'a>, kind: u16, mut id: u64) -> (Option<Part<'a>>, u64)
     requires { id + length entries < 2 ^ 63 }
     ensures found { option_map part_view result.0 ≡ found (reverse entries.entry) kind id }
@@ -86,8 +86,8 @@ fn search<'a>(mut entries: Entries<'a>, kind: u16, mut id: u64) -> (Option<Part<
     (None, looks)
 }
 
-// What the log holds for an id, of a type or of another one in its place; each entry that is looked
-// at ticks.
+// Returns what the log holds for an id, of a type or of another one in its place. Counts each entry
+// that it looks at.
 fn newest<'a>(log: &Log<'a>, kind: u16, id: u16, steps: &mut Steps) -> Option<Part<'a>>
     ensures found { option_map part_view result ≡ found (reverse (log_entries log.now)) kind id }
     ensures steps { steps.new ≡ min (steps.old + looks (reverse (log_entries log.now)) kind id) (2 ^ 64 - 1) }
@@ -98,7 +98,7 @@ fn newest<'a>(log: &Log<'a>, kind: u16, id: u16, steps: &mut Steps) -> Option<Pa
     found.0
 }
 
-// The bytes of a part, where it has that type.
+// Returns the bytes of a part, where the part has that type.
 fn bytes_typed<'a>(part: Option<Part<'a>>, kind: u16) -> Option<&'a [u8]>
     ensures { option_copied result ≡ bytes_typed kind (option_map part_view part.entry) }
 {
@@ -108,10 +108,10 @@ fn bytes_typed<'a>(part: Option<Part<'a>>, kind: u16) -> Option<&'a [u8]>
     }
 }
 
-/// The bytes of a name's, a struct's or an attribute's type that a log now holds for an id; `None`
-/// exactly where it holds none, in any log that isn't malformed. A slot holds one name and one
-/// struct, so of another type than these have there is none. Ticks `steps` for each entry that it
-/// looks at, of which there are no more than the log has.
+/// Returns the bytes that a log holds for an id under the type of a name, a struct or an attribute.
+/// Returns None exactly where it holds none. A slot has one name and one struct, so it has no bytes
+/// under their other types. The log isn't malformed. Each entry that the search looks at is counted
+/// in `steps`; these are at most the entries of the log.
 pub fn get<'a>(log: &Log<'a>, kind: u16, id: u16, steps: &mut Steps) -> Option<&'a [u8]>
     ensures held { (c : RawContent) → content_after_all no_content (log_entries log.now) ≡ Some c → option_copied result ≡ typed_bytes_at c.slots kind id }
     ensures steps { steps.new ≡ min (steps.old + looks (reverse (log_entries log.now)) kind id) (2 ^ 64 - 1) }
@@ -120,8 +120,8 @@ pub fn get<'a>(log: &Log<'a>, kind: u16, id: u16, steps: &mut Steps) -> Option<&
     bytes_typed(newest(log, kind, id, steps), kind)
 }
 
-/// The name of a slot, its type and bytes; `None` where the slot has none or isn't there, in any
-/// log that isn't malformed. Ticks `steps` as [`get`] does.
+/// Returns the name of a slot, its type and bytes. Returns None where the slot has none or isn't
+/// there. The log isn't malformed. `steps` counts as in [`get`].
 pub fn name_of<'a>(log: &Log<'a>, id: u16, steps: &mut Steps) -> Option<Part<'a>>
     ensures held { (c : RawContent) → content_after_all no_content (log_entries log.now) ≡ Some c → option_map part_view result ≡ (slot_of_id c.slots id).name }
     ensures steps { steps.new ≡ min (steps.old + looks (reverse (log_entries log.now)) 0 id) (2 ^ 64 - 1) }
@@ -130,8 +130,8 @@ pub fn name_of<'a>(log: &Log<'a>, id: u16, steps: &mut Steps) -> Option<Part<'a>
     newest(log, NAME_CLASS << 8, id, steps)
 }
 
-/// The struct of a slot, its type and bytes; `None` where the slot has none or isn't there, in any
-/// log that isn't malformed. Ticks `steps` as [`get`] does.
+/// Returns the struct of a slot, its type and bytes. Returns None where the slot has none or isn't
+/// there. The log isn't malformed. `steps` counts as in [`get`].
 pub fn struct_of<'a>(log: &Log<'a>, id: u16, steps: &mut Steps) -> Option<Part<'a>>
     ensures held { (c : RawContent) → content_after_all no_content (log_entries log.now) ≡ Some c → option_map part_view result ≡ (slot_of_id c.slots id).struct }
     ensures steps { steps.new ≡ min (steps.old + looks (reverse (log_entries log.now)) 0x200 id) (2 ^ 64 - 1) }

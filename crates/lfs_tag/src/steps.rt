@@ -4,8 +4,7 @@ ghost use Rattle.std.specs.Prelude.{◌≡◌, ◌+◌, ◌-◌, ◌^◌, min};
 
 use std::marker::Model;
 
-/// How many entries searches have looked at. A count that would pass the greatest number stays
-/// there.
+/// How many entries searches have looked at. The count stays at the greatest number.
 #[derive(Clone, Copy, Debug, PartialEq, Eq, Drop)]
 pub struct Steps {
     count: u64,
@@ -22,21 +21,21 @@ impl Model for Steps {
 }
 
 impl Steps {
-    /// No entry yet.
+    /// Makes a count of 0.
     pub fn new() -> Steps
         ensures { result ≡ 0 }
     {
         Steps { count: 0 }
     }
 
-    /// The entries so far.
+    /// Returns the count.
     pub fn count(self) -> u64
         ensures { result ≡ self }
     {
         self.count
     }
 
-    // So many entries more.
+    // Adds to the count.
     pub(crate) fn add(&mut self, entries: u64)
         ensures { self.new ≡ min (self.old + entries) (2 ^ 64 - 1) }
     {

@@ -1,4 +1,4 @@
-// What a log comes to but for its slots.
+// The content of a log without its slots.
 
 ghost use Rattle.std.specs.Prelude.{◌≡◌, ℕ, ◌<◌, ◌≤◌, OnOk, IfOk, IsTrue, length, true, vec_len, Some, None};
 ghost use Rattle.std.specs.List.{insert, remove, list_all};
@@ -17,25 +17,25 @@ use crate::kinds::{
 use crate::log::Log;
 use std::alloc::{AllocError, Global};
 
-/// What a log comes to but for its slots: the fields that a [`Content`](crate::Content) of the log
-/// has, and the number of its slots.
+/// The fields that a [`Content`](crate::Content) of the log has, without the slots, and the number
+/// of slots.
 #[derive(Clone, Copy, Debug, PartialEq, Eq, Drop)]
 pub struct Summary {
     pub slot_count: usize,
     pub tail: Option<Tail>,
     pub move_state: MoveState,
-    /// Each slot has a name and a struct.
+    /// Whether each slot has a name and a struct.
     pub is_complete: bool,
 }
 
-// What is kept of a slot.
+// What a summary notes of a slot.
 #[derive(Clone, Copy, Drop)]
 struct Mark {
     has_name: bool,
     has_struct: bool,
 }
 
-// What the entries so far come to.
+// The summary of the entries so far.
 #[derive(Drop)]
 struct Outline {
     marks: Vec<Mark>,
@@ -44,8 +44,11 @@ struct Outline {
 }
 
 impl Summary {
-    /// Reads a log as [`Content::read`](crate::Content::read) does, without its slots: it takes
-    /// memory for two bytes a slot. Answers `Malformed` exactly where the log is.
+    /// Reads a log as [`Content::read`](crate::Content::read) does, without its slots. The call
+    /// takes two bytes of memory a slot.
+    ///
+    /// Errors: `Malformed` exactly where the log is malformed. `NoMemory` where that memory isn't
+    /// granted.
     #[tactic(auto, using(crate::proofs::Summaries::no_content_where_none))]
     pub fn read(alloc: Global, log: &Log<'_>) -> Result<Summary, ContentError>
         ensures summary { IfOk result (λ s. (c : RawContent) × Sums log.now c s) }
@@ -87,7 +90,7 @@ fn are_whole(marks: &[Mark]) -> bool
     marks.iter().all(|mark| mark.has_name && mark.has_struct)
 }
 
-// What an entry makes of the outline.
+// Applies an entry to the outline.
 fn take(outline: &mut Outline, entry: &Entry<'_>) -> Result<(), ContentError>
     ensures { Gives (λ _. outline_view outline.new) result (outline_after (outline_view outline.old) (log_entry_view entry.now)) }
 {
@@ -111,7 +114,7 @@ fn take(outline: &mut Outline, entry: &Entry<'_>) -> Result<(), ContentError>
     }
 }
 
-// What an entry that is no checksum, tail or move state makes of the slots' marks.
+// Applies to the slots' marks an entry that is no checksum, tail or move state.
 fn take_mark(marks: &mut Vec<Mark>, entry: &Entry<'_>) -> Result<(), ContentError>
     ensures { Gives (λ _. marks.new.items) result (marks_after marks.old.items (log_entry_view entry.now)) }
 {
@@ -146,7 +149,7 @@ fn take_mark(marks: &mut Vec<Mark>, entry: &Entry<'_>) -> Result<(), ContentErro
     }
 }
 
-// Whether a slot is there and has a name.
+// Returns whether a slot is there and has a name.
 fn is_named(marks: &[Mark], id: usize) -> bool
     ensures value { result ≡ (mark_of_id marks.now id).has_name }
     ensures there { IsTrue result → id < length marks.now }

@@ -7,8 +7,8 @@ ghost use Rattle.lfs_model.specs.EntryTypes.{removes};
 use crate::kinds::{CHECKSUM_CLASS, FORWARD_CHECKSUM};
 use std::marker::Model;
 
-/// A tag of 32 bits: from the top a bit that is 0 where the tag is valid, 11 bits of type, ten of id
-/// and ten of length (SPEC.md of littlefs, "Metadata tags").
+/// A tag of 32 bits (SPEC.md of littlefs, "Metadata tags"). From the top these are a bit that is 0
+/// where the tag is valid, 11 bits of type, ten of id and ten of length.
 #[derive(Clone, Copy, Debug, PartialEq, Eq, Drop)]
 pub struct Tag {
     bits: u32,
@@ -25,27 +25,27 @@ impl Model for Tag {
 }
 
 impl Tag {
-    /// The id of a tag that is about no slot.
+    /// The id of a tag that isn't about a slot.
     pub const NO_ID: u16 = 0x3ff;
 
-    /// The length that stands for no bytes, and removes an attribute.
+    /// The length of a tag without bytes. It removes an attribute.
     pub const REMOVED: u16 = 0x3ff;
 
-    /// The tag with these bits.
+    /// Makes the tag with these bits.
     pub fn from_bits(bits: u32) -> Tag
         ensures { result ≡ bits }
     {
         Tag { bits }
     }
 
-    /// The tag's bits.
+    /// Returns the tag's bits.
     pub fn bits(self) -> u32
         ensures { result ≡ self }
     {
         self.bits
     }
 
-    /// The valid tag with these fields.
+    /// Makes the valid tag with these fields: a type below 2,048, an id and a length below 1,024.
     pub fn new(kind: u16, id: u16, len: u16) -> Tag
         requires kind { kind < 2 ^ 11 }
         requires id { id < 2 ^ 10 }
@@ -61,8 +61,8 @@ impl Tag {
         }
     }
 
-    /// The tag that is stored so behind the tag `previous`. In front of a block's first tag all bits
-    /// count as set.
+    /// Decodes the stored tag after the tag `previous`. For a block's first tag `previous` has all
+    /// bits set.
     pub fn decode(stored: u32, previous: Tag) -> Tag
         ensures { result ≡ bit_xor stored previous }
     {
@@ -71,7 +71,7 @@ impl Tag {
         }
     }
 
-    /// How the tag is stored behind the tag `previous`.
+    /// Returns how the tag is stored after the tag `previous`.
     pub fn encode(self, previous: Tag) -> u32
         ensures stored { result ≡ bit_xor self previous }
         ensures again { bit_xor result previous ≡ self }
@@ -79,57 +79,58 @@ impl Tag {
         self.bits ^ previous.bits
     }
 
-    /// Whether the top bit is 0, as it is in every entry of a log.
+    /// Returns whether the top bit is 0, as in each entry of a log.
     pub fn is_valid(self) -> bool
         ensures { IsTrue result ↔ IsValid self }
     {
         self.bits >> 31 == 0
     }
 
-    /// The type, below 2,048: one of [`crate::kinds`], or that of a user attribute, 0x300 and its
-    /// own type.
+    /// Returns the type, below 2,048: one of [`crate::kinds`], or that of a user attribute, 0x300
+    /// and its own type.
     pub fn kind(self) -> u16
         ensures { result ≡ kind_of self }
     {
         (self.bits >> 20 & 0x7ff) as u16
     }
 
-    /// The id of the slot, below 1,024.
+    /// Returns the id of the slot, below 1,024.
     pub fn id(self) -> u16
         ensures { result ≡ id_of self }
     {
         (self.bits >> 10 & 0x3ff) as u16
     }
 
-    /// The length, below 1,024.
+    /// Returns the length, below 1,024.
     pub fn len(self) -> u16
         ensures { result ≡ len_of self }
     {
         (self.bits & 0x3ff) as u16
     }
 
-    /// The upper three bits of the type.
+    /// Returns the class: the upper three bits of the type.
     pub fn class(self) -> u16
         ensures { result ≡ class_of self }
     {
         self.kind() >> 8
     }
 
-    /// The lower eight bits of the type. In an attribute's tag they are the attribute's own type.
+    /// Returns the chunk: the lower eight bits of the type. In an attribute's tag these are the
+    /// attribute's own type.
     pub fn chunk(self) -> u8
         ensures { result ≡ chunk_of self }
     {
         (self.kind() & 0xff) as u8
     }
 
-    /// Whether the length is the one that removes an attribute.
+    /// Returns whether the length is the one that removes an attribute.
     pub fn removes(self) -> bool
         ensures { result ≡ removes self }
     {
         self.len() == Tag::REMOVED
     }
 
-    /// How many bytes follow the tag.
+    /// Returns how many bytes follow the tag.
     pub fn size(self) -> usize
         ensures { result ≡ data_size self }
     {
@@ -140,16 +141,16 @@ impl Tag {
         }
     }
 
-    // Whether it ends a commit, or spoils it: any tag of class 5 but a forward checksum's, which
-    // littlefs writes from version 2.1 on, and which means nothing here.
+    // Returns whether the tag ends a commit, or spoils it. These are all tags of class 5 but a
+    // forward checksum's, which littlefs writes from version 2.1 on and which has no meaning here.
     pub(crate) fn ends_commit(self) -> bool
         ensures { result ≡ ends_commit self }
     {
         self.class() == CHECKSUM_CLASS && !(self.kind() == FORWARD_CHECKSUM && self.len() <= 1022)
     }
 
-    // The tag as the next one is decoded with it: a checksum's lowest chunk bit is added to the top
-    // bit, so that what stands behind a commit can be made to decode as no tag.
+    // Returns the tag as the next one is decoded with it. A checksum's lowest chunk bit is added to
+    // the top bit. So the bytes after a commit can be made to decode as no tag.
     pub(crate) fn carried(self) -> Tag
         ensures { result ≡ carried self }
     {
@@ -162,7 +163,7 @@ impl Tag {
         }
     }
 
-    // The valid tag that carries this.
+    // Returns the valid tag that is carried as this one.
     pub(crate) fn plain(self) -> Tag
         ensures { result ≡ self % 2 ^ 31 }
     {

@@ -31,7 +31,7 @@ after_program = programming ∷ erasing ∷ []
 abbrev pub after_read : List Event
 after_read = reading ∷ programming ∷ erasing ∷ []
 
--- calls that weren't obeyed: a program that left nothing, and an erase of another block
+-- calls that don't conform: a program that left nothing, and an erase of another block
 abbrev pub forgetting : Event
 forgetting = event (Program 0 0 (9 ∷ 9 ∷ [])) erased_blocks erased_blocks false
 

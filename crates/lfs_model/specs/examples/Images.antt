@@ -107,7 +107,7 @@ appended_commit =
 abbrev pub appended_image : Disk
 appended_image = small_disk (filled 1024 (small_commit ++ appended_commit))
 
--- bit k of the checksum is turned
+-- bit k of the checksum is inverted
 abbrev pub turned_block : ℕ → List ℕ
 turned_block k = slice_set small_block (48 + k / 8) (bit_xor (slice_index small_block (48 + k / 8)) (2 ^ (k % 8)))
 

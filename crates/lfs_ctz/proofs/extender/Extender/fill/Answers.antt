@@ -19,7 +19,7 @@ use Rattle.lfs_ctz.proofs.Sizes.{bytes_before-least, pointers_of-le}
 use Rattle.lfs_ctz.proofs.Filling.{rest_more, joined_full}
 use Rattle.lfs_ctz.proofs.extender.Extender.fill.Goals as goal
 
--- the rest, with more bytes behind it
+-- the rest, with more bytes after it
 longer : (e : Inside) (bytes new : List ℕ) (n : ℕ) → HasBlock e → n ≤ length bytes → e.filled + n ≤ e.geometry.block_size → new ≡ overwritten e.buffer.items e.filled (take n bytes)
     → take (e.filled + n - 4 * pointers_of e.full) (drop (4 * pointers_of e.full) new) ≡ (growing e).rest ++ take n bytes
 longer e bytes new n has le fits is =

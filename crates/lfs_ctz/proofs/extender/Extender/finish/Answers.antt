@@ -68,7 +68,7 @@ returns-in-Held-clause-size g c = (counted c.self.inside c.args.self c.self.inva
 pub returns-clause-size : goal.returns-clause-size
 returns-clause-size g c = (counted c.self.inside c.args.self c.self.invariant c.self.view_is).sum
 
--- contents that stand in memory alone aren't ended
+-- contents that are in memory alone aren't ended
 never_held : (t : Rest) → is_held_in t ≡ false → t ≡ Held → ⊥
 never_held t listed is = let other : true ≡ false = subst (λ k. is_held_in k ≡ false) is listed in absurd (cc)
 

@@ -129,6 +129,11 @@ IsCache-rest recent b cache = record {
   distinct = IsDistinct-keys_filter nat_eq (λ e. not (nat_eq b e.0)) recent.entries cache.distinct;
 }
 
+-- without a block it is one too
+pub IsCache-none : (recent : LruCache ℕ (Vec ℕ Global)) → IsCache recent → IsCache (lru_cache [] recent.cap)
+unfolding IsDistinct
+IsCache-none recent cache = record { capacity = cache.capacity; few = omega (arith); distinct = tt }
+
 -- ---- a block that is made the most recent
 
 found : {X : Type 0} (o : Option X) → is_some o ≡ true → (x : X) × (o ≡ Some x)

@@ -102,6 +102,14 @@ impl Cache {
         self.take(block);
     }
 
+    /// Takes all blocks out of the cache and drops their bytes. The call takes no memory and makes
+    /// no call of the device.
+    pub fn clear(&mut self)
+        ensures { self.new ≡ [] }
+    {
+        self.recent.clear();
+    }
+
     // Makes a cached block the most recent one. Returns whether the block is cached.
     fn promote(&mut self, block: u32) -> bool
         ensures cached_log { result ≡ is_some (cached self.old block) }

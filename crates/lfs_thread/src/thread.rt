@@ -444,31 +444,22 @@ impl<D: BlockDevice> Thread<D> {
         self.has_failed = outcome.is_err();
         outcome
     }
+
     /// Lends the device and the map to `work`, which leaves the blocks of the pairs as they are,
     /// and used. Such work writes a file's list into free blocks or blocks in flight, or settles it
     /// in the map. The cache is empty afterwards.
-    ///
-    /// Errors: `NoMemory` where memory for an empty cache isn't granted. Then `work` isn't called.
-    pub fn beside<X, F: FnOnce(&mut D, &mut BlockMap) -> X>(
-        &mut self,
-        alloc: Global,
-        work: F,
-    ) -> Result<X, Error>
+    pub fn beside<X, F: FnOnce(&mut D, &mut BlockMap) -> X>(&mut self, work: F) -> X
         requires works { self.old.failed ≡ false }
         requires can { (device : D) (map : BlockMap) → IsOnDevice D.BlockDevice self.old.kept device map → CanRun F.FnOnce work device map }
         requires leaves { (device : D) (map : BlockMap) (x : X) (later : D) (later_map : BlockMap) → IsOnDevice D.BlockDevice self.old.kept device map
             → Runs F.FnOnce work device map x later later_map → LeavesPairs D.BlockDevice self.old.kept device map later later_map }
-        ensures ran { IfOk result (λ x. HasRun D.BlockDevice F.FnOnce work self.old.kept x self.new.kept) }
+        ensures ran { HasRun D.BlockDevice F.FnOnce work self.old.kept result self.new.kept }
         ensures pairs { self.new.kept.pairs ≡ self.old.kept.pairs }
         ensures works { self.new.failed ≡ false }
-        ensures cache { OnOk result (self.new.cache ≡ []) }
-        ensures unbegun { OnErr result (self.new ≡ self.old) }
-        ensures error { IfErr result (λ e. e ≡ Error.NoMemory) }
+        ensures cache { self.new.cache ≡ [] }
     {
-        let cache = Cache::new(alloc)?;
-        self.cache = cache;
-        let x = work(&mut self.device, &mut self.map);
-        Ok(x)
+        self.cache.clear();
+        work(&mut self.device, &mut self.map)
     }
 
     /// Marks the thread as failed, where what it lent may be of no use any more.

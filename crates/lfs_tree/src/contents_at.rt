@@ -139,7 +139,7 @@ fn commit_at<D: BlockDevice>(
     let target = find_target(alloc, thread, root, path)?;
     let file = file_in(target.found);
     put_contents(alloc, thread, file.spot, &contents)?;
-    settle_file(alloc, thread, file.list, list_in(&contents))?;
+    settle_file(thread, file.list, list_in(&contents))?;
     Ok(())
 }
 

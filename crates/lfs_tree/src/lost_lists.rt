@@ -103,9 +103,8 @@ pub(crate) fn lists_of_pairs<D: BlockDevice>(
 
 // Frees the blocks of lists in the map, once no pair names them. Nothing is written.
 //
-// `Io` where a read failed, and `NoMemory` where memory isn't granted; the thread has failed then.
+// `Io` where a read failed; the thread has failed then.
 pub(crate) fn free_lists<D: BlockDevice>(
-    alloc: Global,
     thread: &mut Thread<D>,
     lists: &[Stored],
 ) -> Result<(), Error>
@@ -124,7 +123,7 @@ pub(crate) fn free_lists<D: BlockDevice>(
         in_flight: false,
     };
     for list in lists {
-        settle_file(alloc, thread, *list, nothing)?;
+        settle_file(thread, *list, nothing)?;
     }
     Ok(())
 }

@@ -42,7 +42,7 @@ fn drop_with_lists<D: BlockDevice>(
     ensures survives { SurvivesTo thread.old.kept thread.new.kept (tree_in thread.old.kept.disk thread.old.kept.pairs) }
 {
     drop_unreached(alloc, thread, numbers)?;
-    free_lists(alloc, thread, lists)?;
+    free_lists(thread, lists)?;
     Ok(())
 }
 

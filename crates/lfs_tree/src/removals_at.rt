@@ -26,9 +26,8 @@ use std::alloc::Global;
 
 // Frees the blocks of a file's list in the map, once no pair names it. Nothing is written.
 //
-// `Io` where a read failed, and `NoMemory` where memory isn't granted; the thread has failed then.
+// `Io` where a read failed; the thread has failed then.
 pub(crate) fn free_list<D: BlockDevice>(
-    alloc: Global,
     thread: &mut Thread<D>,
     contents: Contents,
 ) -> Result<(), Error>
@@ -54,7 +53,7 @@ pub(crate) fn free_list<D: BlockDevice>(
                 size: 0,
                 in_flight: false,
             };
-            settle_file(alloc, thread, list, nothing)
+            settle_file(thread, list, nothing)
         }
     }
 }
@@ -76,7 +75,7 @@ fn take_file<D: BlockDevice>(
     ensures survives { (path : TreePath) → CanTake thread.old.kept path parent slot contents → SurvivesTo thread.old.kept thread.new.kept (removed path (tree_in thread.old.kept.disk thread.old.kept.pairs)) }
 {
     remove_file(alloc, thread, slot.pair, slot.id, parent)?;
-    free_list(alloc, thread, contents)
+    free_list(thread, contents)
 }
 
 // Takes what was found, a file or a directory without entries.

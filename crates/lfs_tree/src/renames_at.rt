@@ -119,7 +119,7 @@ fn move_onto_file<D: BlockDevice>(
     ensures survives { (from to : Path) → CanShiftOnto thread.old.kept from to source slot contents name.now → SurvivesTo thread.old.kept thread.new.kept (renamed from to (tree_in thread.old.kept.disk thread.old.kept.pairs)) }
 {
     replace_file(alloc, thread, source, slot, contents, name)?;
-    free_list(alloc, thread, contents)
+    free_list(thread, contents)
 }
 
 // Puts an entry in the place of a directory without entries, whose own pair has number `gone`.

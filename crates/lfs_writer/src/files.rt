@@ -1,6 +1,6 @@
 // The contents of files that are open for writing, on the device of a thread of metadata pairs.
 
-ghost use Rattle.std.specs.Prelude.{◌≡◌, false, is_err, length, take, IfOk, OnOk};
+ghost use Rattle.std.specs.Prelude.{◌≡◌, false, is_err, length, take, IfErr, IfOk, OnOk};
 ghost use Rattle.lfs_model.specs.Writers.{written_into, zeros_to};
 ghost use Rattle.lfs_writer.specs.Settling.{CanSettle, IsReadBesideMap, IsSettledIn};
 ghost use Rattle.lfs_writer.specs.Standing.{CanFinish, CanTruncate, CanWrite, HoldsContents, LeavesPairsAndUsed, ReportsWork, held_in};
@@ -17,8 +17,8 @@ use std::alloc::Global;
 /// before it. The pairs of the thread stay as they are.
 ///
 /// Contents of at most `limit` bytes are kept in memory. The contents are gone after an error:
-/// `Io` where the device failed, `NoMemory` where there is no memory for a block or an empty cache.
-/// The thread works on.
+/// `Io` where the device failed, `NoMemory` where there is no memory for a block. The thread works
+/// on.
 pub fn write_file<D: BlockDevice>(
     alloc: Global,
     thread: &mut Thread<D>,
@@ -36,18 +36,17 @@ pub fn write_file<D: BlockDevice>(
     ensures leaves { LeavesPairsAndUsed thread.old.kept thread.new.kept }
     ensures reports { ReportsWork thread.old.kept thread.new.kept result }
 {
-    let written = thread.beside(alloc, |device, map| {
+    thread.beside(|device, map| {
         write_contents(alloc, device, map, contents, limit, place, bytes)
-    })?;
-    written
+    })
 }
 
 /// Cuts the contents of an open writer to a size, or fills them up to it with zeros. The pairs of
 /// the thread stay as they are.
 ///
 /// Contents of at most `limit` bytes are kept in memory. The contents are gone after an error:
-/// `Io` where the device failed, `NoMemory` where there is no memory for a block or an empty cache.
-/// The thread works on.
+/// `Io` where the device failed, `NoMemory` where there is no memory for a block. The thread works
+/// on.
 pub fn truncate_file<D: BlockDevice>(
     alloc: Global,
     thread: &mut Thread<D>,
@@ -64,17 +63,14 @@ pub fn truncate_file<D: BlockDevice>(
     ensures leaves { LeavesPairsAndUsed thread.old.kept thread.new.kept }
     ensures reports { ReportsWork thread.old.kept thread.new.kept result }
 {
-    let truncated = thread.beside(alloc, |device, map| {
-        truncate_contents(alloc, device, map, contents, limit, size)
-    })?;
-    truncated
+    thread.beside(|device, map| truncate_contents(alloc, device, map, contents, limit, size))
 }
 
 /// Ends the list in hand of an open writer, where there is one. The contents stay, and so do the
 /// pairs of the thread.
 ///
 /// The contents are gone after an error: `Io` where the device failed, `NoMemory` where there is no
-/// memory for a block or an empty cache. The thread works on.
+/// memory for a block. The thread works on.
 pub fn finish_file<D: BlockDevice>(
     alloc: Global,
     thread: &mut Thread<D>,
@@ -88,13 +84,11 @@ pub fn finish_file<D: BlockDevice>(
     ensures leaves { LeavesPairsAndUsed thread.old.kept thread.new.kept }
     ensures reports { ReportsWork thread.old.kept thread.new.kept result }
 {
-    let finished = thread.beside(alloc, |device, map| finish(alloc, device, map, contents))?;
-    finished
+    thread.beside(|device, map| finish(alloc, device, map, contents))
 }
 
 // Settles a list in the map of a thread, which works on; after an error the map is of no use.
 fn settle_beside<D: BlockDevice>(
-    alloc: Global,
     thread: &mut Thread<D>,
     before: Stored,
     stored: Stored,
@@ -102,25 +96,21 @@ fn settle_beside<D: BlockDevice>(
     requires works { thread.old.failed ≡ false }
     requires can { CanSettle thread.old.kept before stored }
     ensures settled { OnOk result (IsSettledIn thread.old.kept before stored thread.new.kept) }
+    ensures errors { IfErr result (λ e. e ≡ Error.Io) }
     ensures only { IsReadBesideMap thread.old.kept thread.new.kept }
     ensures works { thread.new.failed ≡ false }
     ensures reports { ReportsWork thread.old.kept thread.new.kept result }
 {
-    let settled = thread.beside(
-        alloc,
-        |device, map| settle_list(device, map, before, stored),
-    )?;
-    settled
+    thread.beside(|device, map| settle_list(device, map, before, stored))
 }
 
 /// Settles a finished list once a commit names it: its blocks are used, and those that only the
 /// list before it had are free. Either list may have no bytes, and then has no block. Nothing is
 /// written.
 ///
-/// After an error, `Io` where the device failed or `NoMemory` where there is no memory for an empty
-/// cache, the thread has failed, since its map is of no use any more.
+/// After an error, which is `Io` where the device failed, the thread has failed, since its map is of
+/// no use any more.
 pub fn settle_file<D: BlockDevice>(
-    alloc: Global,
     thread: &mut Thread<D>,
     before: Stored,
     stored: Stored,
@@ -128,11 +118,12 @@ pub fn settle_file<D: BlockDevice>(
     requires works { thread.old.failed ≡ false }
     requires can { CanSettle thread.old.kept before stored }
     ensures settled { OnOk result (IsSettledIn thread.old.kept before stored thread.new.kept) }
+    ensures errors { IfErr result (λ e. e ≡ Error.Io) }
     ensures only { IsReadBesideMap thread.old.kept thread.new.kept }
     ensures failed { thread.new.failed ≡ is_err result }
     ensures reports { ReportsWork thread.old.kept thread.new.kept result }
 {
-    let result = settle_beside(alloc, thread, before, stored);
+    let result = settle_beside(thread, before, stored);
     if result.is_err() {
         thread.fail();
     }

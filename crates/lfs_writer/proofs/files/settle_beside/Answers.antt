@@ -15,11 +15,11 @@ beside-requires-clause-can g c device map shows = record {
 
 pub returns-clause-settled : goal.returns-clause-settled
 returns-clause-settled g c =
-    let ran = c.in_ok-settled.ensures.ran in
+    let ran = c.beside.ensures.ran in
     let run = ran.run in
     settled_after g.D.BlockDevice c.args.thread.now.kept run.shown.now run.shown_map.now
     (record { disk = ap (disk_on g.D.BlockDevice) run.shows ∙ ran.before.disk; history = ap g.D.BlockDevice.history run.shows ∙ ran.before.history; map = run.shows_map ∙ ran.before.map })
-    (g.met.D.BlockDevice.shape run.shown.now) c.args.before c.args.stored c.requires.can c.beside.new.self.kept run.left_map.now (run.leaves_map ∙ ran.after.map) c.in_ok-settled.settled (search rules)
+    (g.met.D.BlockDevice.shape run.shown.now) c.args.before c.args.stored c.requires.can c.beside.new.self.kept run.left_map.now (run.leaves_map ∙ ran.after.map) c.beside.result (search rules)
 
 pub beside-requires-clause-leaves : goal.beside-requires-clause-leaves
 beside-requires-clause-leaves g c device map x later later_map shows runs =

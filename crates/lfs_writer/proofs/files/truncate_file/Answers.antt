@@ -16,20 +16,20 @@ beside-requires-clause-can g c device map shows = record {
 
 pub returns-clause-truncated : goal.returns-clause-truncated
 returns-clause-truncated g c =
-    let ran = c.in_ok-truncated.ensures.ran in
+    let ran = c.beside.ensures.ran in
     let run = ran.run in
     holds_after g.D.BlockDevice c.args.thread.now.kept c.beside.new.self.kept run.shown.now run.left.now run.shown_map.now run.left_map.now
     (record { disk = ap (disk_on g.D.BlockDevice) run.shows ∙ ran.before.disk; history = ap g.D.BlockDevice.history run.shows ∙ ran.before.history; map = run.shows_map ∙ ran.before.map })
     (record { disk = ap (disk_on g.D.BlockDevice) run.leaves ∙ ran.after.disk; history = ap g.D.BlockDevice.history run.leaves ∙ ran.after.history; map = run.leaves_map ∙ ran.after.map })
     (g.met.D.BlockDevice.shape run.shown.now) (g.met.D.BlockDevice.shape run.left.now) (search rules)
-    (λ d n. take c.args.size (zeros_to c.args.size (bytes_in d n c.args.contents))) (truncated c.args.limit c.args.size (form_of c.args.contents)) c.in_ok-truncated.truncated
+    (λ d n. take c.args.size (zeros_to c.args.size (bytes_in d n c.args.contents))) (truncated c.args.limit c.args.size (form_of c.args.contents)) c.beside.result
     (search rules)
 
 pub returns-clause-owned : goal.returns-clause-owned
 returns-clause-owned g c =
-    let ran = c.in_ok-truncated.ensures.ran in
+    let ran = c.beside.ensures.ran in
     let run = ran.run in
     owned_after g.D.BlockDevice c.args.thread.now.kept c.beside.new.self.kept run.shown.now run.left.now run.shown_map.now run.left_map.now
     (record { disk = ap (disk_on g.D.BlockDevice) run.shows ∙ ran.before.disk; history = ap g.D.BlockDevice.history run.shows ∙ ran.before.history; map = run.shows_map ∙ ran.before.map })
     (record { disk = ap (disk_on g.D.BlockDevice) run.leaves ∙ ran.after.disk; history = ap g.D.BlockDevice.history run.leaves ∙ ran.after.history; map = run.leaves_map ∙ ran.after.map })
-    (g.met.D.BlockDevice.shape run.shown.now) (g.met.D.BlockDevice.shape run.left.now) (search rules) c.args.contents c.in_ok-truncated.truncated (search rules)
+    (g.met.D.BlockDevice.shape run.shown.now) (g.met.D.BlockDevice.shape run.left.now) (search rules) c.args.contents c.beside.result (search rules)

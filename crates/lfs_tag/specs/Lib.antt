@@ -3,6 +3,8 @@ pub mod Read
 pub mod Walk
 pub mod FieldsView
 pub mod ContentView
+pub mod KindView
+pub mod StructView
 pub mod ContentGives
 pub mod Summary
 pub mod Search

@@ -16,7 +16,9 @@ mod names;
 mod pushed;
 mod revision;
 mod search;
+mod slot_kind;
 mod steps;
+mod structure;
 mod summary;
 mod tag;
 
@@ -32,6 +34,8 @@ pub use lookup::{Lookup, find};
 pub use names::{is_component, is_name, name_cmp};
 pub use revision::is_later;
 pub use search::{get, name_of, struct_of};
+pub use slot_kind::Kind;
 pub use steps::Steps;
+pub use structure::Struct;
 pub use summary::Summary;
 pub use tag::Tag;

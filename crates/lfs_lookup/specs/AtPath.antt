@@ -1,4 +1,4 @@
--- What a path leads to, as it is found.
+-- What a path leads to, as a look-up finds it.
 use Rattle.std.specs.Prelude.{ℕ, ◌≡◌, ◌<◌, nat_lt, List, length, Option, Some, None, Bool}
 use Rattle.lfs_model.specs.Thread.{Pair, gstate_of}
 use Rattle.lfs_model.specs.Tree.{Path}
@@ -21,11 +21,11 @@ pub record ShowsAt (t : Kept) (path : Path) (shown : Shown) : Type 0 where
   pub hides : HidesFrom (gstate_of t.pairs) moved 0 t.pairs
   pub shows : ShowsTo t moved path shown
 
--- whether something stands in the directory that begins with the pair of that number, if there is one
+-- whether the directory that begins with the pair of that number has an entry, if there is one
 abbrev pub has_entries_from : List Pair → Option ℕ → Bool
 has_entries_from ps from = nat_lt 0 (length (shapes_from ps from))
 
--- the number of the first pair of the directory that stands there
+-- the number of the first pair of the directory that was found
 abbrev pub first_shown : ℕ → Shown → Option ℕ
 first_shown root shown.Root = Some root
 first_shown root (shown.Directory slot first) = Some first
@@ -35,7 +35,7 @@ abbrev pub size_shown : Contents → ℕ
 size_shown (contents.Inline len) = len
 size_shown (contents.List head size) = size
 
--- inline bytes stand in an entry
+-- inline bytes are in an entry
 abbrev pub IsInEntry : Contents → Type 0
 IsInEntry (contents.Inline len) = len < 0x3ff
 IsInEntry (contents.List head size) = Unit {0}
@@ -44,7 +44,7 @@ abbrev pub IsInEntryIfFile : Shown → Type 0
 IsInEntryIfFile (shown.File slot contents) = IsInEntry contents
 IsInEntryIfFile _ = Unit {0}
 
--- by what a path is refused, and what stands at it
+-- the parent's refusal of a path, and the entry at it
 abbrev pub finding_of : Shown → Finding
 finding_of shown.Root = record { fault = None; node = node.Directory }
 finding_of (shown.Directory slot first) = record { fault = None; node = node.Directory }

@@ -1,4 +1,4 @@
--- An attribute that is found.
+-- An attribute that a look-up finds.
 use Rattle.std.specs.Prelude.{ℕ, ◌≡◌, ◌≤◌, ◌<◌, ◌^◌, ◌+◌, List, Option, Some, None, IfSome, IsSome, Vec, [], length}
 use Rattle.std.specs.Option.{option_map, option_map_or}
 use Rattle.std.specs.declared.alloc.Global.{Global}
@@ -33,7 +33,7 @@ abbrev pub AreHeld : Kept → Option Spot → Attributes → Type 0
 AreHeld t None attributes = attributes ≡ []
 AreHeld t (Some spot) attributes = (slot : Slot) × (IsSlotAt t spot slot × (slot.attributes ≡ attributes))
 
--- putting an attribute adds its size, and takes that of the one of its type
+-- putting an attribute adds its size, and subtracts that of the attribute of its type
 abbrev pub TakesPlace : Attributes → Type 0
 TakesPlace attributes = (kind : ℕ) (bytes : List ℕ) → attributes_size (put_attribute kind bytes attributes) + option_map_or (λ b. 4 + length b) (attribute_of kind attributes) 0 ≡ attributes_size attributes + (4 + length bytes)
 

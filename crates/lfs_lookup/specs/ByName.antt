@@ -8,7 +8,7 @@ use Rattle.lfs_lookup.specs.Items.{Shape}
 abbrev pub comes_before : Shape → Shape → Bool
 comes_before a b = is_less (name_cmp ShorterFirst a.name b.name)
 
--- the same entries, in that order
+-- the same entries, sorted by name
 pub record AreByName (shapes others : List Shape) : Type 0 where
   pub permutation : IsPermutation shapes others
   pub sorted : IsSortedBy comes_before others

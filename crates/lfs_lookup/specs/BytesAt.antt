@@ -1,4 +1,4 @@
--- The slot at a spot, and what a file's slot says.
+-- The slot at a spot, and the contents of a file's slot.
 use Rattle.std.specs.Prelude.{◌≡◌, ◌<◌, Option, length, slice_get, Some, None}
 use Rattle.lfs_model.specs.Slots.{Slot}
 use Rattle.lfs_model.specs.View.{IsListIfCtz}
@@ -20,7 +20,7 @@ pub record IsFileAt (t : Kept) (spot : Spot) (contents : Contents) (slot : Slot)
   pub shows : ShowsContents contents slot.struct
   pub list : IsListIfCtz t.disk slot.struct
 
--- the slot of a file, and where its bytes stand
+-- the slot of a file, and where its bytes are
 abbrev pub file_shown : Shown → Option (Spot × Contents)
 file_shown (File slot contents) = Some (slot, contents)
 file_shown _ = None

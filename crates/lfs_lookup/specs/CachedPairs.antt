@@ -1,4 +1,4 @@
--- Which pairs are cached: those whose logs stand in blocks that were kept since they were read.
+-- Which pairs are cached: those whose logs are in cached blocks.
 use Rattle.std.specs.Prelude.{ℕ, suc, ◌≡◌, ◌≤◌, ◌<◌, List, [], take, length, Result, OnOk, IfOk, IsSome}
 use Rattle.std.specs.List.{AllByRecursion}
 use Rattle.std.specs.Option.{option_map_or}
@@ -17,25 +17,25 @@ use Rattle.lfs_thread.specs.Kept.{State}
 abbrev pub IsRecent : ℕ → CachedBlocks → ℕ → Type 0
 IsRecent n cache b = IsSome (cached (take n cache) b)
 
--- so are the blocks in which the logs of these pairs stand
+-- the blocks with the logs of these pairs are, too
 abbrev pub AreRecent : ℕ → Disk → CachedBlocks → List Pair → Type 0
 AreRecent n disk cache ps = AllByRecursion (λ p. IsRecent n cache (active_at disk p.at)) ps
 
 abbrev pub AreCached : State → List Pair → Type 0
 AreCached t ps = AreRecent cache_limit t.kept.disk t.cache ps
 
--- what was cached still is
+-- pairs that were cached still are
 abbrev pub StayCached : CachedBlocks → CachedBlocks → Type 0
 StayCached old new = (b : ℕ) → IsRecent cache_limit old b → IsRecent cache_limit new b
 
 -- ---- along the pairs of a directory
 
--- the block was used last, and what was used before it stands one further back
+-- the block was used last, and each block that was used before is one place further back
 pub record IsLoaded (b : ℕ) (old new : CachedBlocks) : Type 0 where
   pub first : IsRecent 1 new b
   pub others : (n c : ℕ) → n < cache_limit → IsRecent n old c → IsRecent (suc n) new c
 
--- Where all these pairs are cached nothing is read, and what was cached still is. One alone is brought.
+-- Where all these pairs are cached no block is read, and pairs that were cached still are. One pair alone is loaded.
 pub record LoadsAlong {X : Type 0} (ps : List Pair) (old new : State) (result : Result X Error) : Type 0 where
   pub none : AreCached old ps → reads new.kept.history ≡ reads old.kept.history
   pub stay : AreCached old ps → OnOk result (StayCached old.cache new.cache)
@@ -59,8 +59,8 @@ pub record AreSmall (ps : List Pair) (paths : List Path) : Type 0 where
   pub few : length paths ≤ cache_limit
   pub small : AllByRecursion (λ p. pairs_of_path ps p ≡ 1) paths
 
--- Where all pairs of these directories are cached nothing is read, and what was cached still is. Small ones are the last that
--- were used, where the way went through all of them.
+-- Where all pairs of these directories are cached no block is read, and pairs that were cached still are. Small directories are
+-- the last that were used, where the way led through all of them.
 pub record LoadsDown {X : Type 0} (through : X → Type 0) (paths : List Path) (old new : State) (result : Result X Error) : Type 0 where
   pub none : AreCachedBeneath old paths → reads new.kept.history ≡ reads old.kept.history
   pub stay : AreCachedBeneath old paths → OnOk result (StayCached old.cache new.cache)

@@ -1,4 +1,4 @@
--- What is handed out of a slot's struct.
+-- What a caller gets of a slot's struct.
 use Rattle.std.specs.Prelude.{ℕ, ◌≡◌, ◌<◌, List, length}
 use Rattle.lfs_model.specs.Slots.{Struct, Inline, Ctz, Branch, address_of}
 use Rattle.lfs_lookup.specs.declared.entry.Contents.{Contents}

@@ -1,4 +1,4 @@
--- The contents of a file, by what its entry says.
+-- The contents of a file, by its entry.
 use Rattle.std.specs.Prelude.{◌≡◌, ◌<◌, false, List, Option, Some, None, length}
 use Rattle.lfs_model.specs.Keeping.{struct_at}
 use Rattle.lfs_model.specs.Shown.{tree_in}
@@ -15,7 +15,7 @@ abbrev pub struct_of : FileContents → Struct
 struct_of (contents.Inline bytes) = Inline bytes.items
 struct_of (contents.List head size) = Ctz head size
 
--- inline bytes stand in an entry
+-- inline bytes are in an entry
 abbrev pub FitsEntry : FileContents → Type 0
 FitsEntry (contents.Inline bytes) = length bytes.items < 0x3ff
 FitsEntry (contents.List head size) = Unit {0}

@@ -1,4 +1,4 @@
--- What a look-up finds, and what a list names.
+-- What a look-up finds, and what a list returns.
 use Rattle.std.specs.Prelude.{ℕ, ◌≡◌, [], nat_lt, Bool, true, false, length, Option, Some, None, is_none}
 use Rattle.lfs_model.specs.TreeEdits.{is_directory, is_file, names_of}
 use Rattle.lfs_model.specs.Operations as ops
@@ -30,7 +30,7 @@ size_in node.Nothing = None
 size_in (node.File size) = Some size
 size_in node.Directory = None
 
--- what was found stands for the node at a path; where a parent refuses there is none
+-- what was found is the node at a path; there is none where a parent refuses
 pub record Finds (t : Tree) (p : Path) (found : Finding) : Type 0 where
   pub parents : parent_fault t [] p ≡ found.fault
   pub nothing : is_none (t p) ≡ is_absent found.node
@@ -38,7 +38,7 @@ pub record Finds (t : Tree) (p : Path) (found : Finding) : Type 0 where
   pub files : is_file (t p) ≡ is_file_node found.node
   pub sizes : size_of (t p) ≡ size_in found.node
 
--- whether something stands beneath a path
+-- whether an entry is beneath a path
 abbrev pub has_names : Tree → Path → Bool
 has_names t p = nat_lt 0 (length (names_of (t p)))
 

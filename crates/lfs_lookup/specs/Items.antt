@@ -1,4 +1,4 @@
--- What stands in a directory.
+-- The entries of a directory.
 use Rattle.std.specs.Prelude.{ℕ, not, if◌then◌else◌, List, [], ◌∷◌, map, filter, Option, Some, None}
 use Rattle.std.specs.List.{flat_map, remove}
 use Rattle.std.specs.Option.{option_and_then}
@@ -10,7 +10,7 @@ use Rattle.lfs_lookup.specs.declared.items.Item.{Item}
 use Rattle.lfs_lookup.specs.declared.items.Structure.{Structure}
 use Rattle.lfs_lookup.specs.declared.items.Structure.TheVariants as variant
 
--- a name, and what stands under it
+-- a name and its entry
 pub record Shape : Type 0 where
   pub name : Name
   pub struct : Struct
@@ -29,11 +29,11 @@ item_view i = record { name = i.name.items; struct = structure_view i.structure 
 abbrev pub items_view : List Item → List Shape
 items_view items = map item_view items
 
--- what a slot shows, if it isn't the superblock's
+-- the entry of a slot, if it isn't the superblock's
 abbrev pub shown_of : Slot → Option Shape
 shown_of s = if is_superblock s then None else Some (shape_of s)
 
--- what a log's slot shows, if it has a name and a struct
+-- the entry of a log's slot, if it has a name and a struct
 abbrev pub shown_raw : RawSlot → Option Shape
 shown_raw s = option_and_then shown_of (complete s)
 

@@ -1,4 +1,4 @@
--- What a list says of an entry.
+-- What a list returns of an entry.
 use Rattle.std.specs.Prelude.{ℕ, ◌<◌, List, [], ◌∷◌, length, Option, Some, None}
 use Rattle.lfs_model.specs.Operations as ops
 use Rattle.lfs_model.specs.Slots.{Struct, Inline, Ctz, Branch}
@@ -13,7 +13,7 @@ size_listed (Branch to) = None
 abbrev pub item_listed : Shape → ops.Item
 item_listed x = record { name = x.name; size = size_listed x.struct }
 
--- inline bytes stand in an entry
+-- inline bytes are in an entry
 abbrev pub IsShort : Struct → Type 0
 IsShort (Inline bytes) = length bytes < 0x3ff
 IsShort (Ctz head size) = Unit {0}

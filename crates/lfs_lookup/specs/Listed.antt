@@ -1,4 +1,4 @@
--- The entries of directories, as they are listed.
+-- The entries of directories, as a list returns them.
 use Rattle.std.specs.Prelude.{ℕ, ◌≡◌, ◌&&◌, ◌==◌, if◌then◌else◌, List, [], ◌∷◌, map, drop, Option, Some, None}
 use Rattle.std.specs.List.{flat_map}
 use Rattle.lfs_model.specs.Disk.{Disk}
@@ -11,7 +11,7 @@ use Rattle.lfs_model.specs.Slots.{set_move}
 use Rattle.lfs_model.specs.InDirectory.{BeginsAt, run_length}
 use Rattle.lfs_lookup.specs.Items.{Shape, shape_of}
 
--- the id of the slot that the global state says is moved away from the pair at an address
+-- the id of the slot that a set move names in the pair at an address
 abbrev pub moved_in : Gstate → ℕ × ℕ → Option ℕ
 moved_in g at = if g.kind == set_move && same_pair g.pair at then Some g.id else None
 
@@ -30,7 +30,7 @@ abbrev pub length_from : List Pair → Option ℕ → ℕ
 length_from ps None = 0
 length_from ps (Some first) = run_length (drop first ps)
 
--- what they show
+-- the entries of these pairs
 abbrev pub shapes_from : List Pair → Option ℕ → List Shape
 shapes_from ps from = map shape_of (flat_map (visible (gstate_of ps)) (run_from ps from))
 

@@ -2,7 +2,7 @@
 use Rattle.std.specs.Prelude.{ℕ, ◌+◌, ◌==◌, if◌then◌else◌, List, [], ◌∷◌}
 use Rattle.lfs_model.specs.Names.{slash}
 
--- how many bytes stand behind the last slash, where so many stood in front
+-- how many bytes come after the last slash, where so many came before
 abbrev pub behind_slash : ℕ → List ℕ → ℕ
 behind_slash n [] = n
 behind_slash n (b ∷ bytes) = behind_slash (if b == slash then 0 else n + 1) bytes

@@ -22,7 +22,7 @@ use Rattle.lfs_lookup.specs.declared.search.Spot.{Spot}
 use Rattle.lfs_lookup.specs.declared.paths.Parent.{Parent}
 use Rattle.lfs_lookup.specs.declared.paths.Parent.TheVariants as parent
 
--- the image is accepted, and nothing of it is to be recovered
+-- the image is accepted, and has nothing to recover
 pub record HasNothingSet (t : Kept) : Type 0 where
   pub accepted : IsAccepted t.disk t.pairs
   pub settled : gstate_of t.pairs ≡ no_gstate
@@ -38,13 +38,13 @@ pub record BeginsOnPath (ps : List Pair) (path : Path) (first : ℕ) : Type 0 wh
   pub leads : Leads ps path at
   pub begins : BeginsAt ps at first
 
--- what stands at a path, where a directory is wanted
+-- the entry at a path, where a directory is wanted
 abbrev pub Enters : Kept → Path → Parent → Type 0
 Enters t path (parent.Directory first) = BeginsOnPath t.pairs path first
 Enters t path parent.File = directory_fault (tree_in t.disk t.pairs path) ≡ Some NotDir
 Enters t path parent.Nothing = directory_fault (tree_in t.disk t.pairs path) ≡ Some NoEnt
 
--- by what a path is refused whose last component comes behind it
+-- the refusal of a path for the component before its last
 abbrev pub fault_of : Parent → Option Refusal
 fault_of (parent.Directory first) = None
 fault_of parent.File = Some NotDir
@@ -62,19 +62,19 @@ pub record Descends (t : Kept) (path : Path) (parent : Parent) : Type 0 where
 
 -- ---- what is found
 
--- the name stands in the directory at the path above, in the slot at the spot, which is the slot of its path
+-- The name is in the directory at the path above, in the slot at the spot. This slot is the slot of its path.
 pub record StandsOnPath (ps : List Pair) (above : Path) (name : Name) (first : ℕ) (spot : Spot) : Type 0 where
   pub on : BeginsOnPath ps above first
   pub stands : Stands ps first name spot.pair spot.id
   pub slot : slot_of_path ps (above ++ name ∷ []) ≡ Some stands.stands.slot
 
--- nothing is at its path, and the name belongs in the directory at the path above, in front of the slot at the spot
+-- nothing is at its path, and the name belongs in the directory at the path above, before the slot at the spot
 pub record BelongsOnPath (order : NameOrder) (ps : List Pair) (above : Path) (name : Name) (first : ℕ) (spot : Spot) : Type 0 where
   pub on : BeginsOnPath ps above first
   pub belongs : Belongs order ps first name spot.pair spot.id
   pub nothing : slot_of_path ps (above ++ name ∷ []) ≡ None
 
--- what a name in the directory at a path stands for
+-- the entry of a name in the directory at a path
 abbrev pub IsThere : NameOrder → List Pair → Path → Name → Found → Type 0
 IsThere order ps above name (found.Directory parent slot first) = StandsOnPath ps above name parent slot × BeginsOnPath ps (above ++ name ∷ []) first
 IsThere order ps above name (found.File parent slot contents) = (s : StandsOnPath ps above name parent slot) × ShowsContents contents s.stands.stands.slot.struct
@@ -83,13 +83,13 @@ IsThere order ps above name found.Root = ⊥
 IsThere order ps above name found.ParentIsFile = ⊥
 IsThere order ps above name found.ParentIsMissing = ⊥
 
--- by what a path is refused for its parents
+-- the refusal of a path for its parents
 abbrev pub parent_refusal : Found → Option Refusal
 parent_refusal found.ParentIsFile = Some NotDir
 parent_refusal found.ParentIsMissing = Some NoEnt
 parent_refusal _ = None
 
--- the last name of the path stands for that
+-- the last name of the path has that entry
 pub record EndsIn (order : NameOrder) (ps : List Pair) (path : Path) (found : Found) : Type 0 where
   pub above : Path
   pub name : Name
@@ -110,8 +110,8 @@ pub record LeadsTo (t : Kept) (path : Path) (found : Found) : Type 0 where
 
 -- ---- what is found where a slot counts as deleted
 
--- the last name of the path stands at the spot, in the directory at the path above, not in the slot that counts as deleted;
--- its slot is the slot of the path
+-- The last name of the path is at the spot, in the directory at the path above, and not in the slot that counts as deleted. This
+-- slot is the slot of the path.
 pub record IsSlotOf (ps : List Pair) (moved : Option Spot) (path : Path) (spot : Spot) : Type 0 where
   pub above : Path
   pub name : Name
@@ -122,7 +122,7 @@ pub record IsSlotOf (ps : List Pair) (moved : Option Spot) (path : Path) (spot :
   pub kept : passed_in moved spot.pair ≡ Some spot.id → ⊥
   pub slot : slot_of_path ps path ≡ Some stands.stands.slot
 
--- what stands at a path below the root
+-- the entry at a path below the root
 abbrev pub IsShownAt : List Pair → Option Spot → Path → Shown → Type 0
 IsShownAt ps moved path (shown.Directory spot first) = IsSlotOf ps moved path spot × BeginsOnPath ps path first
 IsShownAt ps moved path (shown.File spot contents) = (s : IsSlotOf ps moved path spot) × ShowsContents contents s.stands.stands.slot.struct
@@ -131,7 +131,7 @@ IsShownAt ps moved path shown.Root = ⊥
 IsShownAt ps moved path shown.ParentIsFile = ⊥
 IsShownAt ps moved path shown.ParentIsMissing = ⊥
 
--- what a path leads to; by a parent it is refused, or not
+-- what a path leads to; a parent refuses it, or not
 abbrev pub ShowsTo : Kept → Option Spot → Path → Shown → Type 0
 ShowsTo t moved path shown.Root = path ≡ []
 ShowsTo t moved path shown.ParentIsFile = parent_fault (tree_in t.disk t.pairs) [] path ≡ Some NotDir

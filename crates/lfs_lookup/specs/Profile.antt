@@ -1,4 +1,4 @@
--- Whether an image keeps within what is written.
+-- Whether an image is in the writing profile.
 use Rattle.std.specs.Prelude.{ℕ, ◌≡◌, ◌≢◌, ◌-◌, ◌&&◌, nat_lt, Bool, true, List, [], length, slice_index_or, All}
 use Rattle.lfs_model.specs.Slots.{Content, FitsPair, Inline, Slot, is_superblock}
 use Rattle.lfs_model.specs.Thread.{Pair, is_hard}
@@ -9,12 +9,12 @@ use Rattle.lfs_thread.specs.Steps.{no_pair}
 abbrev pub IsShaped : Slot → Type 0
 IsShaped s = is_superblock s ≡ true → (bytes : List ℕ) × ((s.struct ≡ Inline bytes) × (length bytes ≡ 24))
 
--- A pair keeps within the profile; follows says whether a hard tail names it.
+-- A pair is in the profile; `follows` tells whether a hard tail names it.
 pub record IsPairWritable (block_size page : ℕ) (follows : Bool) (c : Content) : Type 0 where
   pub pair : FitsPair block_size page c
   pub slots : All (FitsSlot block_size page) c.slots
   pub filled : follows ≡ true → c.slots ≢ []
 
--- behind the root's first pair, and a hard tail names it
+-- the pair comes after the root's first pair, and a hard tail names it
 abbrev pub follows_at : ℕ → List Pair → ℕ → Bool
 follows_at root ps index = nat_lt root index && is_hard (slice_index_or ps (index - 1) no_pair).content.tail

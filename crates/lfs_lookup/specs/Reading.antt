@@ -1,10 +1,10 @@
--- What calls that only read say of a thread.
+-- What calls that only read promise of a thread.
 use Rattle.std.specs.Prelude.{◌≡◌, false, Result}
 use Rattle.lfs_device.specs.declared.error.Error.{Error}
 use Rattle.lfs_thread.specs.Kept.{State}
 use Rattle.lfs_thread.specs.Steps.{HasReported, IsOnlyRead}
 
--- The thread is as it was and works on. `Io` comes with a fault of the device, and any other answer with none.
+-- The thread is as it was and works. `Io` comes with a fault of the device, and any other result with none.
 pub record IsReading {X : Type 0} (old new : State) (result : Result X Error) : Type 0 where
   pub only : IsOnlyRead old.kept new.kept
   pub works : new.failed ≡ false

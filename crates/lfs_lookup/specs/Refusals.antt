@@ -11,7 +11,7 @@ is_refusal error.NoMemory = false
 is_refusal error.Corrupt = false
 is_refusal _ = true
 
--- the refusal that an error is; what isn't one comes to any
+-- the refusal that an error is; an error that isn't one gives any
 abbrev pub refusal_in : Error → Refusal
 refusal_in error.NoEnt = ops.NoEnt
 refusal_in error.BadFile = ops.BadFile

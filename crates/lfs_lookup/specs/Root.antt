@@ -5,13 +5,13 @@ use Rattle.lfs_model.specs.Slots.{Slot}
 use Rattle.lfs_thread.specs.Steps.{pair_in}
 use Rattle.lfs_thread.specs.Kept.{Kept}
 
--- a pair of the chain that has a superblock: from it on the chain ends at the root, as from its beginning
+-- a pair of the chain that has a superblock; from it on the chain ends at the root, as from its beginning
 pub record IsInChain (t : Kept) (index : ℕ) : Type 0 where
   pub below : index < length t.pairs
   pub starts : starts_with_superblock (pair_in t index).content.slots ≡ true
   pub root : index + superblocks_before (drop index t.pairs) ≡ superblocks_before t.pairs
 
--- the next pair of the chain that has a superblock; there is none behind the root
+-- the next pair of the chain that has a superblock; there is none after the root
 abbrev pub IsNext : Kept → ℕ → Option ℕ → Type 0
 IsNext t index None = index ≡ superblocks_before t.pairs
 IsNext t index (Some next) = (index < next) × IsInChain t next
@@ -21,7 +21,7 @@ has_few [] = true
 has_few (s ∷ []) = true
 has_few (s ∷ t ∷ slots) = false
 
--- the pair behind one that has at most one slot and a hard tail
+-- the pair after one that has at most one slot and a hard tail
 abbrev pub next_in_chain : Kept → ℕ → Option ℕ
 next_in_chain t index =
     if has_few (pair_in t index).content.slots then (if is_hard (pair_in t index).content.tail then Some (index + 1) else None) else None

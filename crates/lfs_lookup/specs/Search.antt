@@ -1,4 +1,4 @@
--- What a search for a name answers.
+-- What a search for a name returns.
 use Rattle.std.specs.Prelude.{ℕ, ◌≡◌, ◌+◌, ◌==◌, ◌&&◌, if◌then◌else◌, true, false, List, [], ◌∷◌, drop, slice_get, Option, None, Some}
 use Rattle.lfs_model.specs.declared.order.NameOrder.{NameOrder}
 use Rattle.lfs_model.specs.Names.{Name}
@@ -22,13 +22,13 @@ HoldsContent block = (content : Content) × IsBlockOf block content
 abbrev pub IsAbsentBut : Option ℕ → List Slot → Name → Type 0
 IsAbsentBut skip slots name = (id : ℕ) (s : Slot) → slice_get slots id ≡ Some s → is_superblock s ≡ false → (skip ≡ Some id → ⊥) → s.name ≡ name → ⊥
 
--- the name stands at the id, which isn't passed over, with that struct
+-- the name is at the id, which isn't passed over, with that struct
 pub record StandsShown (skip : Option ℕ) (slots : List Slot) (name : Name) (id : ℕ) (entry : Entry) : Type 0 where
   pub stands : StandsAt slots name id
   pub shows : EntryShows entry stands.slot.struct
   pub kept : skip ≡ Some id → ⊥
 
--- the name isn't there, and belongs there if nothing is passed over
+-- the name isn't there, and belongs there if no slot is passed over
 pub record BelongsShown (order : NameOrder) (skip : Option ℕ) (slots : List Slot) (name : Name) (id : ℕ) : Type 0 where
   pub absent : IsAbsentBut skip slots name
   pub place : skip ≡ None → PlaceAt order slots name id
@@ -55,7 +55,7 @@ abbrev pub IsAbsentAlong : Option Spot → ℕ → List Pair → Name → Type 0
 IsAbsentAlong moved index [] name = Unit {0}
 IsAbsentAlong moved index (p ∷ ps) name = IsAbsentBut (passed_in moved index) p.content.slots name × (is_hard p.content.tail ≡ true → IsAbsentAlong moved (index + 1) ps name)
 
--- the name stands there, not in the slot that counts as deleted
+-- the name is at this place, and not in the slot that counts as deleted
 pub record IsShown (ps : List Pair) (moved : Option Spot) (first : ℕ) (name : Name) (spot : Spot) (entry : Entry) : Type 0 where
   pub stands : Stands ps first name spot.pair spot.id
   pub shows : EntryShows entry stands.stands.slot.struct
@@ -65,7 +65,7 @@ abbrev pub AnswersShown : List Pair → Option Spot → ℕ → Name → Option 
 AnswersShown ps moved first name (Some found) = IsShown ps moved first name found.0 found.1
 AnswersShown ps moved first name None = IsAbsentAlong moved first (drop first ps) name
 
--- the id of the slot that a global state says is moved away, if it is in this pair
+-- the id of the slot that a set move names, if it is in this pair
 abbrev pub hidden_in : Gstate → Pair → Option ℕ
 hidden_in g p = if g.kind == 0x4ff && same_pair g.pair p.at then Some g.id else None
 

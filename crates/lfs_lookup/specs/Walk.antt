@@ -1,4 +1,4 @@
--- All that stands beneath the root, as it is found.
+-- All entries beneath the root, as a walk finds them.
 use Rattle.std.specs.Prelude.{ℕ, ◌≡◌, List, [], ◌∷◌, ◌++◌, map, reverse, Some}
 use Rattle.lfs_model.specs.Disk.{Disk}
 use Rattle.lfs_model.specs.SkipLists.{IsList}
@@ -15,7 +15,7 @@ use Rattle.lfs_lookup.specs.ByName.{AreByName}
 use Rattle.lfs_lookup.specs.Items.{Shape, structure_view}
 use Rattle.lfs_lookup.specs.Listed.{shapes_from}
 
--- a path's bytes, and what stands there
+-- a path's bytes, and the entry there
 pub record Place : Type 0 where
   pub path : List ℕ
   pub struct : Struct
@@ -45,12 +45,12 @@ BeginsIfBranch ps (Branch to) = (first : ℕ) × BeginsAt ps to first
 BeginsIfBranch ps (Inline bytes) = Unit {0}
 BeginsIfBranch ps (Ctz head size) = Unit {0}
 
--- what stands in the directory that begins with the pair of that number comes on top, in name order
+-- the entries of the directory that begins with the pair of that number are put on top, in name order
 abbrev pub ArePushedFrom : List Pair → List ℕ → ℕ → List Place → List Place → Type 0
 ArePushedFrom ps path first old new =
     (shapes : List Shape) × (AreByName (shapes_from ps (Some first)) shapes × (new ≡ old ++ reverse (places_beneath path shapes)))
 
--- what stands in a directory comes on top
+-- the entries of a directory are put on top
 abbrev pub ArePushedBelow : List Pair → List ℕ → Struct → List Place → List Place → Type 0
 ArePushedBelow ps path (Branch to) old new = (first : ℕ) × (BeginsAt ps to first × ArePushedFrom ps path first old new)
 ArePushedBelow ps path (Inline bytes) old new = new ≡ old
@@ -61,7 +61,7 @@ ArePushed ps place old new = ArePushedBelow ps place.path place.struct old new
 
 -- ---- the walk
 
--- the struct says what the node is
+-- the struct gives the node
 abbrev pub ShowsNode : Disk → Struct → Node → Type 0
 ShowsNode disk (Inline bytes) node = (attributes : Attributes) × (node ≡ FileNode attributes bytes)
 ShowsNode disk (Ctz head size) node = (attributes : Attributes) × ((node ≡ FileNode attributes (contents_in disk head size)) × IsList disk.blocks disk.block_size head size)
@@ -77,6 +77,6 @@ AllShow disk [] (e ∷ es) = ⊥
 AllShow disk (p ∷ ps) [] = ⊥
 AllShow disk (p ∷ ps) (e ∷ es) = PlaceShows disk p e × AllShow disk ps es
 
--- these places are those of the walk of the tree, in turn
+-- these places are those of the walk of the tree, in order
 abbrev pub IsWalked : Disk → List Pair → List Place → Type 0
 IsWalked disk ps places = (entries : List Entry) × (IsWalkOf (tree_in disk ps) entries × AllShow disk places entries)

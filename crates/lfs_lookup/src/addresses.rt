@@ -8,7 +8,7 @@ use lfs_device::{BlockDevice, Error};
 use lfs_thread::{Places, Thread};
 use std::alloc::Global;
 
-// The addresses of all pairs, by which their numbers are found without going through them.
+// The addresses of all pairs, by which their numbers are found without a search.
 pub(crate) fn addresses_of<D: BlockDevice>(
     alloc: Global,
     thread: &Thread<D>,

@@ -1,4 +1,4 @@
-// How much of its pair the attributes of what stands at a path take.
+// How many bytes of its pair the attributes of an entry take.
 
 ghost use Rattle.std.specs.Prelude.{◌≡◌, ◌≤◌, ◌<◌, ◌+◌, IfErr, IfOk, IsSome, Some, false, length, map, slice_get, sum_by};
 ghost use Rattle.lfs_model.specs.TreeEdits.{attributes_of};
@@ -27,7 +27,7 @@ use lfs_tag::{Attribute, Content, Log, Slot};
 use lfs_thread::Thread;
 use std::alloc::Global;
 
-// The sizes of attributes together: each takes its tag and its bytes.
+// Returns the sizes of attributes together: each takes its tag and its bytes.
 fn size_of_all(attributes: &[Attribute<'_>]) -> usize
     requires { Ascend 0 (map attribute_view attributes.now) }
     ensures { result ≡ attributes_size (map attribute_view attributes.now) }
@@ -39,7 +39,7 @@ fn size_of_all(attributes: &[Attribute<'_>]) -> usize
     size
 }
 
-// The same of the slot at an id. None stands past the last.
+// Returns the size of the attributes of the slot at an id. There is no slot past the last.
 fn size_in_slot(slots: &[Slot<'_>], id: u16) -> usize
     requires { HaveParts (map slot_view slots.now) }
     ensures { result ≡ attributes_size (slot_of_id (map slot_view slots.now) id).attributes }
@@ -50,7 +50,7 @@ fn size_in_slot(slots: &[Slot<'_>], id: u16) -> usize
     }
 }
 
-// The same of a slot of a log.
+// Returns the size of the attributes of a slot of a log.
 fn size_in_log(alloc: Global, log: &Log<'_>, id: u16) -> Result<usize, Error>
     requires { HoldsContent log.now }
     ensures is { (content : ModelContent) (slot : ModelSlot) → IsBlockOf log.now content → slice_get content.slots id ≡ Some slot → IfOk result (IsAttributesSize slot.attributes) }
@@ -60,7 +60,7 @@ fn size_in_log(alloc: Global, log: &Log<'_>, id: u16) -> Result<usize, Error>
     Ok(size_in_slot(&content.slots, id))
 }
 
-// The same of a slot whose block is cached.
+// Returns the size of the attributes of a slot, whose block is loaded into the cache.
 fn size_of_slot<D: BlockDevice>(
     alloc: Global,
     thread: &mut Thread<D>,
@@ -77,12 +77,13 @@ fn size_of_slot<D: BlockDevice>(
     size_in_log(alloc, &thread.lend(slot.pair).unwrap(), slot.id)
 }
 
-/// How many bytes the attributes of what stands at a path take in its pair, the tag of each included:
-/// 0 where nothing stands there, and for the root. No more reads than the directories above the path
-/// have pairs, and none where all these pairs are cached.
+/// Returns how many bytes the attributes of the entry at a path take in its pair, each with its tag
+/// of 4 bytes. Returns 0 where no entry is there, and for the root. The call reads no more pairs
+/// than the directories above the path have, and none where all these are cached.
 ///
-/// `root` is the number of the root directory's first pair. `Io` where a read failed, and `NoMemory`
-/// where room isn't granted.
+/// `root` is the number of the root directory's first pair.
+///
+/// Errors: `Io` where a read failed. `NoMemory` where memory isn't granted.
 pub fn attributes_size_at<D: BlockDevice>(
     alloc: Global,
     thread: &mut Thread<D>,

@@ -1,4 +1,4 @@
-// An attribute of what stands at a path.
+// An attribute of the entry at a path.
 
 ghost use Rattle.std.specs.Prelude.{◌≡◌, ◌<◌, ◌≤◌, ◌+◌, IfErr, IfOk, IfSome, IsSome, Some, false, length, slice_get, sum_by};
 ghost use Rattle.std.specs.Option.{option_copied, option_map};
@@ -29,7 +29,8 @@ use lfs_tag::{Log, Steps, get};
 use lfs_thread::Thread;
 use std::alloc::{AllocError, Global};
 
-// The bytes of an attribute of a slot of a log. None where it hasn't that one.
+// Returns the bytes of an attribute of a slot of a log. Returns None where the slot hasn't that
+// attribute.
 fn attribute_in_log<'a>(log: &Log<'a>, kind: u8, id: u16) -> Option<&'a [u8]>
     requires { HoldsContent log.now }
     ensures short { IfSome result (λ bytes. length bytes.now ≤ 1022) }
@@ -38,7 +39,7 @@ fn attribute_in_log<'a>(log: &Log<'a>, kind: u8, id: u16) -> Option<&'a [u8]>
     get(log, ATTRIBUTE + u16::from(kind), id, &mut Steps::new())
 }
 
-// A copy of bytes, if there are any.
+// Copies bytes, if there are any.
 fn copy_of(alloc: Global, bytes: Option<&[u8]>) -> Result<Option<Vec<u8>>, AllocError>
     ensures { IfOk result (λ found. option_map (λ v. v.items) found ≡ option_copied bytes.entry) }
 {
@@ -51,7 +52,7 @@ fn copy_of(alloc: Global, bytes: Option<&[u8]>) -> Result<Option<Vec<u8>>, Alloc
     }
 }
 
-// A copy of an attribute of a slot of a log.
+// Copies an attribute of a slot of a log.
 fn attribute_copied(
     alloc: Global,
     log: &Log<'_>,
@@ -67,7 +68,7 @@ fn attribute_copied(
     Ok(found)
 }
 
-// An attribute of a slot whose block is cached.
+// Returns an attribute of a slot, whose block is loaded into the cache.
 fn attribute_of_slot<D: BlockDevice>(
     alloc: Global,
     thread: &mut Thread<D>,
@@ -86,7 +87,7 @@ fn attribute_of_slot<D: BlockDevice>(
     attribute_copied(alloc, &thread.lend(slot.pair).unwrap(), kind, slot.id)
 }
 
-// The slot of a file or of a directory. The root has none.
+// Returns the slot of a file or of a directory. The root has none.
 pub(crate) fn slot_of(shown: Shown) -> Option<Spot>
     ensures { result ≡ slot_shown shown }
 {
@@ -97,7 +98,7 @@ pub(crate) fn slot_of(shown: Shown) -> Option<Spot>
     }
 }
 
-// The same of the slot, if there is one.
+// Returns an attribute of the slot, if there is one.
 fn attribute_held<D: BlockDevice>(
     alloc: Global,
     thread: &mut Thread<D>,
@@ -118,12 +119,13 @@ fn attribute_held<D: BlockDevice>(
     }
 }
 
-/// What a path leads to, and its attribute of a kind, if it has one, of 1,022 bytes at most; the root
-/// has none. No more reads than the directories above the path have pairs, and none where all these
-/// pairs are cached.
+/// Returns what a path leads to, and its attribute of type `kind`, if it has one. The attribute has
+/// at most 1,022 bytes; the root has none. The call reads no more pairs than the directories above
+/// the path have, and none where all these are cached.
 ///
-/// `root` is the number of the root directory's first pair. `Io` where a read failed, and `NoMemory`
-/// where room isn't granted.
+/// `root` is the number of the root directory's first pair.
+///
+/// Errors: `Io` where a read failed. `NoMemory` where memory isn't granted.
 pub fn attribute_at<D: BlockDevice>(
     alloc: Global,
     thread: &mut Thread<D>,
@@ -143,7 +145,7 @@ pub fn attribute_at<D: BlockDevice>(
 {
     let shown = shown_at(alloc, thread, root, path)?;
     let bytes = attribute_held(alloc, thread, slot_of(shown), kind)?;
-    // By its sizes a list has as many bytes as its entry says.
+    // By the sizes of its blocks a list has as many bytes as its entry says.
     let _device = thread.device();
     Ok(FoundAttribute {
         finding: finding_of(shown),

@@ -23,13 +23,14 @@ use lfs_device::{BlockDevice, Error};
 use lfs_thread::Thread;
 use std::alloc::Global;
 
-/// What a path leads to, where the slot that a set move names counts as deleted, and no other
-/// (DESIGN.md of littlefs, "The move problem"). No more reads than the directories above the path have
-/// pairs, and none where all these pairs are cached; the pair of a slot that is found is cached
-/// then.
+/// Returns what a path leads to, where the slot that a set move names counts as deleted, and no
+/// other (DESIGN.md of littlefs, "The move problem"). The call reads no more pairs than the
+/// directories above the path have, and none where all these are cached. The pair of a slot that is
+/// found is cached then.
 ///
-/// `root` is the number of the root directory's first pair. `Io` where a read failed, and `NoMemory`
-/// where room isn't granted.
+/// `root` is the number of the root directory's first pair.
+///
+/// Errors: `Io` where a read failed. `NoMemory` where memory isn't granted.
 pub fn shown_at<D: BlockDevice>(
     alloc: Global,
     thread: &mut Thread<D>,
@@ -51,7 +52,7 @@ pub fn shown_at<D: BlockDevice>(
     look_up_shown(alloc, thread, root, &names, moved)
 }
 
-// How many bytes a file has.
+// Returns how many bytes a file has.
 fn size_of(contents: Contents) -> u32
     requires { IsInEntry contents }
     ensures { result ≡ size_shown contents }
@@ -62,7 +63,7 @@ fn size_of(contents: Contents) -> u32
     }
 }
 
-// A file.
+// Makes the finding of a file.
 fn found_file(contents: Contents) -> Finding
     requires { IsInEntry contents }
     ensures { result ≡ record { fault = None; node = File (size_shown contents) } }
@@ -75,7 +76,7 @@ fn found_file(contents: Contents) -> Finding
     }
 }
 
-// Nothing, where the path may be refused.
+// Makes the finding of no entry, where a parent may refuse the path.
 fn found_nothing(fault: Option<Refusal>) -> Finding
     ensures { result ≡ record { fault = fault; node = Nothing } }
 {
@@ -85,7 +86,7 @@ fn found_nothing(fault: Option<Refusal>) -> Finding
     }
 }
 
-// A directory.
+// Makes the finding of a directory.
 fn found_directory() -> Finding
     ensures { result ≡ record { fault = None; node = Directory } }
 {
@@ -95,7 +96,7 @@ fn found_directory() -> Finding
     }
 }
 
-// By what a path is refused, and what stands at it.
+// Returns the finding of what was shown: the parent's refusal, or the entry.
 pub(crate) fn finding_of(shown: Shown) -> Finding
     requires { IsInEntryIfFile shown }
     ensures { result ≡ finding_of shown }
@@ -110,7 +111,7 @@ pub(crate) fn finding_of(shown: Shown) -> Finding
     }
 }
 
-// The number of the first pair of the directory that stands there.
+// Returns the number of the first pair of the directory that was shown.
 pub(crate) fn first_of(root: usize, shown: Shown) -> Option<usize>
     ensures { result ≡ first_shown root shown }
 {
@@ -121,12 +122,13 @@ pub(crate) fn first_of(root: usize, shown: Shown) -> Option<usize>
     }
 }
 
-/// What a path leads to: a file with its size, a directory, or nothing; and by what it is refused, if
-/// one of the directories above it isn't there or isn't one. No more reads than these directories
-/// have pairs, and none where all these pairs are cached.
+/// Looks up a path. Returns a file with its size in bytes, a directory, or nothing. Where a
+/// directory above it isn't there, or isn't one, the refusal is returned, too. The call reads no
+/// more pairs than these directories have, and none where all these are cached.
 ///
-/// `root` is the number of the root directory's first pair. `Io` where a read failed, and `NoMemory`
-/// where room isn't granted.
+/// `root` is the number of the root directory's first pair.
+///
+/// Errors: `Io` where a read failed. `NoMemory` where memory isn't granted.
 pub fn find_at<D: BlockDevice>(
     alloc: Global,
     thread: &mut Thread<D>,
@@ -142,16 +144,17 @@ pub fn find_at<D: BlockDevice>(
     ensures reading { IsReading thread.old thread.new result }
 {
     let shown = shown_at(alloc, thread, root, path)?;
-    // By its sizes a list has as many bytes as its entry says.
+    // By the sizes of its blocks a list has as many bytes as its entry says.
     let _device = thread.device();
     Ok(finding_of(shown))
 }
 
-/// What a path leads to, and whether it is a directory that has entries. No more reads than the
-/// directories above the path and the one at it have pairs.
+/// Looks up a path, and returns whether it leads to a directory that has entries. The call reads no
+/// more pairs than the directories above the path and the one at it have.
 ///
-/// `root` is the number of the root directory's first pair. `Io` where a read failed, and `NoMemory`
-/// where room isn't granted.
+/// `root` is the number of the root directory's first pair.
+///
+/// Errors: `Io` where a read failed. `NoMemory` where memory isn't granted.
 pub fn look_inside_at<D: BlockDevice>(
     alloc: Global,
     thread: &mut Thread<D>,
@@ -168,7 +171,7 @@ pub fn look_inside_at<D: BlockDevice>(
 {
     let shown = shown_at(alloc, thread, root, path)?;
     let has_entries = has_entries(alloc, thread, first_of(root, shown))?;
-    // By its sizes a list has as many bytes as its entry says.
+    // By the sizes of its blocks a list has as many bytes as its entry says.
     let _device = thread.device();
     Ok(Inside {
         finding: finding_of(shown),

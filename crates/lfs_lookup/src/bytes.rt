@@ -27,7 +27,7 @@ use lfs_tag::{Log, Steps, get};
 use lfs_thread::Thread;
 use std::alloc::{AllocError, Global};
 
-// Some of the bytes, from a position on, so many at most.
+// Returns the bytes from a position on, at most `count`.
 pub(crate) fn copied_from(
     alloc: Global,
     bytes: &[u8],
@@ -41,14 +41,14 @@ pub(crate) fn copied_from(
     Vec::from_slice(alloc, &bytes[from..from + len])
 }
 
-// The bytes that stand in a slot of a log. None where it has no such struct.
+// Returns the inline bytes of a slot of a log. Returns None where the slot has no inline struct.
 fn inline_in_log<'a>(log: &Log<'a>, id: u16) -> Option<&'a [u8]>
     ensures { (content : ModelContent) (slot : Slot) (bytes : List ℕ) → IsBlockOf log.now content → slice_get content.slots id ≡ Some slot → slot.struct ≡ Inline bytes → option_copied result ≡ Some bytes }
 {
     get(log, INLINE_STRUCT, id, &mut Steps::new())
 }
 
-// Some of the bytes that stand in a slot of a log.
+// Returns some of the inline bytes of a slot of a log.
 fn copied_in_log(
     alloc: Global,
     log: &Log<'_>,
@@ -65,10 +65,10 @@ fn copied_in_log(
     Ok(copied_from(alloc, bytes, position, count)?)
 }
 
-/// Some of the bytes that stand in a slot whose struct is an inline one: so many from a position on,
-/// or up to their end. One read at most, and none where the slot's block is cached.
+/// Returns the bytes from a position on, at most `count`, of a slot that has an inline struct. The
+/// call takes at most one read, and none where the slot's block is cached.
 ///
-/// `Io` where a read failed, and `NoMemory` where room isn't granted.
+/// Errors: `Io` where a read failed. `NoMemory` where memory isn't granted.
 pub fn inline_at<D: BlockDevice>(
     alloc: Global,
     thread: &mut Thread<D>,
@@ -93,7 +93,7 @@ pub fn inline_at<D: BlockDevice>(
     )
 }
 
-// Some of the bytes of a skip list.
+// Returns some of the bytes of a skip list.
 pub(crate) fn list_from<D: BlockDevice>(
     alloc: Global,
     thread: &mut Thread<D>,
@@ -113,7 +113,8 @@ pub(crate) fn list_from<D: BlockDevice>(
     Ok(bytes)
 }
 
-/// The slot of a file, and where its bytes stand. None of anything else.
+/// Returns the slot of a file, and where the file's bytes are. Returns None where no file was
+/// found.
 pub fn file_of(shown: Shown) -> Option<(Spot, Contents)>
     ensures { result ≡ file_shown shown }
 {

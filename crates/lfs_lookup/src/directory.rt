@@ -21,7 +21,8 @@ use lfs_tag::kinds::DELETE;
 use lfs_thread::Thread;
 use std::alloc::Global;
 
-// The id of the slot that a set move names in the pair at an address, if it names one there.
+// Returns the id of the slot that a set move names in the pair at an address, if it names one
+// there.
 fn moved_in(state: &MoveState, at: [u32; 2]) -> Option<usize>
     ensures { result ≡ moved_in (move_view state.now) (address_of at) }
 {
@@ -32,7 +33,7 @@ fn moved_in(state: &MoveState, at: [u32; 2]) -> Option<usize>
     }
 }
 
-// The entries of one pair, where that is the global state.
+// Returns the entries of one pair, under that global state.
 fn items_under<D: BlockDevice>(
     alloc: Global,
     thread: &mut Thread<D>,
@@ -52,11 +53,11 @@ fn items_under<D: BlockDevice>(
     items_in(alloc, &thread.lend(index).unwrap(), moved)
 }
 
-/// The entries of one pair in their order: without the superblock, and without the slot that a set
-/// move names (DESIGN.md of littlefs, "The move problem").
+/// Returns the entries of one pair in their order. The superblock and the slot that a set move
+/// names are left out (DESIGN.md of littlefs, "The move problem").
 ///
-/// `Io` where the read of the pair's block failed, and `NoMemory` where the room for the block, its
-/// slots or the entries isn't granted.
+/// Errors: `Io` where the read of the pair's block failed. `NoMemory` where memory for the block,
+/// its slots or the entries isn't granted.
 pub fn items_of<D: BlockDevice>(
     alloc: Global,
     thread: &mut Thread<D>,
@@ -72,11 +73,11 @@ pub fn items_of<D: BlockDevice>(
     items_under(alloc, thread, &state, index)
 }
 
-/// The entries of the directory that begins with the pair of that number, where `state` is the
-/// thread's global state. No more reads than the directory has pairs, and none where all these are at
-/// hand.
+/// Returns the entries of the directory that begins with the pair of that number, where `state` is
+/// the thread's global state. The call reads no more pairs than the directory has, and none where
+/// all these are cached.
 ///
-/// `Io` where a read failed, and `NoMemory` where room isn't granted.
+/// Errors: `Io` where a read failed. `NoMemory` where memory isn't granted.
 pub fn entries_under<D: BlockDevice>(
     alloc: Global,
     thread: &mut Thread<D>,
@@ -101,12 +102,12 @@ pub fn entries_under<D: BlockDevice>(
     Ok(items)
 }
 
-/// The entries of the directory that begins with the pair of number `first`: those of its pairs in
-/// turn, which hard tails join (SPEC.md of littlefs, "0x601 LFS_TYPE_HARDTAIL"), so in the
-/// disk's order of names where the image is accepted. No more reads than these pairs are, and none
-/// where all of them are cached.
+/// Returns the entries of the directory that begins with the pair of number `first`. These are the
+/// entries of its pairs in order, which hard tails join (SPEC.md of littlefs, "0x601
+/// LFS_TYPE_HARDTAIL"). In an accepted image they are in the disk's order of names. The call reads
+/// no more pairs than these, and none where all are cached.
 ///
-/// Errors as those of [`items_of`].
+/// Errors are those of [`items_of`].
 pub fn entries<D: BlockDevice>(
     alloc: Global,
     thread: &mut Thread<D>,
@@ -125,7 +126,7 @@ pub fn entries<D: BlockDevice>(
     Ok(items)
 }
 
-// The same of the directory that begins with that pair, if there is one.
+// Returns the entries of the directory that begins with that pair, if there is one.
 pub(crate) fn entries_from<D: BlockDevice>(
     alloc: Global,
     thread: &mut Thread<D>,
@@ -144,7 +145,7 @@ pub(crate) fn entries_from<D: BlockDevice>(
     }
 }
 
-// Whether something stands there.
+// Returns whether the directory has an entry.
 pub(crate) fn has_entries<D: BlockDevice>(
     alloc: Global,
     thread: &mut Thread<D>,

@@ -1,4 +1,4 @@
-// What stands in a slot.
+// The entry that a slot is.
 
 ghost use Rattle.std.specs.Prelude.{◌≡◌, length};
 ghost use Rattle.lfs_model.specs.Content.{struct_typed};
@@ -9,17 +9,16 @@ ghost use Rattle.lfs_lookup.specs.Entry.{EntryShows};
 use lfs_tag::kinds::{DIRECTORY_STRUCT, INLINE_STRUCT};
 use lfs_tag::{Part, ctz_of, pair_of};
 
-/// Where a file's bytes stand. They aren't copied.
+/// Where a file's bytes are. They aren't copied.
 #[derive(Clone, Copy, Debug, PartialEq, Eq, Drop)]
 pub enum Contents {
-    /// So many bytes, in the file's slot.
+    /// So many bytes, inline in the file's slot.
     Inline { len: usize },
     /// A skip list: the address of its last block, and its size in bytes.
     List { head: u32, size: u32 },
 }
 
-/// What an entry of a directory stands for, by its struct (SPEC.md of littlefs, "0x2xx
-/// LFS_TYPE_STRUCT").
+/// A file or a directory, by its struct (SPEC.md of littlefs, "0x2xx LFS_TYPE_STRUCT").
 #[derive(Clone, Copy, Debug, PartialEq, Eq, Drop)]
 pub enum Entry {
     File(Contents),
@@ -27,8 +26,8 @@ pub enum Entry {
     Directory([u32; 2]),
 }
 
-/// What a slot's struct says: where a file's bytes stand, or where a directory's first pair does
-/// (SPEC.md of littlefs, "0x2xx LFS_TYPE_STRUCT").
+/// Returns the entry of a slot's struct: where a file's bytes are, or the address of a directory's
+/// first pair (SPEC.md of littlefs, "0x2xx LFS_TYPE_STRUCT").
 pub fn entry_of(structure: &Part<'_>) -> Entry
     requires { IsPart 2 (part_view structure.now) }
     ensures { EntryShows result (struct_typed structure.now.kind structure.now.bytes.now) }

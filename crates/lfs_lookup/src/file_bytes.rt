@@ -12,7 +12,7 @@ use lfs_device::{BlockDevice, Error};
 use lfs_thread::Thread;
 use std::alloc::{AllocError, Global};
 
-// So many zeros.
+// Makes so many zeros.
 pub(crate) fn zeros(alloc: Global, len: usize) -> Result<Vec<u8>, AllocError>
     ensures { IfOk result (λ bytes. length bytes.items ≡ len) }
 {
@@ -21,9 +21,9 @@ pub(crate) fn zeros(alloc: Global, len: usize) -> Result<Vec<u8>, AllocError>
     Ok(bytes)
 }
 
-/// The bytes of a file, from what its entry says. Of a directory there are none.
+/// Returns the bytes of a file, by its entry. A directory has none.
 ///
-/// `Io` where a read failed, and `NoMemory` where there is no room for the bytes.
+/// Errors: `Io` where a read failed. `NoMemory` where memory for the bytes isn't granted.
 pub fn contents_of<D: BlockDevice>(
     alloc: Global,
     thread: &mut Thread<D>,

@@ -1,4 +1,4 @@
-// The contents of a file, as they are kept beside its entry.
+// The contents of a file, as a reader keeps them.
 
 ghost use Rattle.std.specs.Prelude.{◌≡◌, ◌≤◌, ◌<◌, ◌+◌, ◌^◌, IfOk, IsSome, List, ℕ, drop, false, length, sum_by, take};
 ghost use Rattle.lfs_model.specs.Frame.{pairs_of_path, parents};
@@ -26,24 +26,24 @@ use lfs_device::{BlockDevice, Error};
 use lfs_thread::Thread;
 use std::alloc::Global;
 
-/// The contents of a file, as its entry says them.
+/// The contents of a file, by its entry.
 #[derive(Drop)]
 pub enum FileContents {
-    /// Bytes that stand in the entry itself.
+    /// Bytes that are inline in the entry.
     Inline(Vec<u8>),
     /// A skip list: the address of its last block, and its size in bytes.
     List { head: u32, size: u32 },
 }
 
-/// What a path leads to, and the contents of a file.
+/// The entry that a path leads to, and the contents of a file.
 #[derive(Drop)]
 pub struct FoundFile {
     pub finding: Finding,
-    /// None where no file stands there.
+    /// None where no file is there.
     pub contents: Option<FileContents>,
 }
 
-// The contents of a file whose slot stands there, in a cached block.
+// Returns the contents of the file in this slot, whose block is cached.
 fn contents_of_slot<D: BlockDevice>(
     alloc: Global,
     thread: &mut Thread<D>,
@@ -66,11 +66,12 @@ fn contents_of_slot<D: BlockDevice>(
     }
 }
 
-/// What a path leads to, and the contents of a file there. No more reads than the directories above
-/// the path have pairs, and none where all these pairs are cached.
+/// Looks up a path, and returns the contents of a file there. The call reads no more pairs than the
+/// directories above the path have, and none where all these are cached.
 ///
-/// `root` is the number of the root directory's first pair. `Io` where a read failed, and `NoMemory`
-/// where room isn't granted.
+/// `root` is the number of the root directory's first pair.
+///
+/// Errors: `Io` where a read failed. `NoMemory` where memory isn't granted.
 pub fn file_at<D: BlockDevice>(
     alloc: Global,
     thread: &mut Thread<D>,
@@ -87,7 +88,7 @@ pub fn file_at<D: BlockDevice>(
     ensures reading { IsReading thread.old thread.new result }
 {
     let shown = shown_at(alloc, thread, root, path)?;
-    // By its sizes a list has as many bytes as its entry says.
+    // By the sizes of its blocks a list has as many bytes as its entry says.
     let _device = thread.device();
     let finding = finding_of(shown);
     let Some((slot, contents)) = file_of(shown) else {
@@ -103,11 +104,10 @@ pub fn file_at<D: BlockDevice>(
     })
 }
 
-/// Some of the bytes of a file with these contents: so many from a position on, or up to their end.
-/// The position and how many they are come to less than 2^32. No reads where they stand in the
-/// entry.
+/// Returns the bytes from a position on, at most `count`, of a file with these contents. The sum of
+/// position and count is less than 2^32. Inline bytes take no reads.
 ///
-/// `Io` where a read failed, and `NoMemory` where room isn't granted.
+/// Errors: `Io` where a read failed. `NoMemory` where memory isn't granted.
 pub fn bytes_of<D: BlockDevice>(
     alloc: Global,
     thread: &mut Thread<D>,

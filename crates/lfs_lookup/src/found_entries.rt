@@ -1,21 +1,21 @@
-// What calls by a path find.
+// The results of calls by a path.
 
 ghost use Rattle.std.specs.Prelude.{◌≡◌};
 ghost use Rattle.lfs_lookup.specs.Finds.{is_absent, is_directory_node, is_file_node, size_in};
 
 use crate::refusal::Refusal;
 
-/// What a path leads to.
+/// The entry that a path leads to.
 #[derive(Drop)]
 pub struct Finding {
-    /// By which the path is refused, where a component before the last isn't a directory: `NotDir`,
-    /// or `NoEnt` where nothing is there.
+    /// The refusal where a component before the last isn't a directory: `NotDir`, or `NoEnt` where
+    /// no entry is there.
     pub fault: Option<Refusal>,
-    /// What stands at the path. Nothing where it is refused.
+    /// The entry at the path. None where the path is refused.
     pub node: Node,
 }
 
-/// What stands at a path.
+/// A file or a directory, as a look-up finds it.
 #[derive(Clone, Copy)]
 pub enum Node {
     Nothing,
@@ -43,7 +43,7 @@ impl Node {
         matches!(self, Node::File { .. })
     }
 
-    /// How many bytes a file has. None where there is no file.
+    /// Returns how many bytes a file has. Returns None where there is no file.
     pub fn size(self) -> Option<u32>
         ensures { result ≡ size_in self }
     {
@@ -54,33 +54,34 @@ impl Node {
     }
 }
 
-/// What a path leads to, and whether it is a directory that has entries.
+/// The entry that a path leads to, and whether it is a directory that has entries.
 #[derive(Drop)]
 pub struct Inside {
     pub finding: Finding,
     pub has_entries: bool,
 }
 
-/// What a path leads to, and an attribute of it.
+/// The entry that a path leads to, and an attribute of it.
 #[derive(Drop)]
 pub struct FoundAttribute {
     pub finding: Finding,
-    /// The attribute's bytes. None where it isn't there.
+    /// The attribute's bytes. None where the entry hasn't the attribute.
     pub bytes: Option<Vec<u8>>,
 }
 
-/// What a path leads to, and what stands in it.
+/// The entry that a path leads to, and the entries in it.
 #[derive(Drop)]
 pub struct Listing {
     pub finding: Finding,
-    /// In name order, the shorter names first. Nothing where no directory stands there.
+    /// The entries in name order, the shorter names first. There are none where no directory is at
+    /// the path.
     pub items: Vec<ListItem>,
 }
 
-/// What stands in a directory.
+/// An entry of a directory.
 #[derive(Drop)]
 pub struct ListItem {
-    /// Its name's bytes.
+    /// The bytes of its name.
     pub name: Vec<u8>,
     /// How many bytes a file has. None for a directory.
     pub size: Option<u32>,

@@ -15,11 +15,11 @@ use lfs_tag::kinds::{CTZ_STRUCT, DIRECTORY_NAME, DIRECTORY_STRUCT, FILE_NAME};
 use lfs_tag::{Content, Log, Part, Slot, ctz_of, pair_of};
 use std::alloc::{AllocError, Global};
 
-/// What an entry's struct says (SPEC.md of littlefs, "0x2xx LFS_TYPE_STRUCT"): where the contents of a file
-/// stand, or where a directory begins.
+/// The struct of an entry (SPEC.md of littlefs, "0x2xx LFS_TYPE_STRUCT"): where the contents of a
+/// file are, or where a directory begins.
 #[derive(Drop)]
 pub enum Structure {
-    /// A file's bytes, which stand in the pair itself.
+    /// A file's bytes, inline in the pair.
     Inline(Vec<u8>),
     /// A file's skip list: the address of its last block, and its size in bytes.
     Ctz { head: u32, size: u32 },
@@ -27,16 +27,16 @@ pub enum Structure {
     Branch([u32; 2]),
 }
 
-/// A file or a directory, as it stands in the directory above it.
+/// A file or a directory, as an entry of the directory above it.
 #[derive(Drop)]
 pub struct Item {
-    /// Its name's bytes.
+    /// The bytes of its name.
     pub name: Vec<u8>,
-    /// What its entry says.
+    /// Its struct.
     pub structure: Structure,
 }
 
-// What a struct's part of a slot says.
+// Returns the struct of a slot's part.
 fn structure_of(alloc: Global, part: &Part<'_>) -> Result<Structure, AllocError>
     requires { IsPart 2 (part_view part.now) }
     ensures { IfOk result (λ s. structure_view s ≡ struct_typed part.now.kind part.now.bytes.now) }
@@ -54,7 +54,8 @@ fn structure_of(alloc: Global, part: &Part<'_>) -> Result<Structure, AllocError>
     }
 }
 
-// What a slot shows. Nothing where it is the superblock's, or has no name or no struct.
+// Returns the entry of a slot. Returns None for the superblock's slot, and for a slot without a
+// name or a struct.
 fn item_of(alloc: Global, slot: &Slot<'_>) -> Result<Option<Item>, AllocError>
     requires { HasParts (slot_view slot.now) }
     ensures { IfOk result (λ item. option_map item_view item ≡ shown_raw (slot_view slot.now)) }
@@ -70,7 +71,7 @@ fn item_of(alloc: Global, slot: &Slot<'_>) -> Result<Option<Item>, AllocError>
     Ok(Some(Item { name, structure }))
 }
 
-// Adds what a slot shows.
+// Adds the entry of a slot.
 fn push_shown(alloc: Global, items: &mut Vec<Item>, slot: &Slot<'_>) -> Result<(), AllocError>
     requires { HasParts (slot_view slot.now) }
     ensures { OnOk result (items_view items.new.items ≡ items_view items.old.items ++ listed (shown_raw (slot_view slot.now))) }
@@ -81,7 +82,7 @@ fn push_shown(alloc: Global, items: &mut Vec<Item>, slot: &Slot<'_>) -> Result<(
     Ok(())
 }
 
-// What slots show.
+// Returns the entries of slots.
 fn items_among(alloc: Global, slots: &[Slot<'_>]) -> Result<Vec<Item>, AllocError>
     requires { HaveParts (map slot_view slots.now) }
     ensures { IfOk result (λ items. items_view items.items ≡ shown_among (map slot_view slots.now)) }
@@ -104,7 +105,7 @@ fn remove_moved(slots: &mut Vec<Slot<'_>>, moved: Option<usize>)
     }
 }
 
-// The entries of a pair with that log, without the one that is moved away.
+// Returns the entries of a pair with that log, without the slot that a set move names.
 pub(crate) fn items_in(
     alloc: Global,
     log: &Log<'_>,
@@ -120,7 +121,7 @@ pub(crate) fn items_in(
     Ok(items)
 }
 
-// Puts entries in the order of their names, the shorter names first.
+// Sorts entries by their names, the shorter names first.
 pub(crate) fn sort_by_name(items: &mut Vec<Item>)
     ensures { AreByName (items_view items.old.items) (items_view items.new.items) }
 {

@@ -1,5 +1,5 @@
-//! What stands in the directories of an accepted image, and how it is looked up, by name and by path;
-//! and whether the image may be changed.
+//! Look-ups in the directories of an accepted image, by name and by path. Also whether the image
+//! may be changed.
 #![tactic(auto)]
 
 mod addresses;

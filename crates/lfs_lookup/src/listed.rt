@@ -1,4 +1,4 @@
-// What stands in the directory at a path, by name and size.
+// The entries of the directory at a path, by name and size.
 
 ghost use Rattle.std.specs.Prelude.{◌≡◌, ◌≤◌, ◌+◌, ◌++◌, ◌∷◌, [], IfOk, false, map, sum_by};
 ghost use Rattle.lfs_model.specs.Frame.{pairs_of_path, parents};
@@ -22,7 +22,7 @@ use lfs_device::{BlockDevice, Error};
 use lfs_thread::Thread;
 use std::alloc::{AllocError, Global};
 
-// How many bytes a file has. None for a directory.
+// Returns how many bytes a file has. Returns None for a directory.
 fn listed_size(structure: &Structure) -> Option<u32>
     requires { IsShort (structure_view structure.now) }
     ensures { result ≡ size_listed (structure_view structure.now) }
@@ -34,7 +34,7 @@ fn listed_size(structure: &Structure) -> Option<u32>
     }
 }
 
-// An entry by name and size.
+// Returns an entry by name and size.
 fn listed_item(item: Item) -> ListItem
     requires { IsShort (structure_view item.structure) }
     ensures { list_item_view result ≡ item_listed (item_view item) }
@@ -46,7 +46,7 @@ fn listed_item(item: Item) -> ListItem
     }
 }
 
-// Entries by name and size.
+// Returns entries by name and size.
 fn listed_items(alloc: Global, items: Vec<Item>) -> Result<Vec<ListItem>, AllocError>
     requires { AreShort (items_view items.items) }
     ensures { IfOk result (λ listed. map list_item_view listed.items ≡ map item_listed (items_view items.items)) }
@@ -58,12 +58,14 @@ fn listed_items(alloc: Global, items: Vec<Item>) -> Result<Vec<ListItem>, AllocE
     Ok(listed)
 }
 
-/// What a path leads to, and what stands in the directory at it, in name order, the shorter names
-/// first; no items where none is there. No more reads than the directories above the path and the one at it have pairs, and
-/// none where all these pairs are cached.
+/// Looks up a path, and returns the entries of the directory at it. They are in name order, the
+/// shorter names first; there are none where no directory is at the path. The call reads no more
+/// pairs than the directories above the path and the one at it have, and none where all these are
+/// cached.
 ///
-/// `root` is the number of the root directory's first pair. `Io` where a read failed, and `NoMemory`
-/// where room isn't granted.
+/// `root` is the number of the root directory's first pair.
+///
+/// Errors: `Io` where a read failed. `NoMemory` where memory isn't granted.
 pub fn list_at<D: BlockDevice>(
     alloc: Global,
     thread: &mut Thread<D>,
@@ -82,8 +84,8 @@ pub fn list_at<D: BlockDevice>(
     let shown = shown_at(alloc, thread, root, path)?;
     let mut items = entries_from(alloc, thread, first_of(root, shown))?;
     sort_by_name(&mut items);
-    // Its blocks hold bytes, so that inline contents are short, and have the sizes by which a list has
-    // as many bytes as its entry says.
+    // The blocks hold bytes, so inline contents are short. By the sizes of its blocks a list has as
+    // many bytes as its entry says.
     let _device = thread.device();
     let listed = listed_items(alloc, items)?;
     Ok(Listing {

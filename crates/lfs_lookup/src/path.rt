@@ -12,7 +12,7 @@ use lfs_tag::is_component;
 use std::alloc::{AllocError, Global};
 use std::marker::Model;
 
-// Whether these bytes are names with a slash between each two.
+// Returns whether these bytes are names with a slash between each two.
 fn are_components(bytes: &[u8]) -> bool
     ensures { result ≡ list_all is_component (slice_split (λ c. c == slash) bytes.now) }
 {
@@ -30,14 +30,14 @@ fn is_path(bytes: &[u8]) -> bool
     }
 }
 
-// The parts between slashes.
+// Returns the parts between slashes.
 fn parts_of<'a>(alloc: Global, bytes: &'a [u8]) -> Result<Vec<&'a [u8]>, AllocError>
     ensures { IfOk result (λ parts. map (λ part. part.now) parts.items ≡ slice_split (λ c. c == slash) bytes.now) }
 {
     bytes.split(|byte| *byte == b'/').collect(alloc)
 }
 
-// How many bytes stand behind the last slash.
+// Returns how many bytes come after the last slash.
 fn len_behind_slash(bytes: &[u8]) -> usize
     ensures len { result ≡ behind_slash 0 bytes.now }
     ensures bound { result ≤ length bytes.now }
@@ -49,7 +49,7 @@ fn len_behind_slash(bytes: &[u8]) -> usize
     len
 }
 
-/// The bytes of a path that is well formed. To a contract it is the names in it.
+/// The bytes of a well-formed path. A contract sees the names in it.
 #[derive(Drop)]
 pub struct Path<'a> {
     bytes: &'a [u8],
@@ -69,7 +69,7 @@ impl<'a> Model for Path<'a> {
 }
 
 impl<'a> Path<'a> {
-    /// The path of these bytes, if it is well formed.
+    /// Makes the path of these bytes. Returns None where they aren't well formed.
     pub fn parse(bytes: &'a [u8]) -> Option<Path<'a>>
         ensures { result ≡ path_of bytes.now }
     {
@@ -80,7 +80,9 @@ impl<'a> Path<'a> {
         }
     }
 
-    /// The names in it, in turn; the root's path has none. An error where their room isn't granted.
+    /// Returns the names in the path, in order; the root's path has none.
+    ///
+    /// Errors: `AllocError` where memory for them isn't granted.
     pub fn names(&self, alloc: Global) -> Result<Vec<&'a [u8]>, AllocError>
         ensures { IfOk result (λ names. map (λ name. name.now) names.items ≡ self.now) }
     {
@@ -90,28 +92,29 @@ impl<'a> Path<'a> {
         }
     }
 
-    /// Whether it is the root's path.
+    /// Returns whether the path is the root's.
     pub fn is_root(&self) -> bool
         ensures { result ≡ is_root self.now }
     {
         matches!(self.bytes, [] | [_])
     }
 
-    /// For a proof: each of its names may be a component of a path. It does nothing.
+    /// Shows a proof that each name of the path may be a component. The call does nothing at run
+    /// time.
     pub fn know_names(&self)
         ensures { list_all is_component self.now ≡ true }
     {
         let _len = self.bytes.len();
     }
 
-    /// For a proof: it is the path of some bytes. It does nothing.
+    /// Shows a proof that the path is made of some bytes. The call does nothing at run time.
     pub fn know_bytes(&self)
         ensures { (bytes : List ℕ) × (as_path bytes ≡ self.now) }
     {
         let _len = self.bytes.len();
     }
 
-    /// How many bytes the last name has; the root's path has none.
+    /// Returns how many bytes the last name has; the root's path has none.
     pub fn name_len(&self) -> usize
         ensures len { result ≡ length (last_name self.now) }
         ensures bound { result < 2 ^ 63 }

@@ -30,9 +30,9 @@ use std::alloc::Global;
 pub(crate) enum Parent {
     // A directory, by the number of its first pair.
     Directory(usize),
-    // A file stands there.
+    // A file is there.
     File,
-    // Nothing stands there.
+    // No entry is there.
     Nothing,
 }
 
@@ -54,7 +54,7 @@ pub enum Found {
         slot: Spot,
         contents: Contents,
     },
-    /// Nothing. The name belongs in front of the slot `place`.
+    /// No entry. The name belongs before the slot `place`.
     Nothing {
         parent: usize,
         place: Spot,
@@ -65,8 +65,8 @@ pub enum Found {
     ParentIsMissing,
 }
 
-/// What a path leads to where a slot may count as deleted, as [`Found`], but without a place for what
-/// isn't there.
+/// What a path leads to where a slot may count as deleted. It is like [`Found`], but has no place
+/// for a name that isn't there.
 #[derive(Clone, Copy, Debug, PartialEq, Eq, Drop)]
 pub enum Shown {
     /// The root directory, which has no slot.
@@ -75,7 +75,7 @@ pub enum Shown {
     Directory { slot: Spot, first: usize },
     /// A file.
     File { slot: Spot, contents: Contents },
-    /// Nothing.
+    /// No entry.
     Nothing,
     /// A component before the last is a file.
     ParentIsFile,
@@ -83,8 +83,8 @@ pub enum Shown {
     ParentIsMissing,
 }
 
-// The slot that counts as deleted under a global state, which is the one that a set move names
-// (DESIGN.md of littlefs, "The move problem"). None where no move is set.
+// Returns the slot that counts as deleted under a global state: the one that a set move names
+// (DESIGN.md of littlefs, "The move problem"). Returns None where no move is set.
 pub(crate) fn moved_slot<D: BlockDevice>(thread: &Thread<D>, state: &MoveState) -> Option<Spot>
     requires { IsAccepted thread.now.kept.disk thread.now.kept.pairs }
     ensures { HidesFrom (move_view state.now) result 0 thread.now.kept.pairs }
@@ -98,7 +98,7 @@ pub(crate) fn moved_slot<D: BlockDevice>(thread: &Thread<D>, state: &MoveState) 
     }
 }
 
-// Goes from a directory to the one of that name in it, where a slot may count as deleted.
+// Returns the directory of that name in a directory, where a slot may count as deleted.
 fn enter<D: BlockDevice>(
     alloc: Global,
     thread: &mut Thread<D>,
@@ -126,11 +126,11 @@ fn enter<D: BlockDevice>(
     }
 }
 
-// Goes down a path of directories from the root, which begins with the pair of number `root`, by
-// the names of its components, where the slot `moved` counts as deleted. It stops at the first
-// component that is no directory. No more reads than the directories above the last one have pairs.
+// Returns the directory that the names lead to from the root, where the slot `moved` counts as
+// deleted. The root begins with the pair of number `root`. The search ends at the first name that
+// is no directory's. It reads no more pairs than the directories above the last one have.
 //
-// Errors as those of `find_name`.
+// Errors are those of `find_name`.
 pub(crate) fn find_directory<D: BlockDevice>(
     alloc: Global,
     thread: &mut Thread<D>,
@@ -159,7 +159,7 @@ pub(crate) fn find_directory<D: BlockDevice>(
     Ok(Parent::Directory(first))
 }
 
-// What a name in a directory stands for.
+// Returns the entry of a name in a directory.
 fn look_in<D: BlockDevice>(
     alloc: Global,
     thread: &mut Thread<D>,
@@ -193,11 +193,11 @@ fn look_in<D: BlockDevice>(
     }
 }
 
-/// What a path leads to, by the names of its components, from the root down; the root begins with
-/// the pair of number `root`. No more reads than the directories above it have pairs.
+/// Looks up a path by the names of its components, from the root down. The root begins with the
+/// pair of number `root`. The call reads no more pairs than the directories above the path have.
 ///
-/// `Io` where a read failed, and `NoMemory` where the room for a block isn't granted. The thread
-/// works on after either.
+/// Errors: `Io` where a read failed. `NoMemory` where memory for a block isn't granted. The thread
+/// works after either.
 pub fn look_up<D: BlockDevice>(
     alloc: Global,
     thread: &mut Thread<D>,
@@ -223,7 +223,7 @@ pub fn look_up<D: BlockDevice>(
     }
 }
 
-// What a name in a directory stands for, where a slot may count as deleted.
+// Returns the entry of a name in a directory, where a slot may count as deleted.
 fn show_in<D: BlockDevice>(
     alloc: Global,
     thread: &mut Thread<D>,
@@ -250,11 +250,11 @@ fn show_in<D: BlockDevice>(
     }
 }
 
-// What a path leads to as `look_up`, where the slot `moved` counts as deleted: the one that a set
-// move names (DESIGN.md of littlefs, "The move problem"). The block of the slot that is found is at
-// hand then.
+// Looks up a path as `look_up` does, where the slot `moved` counts as deleted: the one that a set
+// move names (DESIGN.md of littlefs, "The move problem"). The block of the slot that is found is
+// cached then.
 //
-// Errors as those of `find_name`.
+// Errors are those of `find_name`.
 pub(crate) fn look_up_shown<D: BlockDevice>(
     alloc: Global,
     thread: &mut Thread<D>,

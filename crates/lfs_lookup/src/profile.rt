@@ -1,4 +1,4 @@
-// Whether an image keeps within what is written.
+// Whether an image is in the writing profile.
 
 ghost use Rattle.std.specs.Prelude.{List, ◌≡◌, ◌↔◌, ◌<◌, IsTrue, All, IfOk, IfErr, Some, false, length, map, true};
 ghost use Rattle.lfs_model.specs.Content.{complete, complete_all, struct_typed};
@@ -21,8 +21,8 @@ use lfs_tag::{Attribute, Content, Log, Part, Slot, superblock_of};
 use lfs_thread::Thread;
 use std::alloc::Global;
 
-// Whether an entry takes at most half of what a pair may hold, whatever contents it gets, and has
-// them within the limit where they stand in it.
+// Returns whether an entry takes at most half of what a pair may hold, with any contents that it
+// may get. Its inline bytes are within the limit, too.
 fn fits_entry(
     geometry: &Geometry,
     name: &Part<'_>,
@@ -40,7 +40,7 @@ fn fits_entry(
         && (structure.kind != INLINE_STRUCT || structure.bytes.len() <= limit as usize)
 }
 
-// Whether a superblock has the limits that a fresh image has.
+// Returns whether a superblock has the limits of a fresh image.
 fn has_written_limits(structure: &Part<'_>) -> bool
     requires { length structure.now.bytes.now ≡ 24 }
     ensures { IsTrue result ↔ (((superblock_at structure.now.bytes.now).name_max ≡ 255) × ((superblock_at structure.now.bytes.now).file_max ≡ file_limit) × ((superblock_at structure.now.bytes.now).attr_max ≡ 1022)) }
@@ -54,7 +54,7 @@ fn has_written_limits(structure: &Part<'_>) -> bool
     }
 }
 
-// Whether a slot keeps within what is written.
+// Returns whether a slot is within the writing profile.
 fn fits_slot(geometry: &Geometry, slot: &Slot<'_>) -> bool
     requires { (s : ModelSlot) × ((complete (slot_view slot.now) ≡ Some s) × IsShaped s) }
     ensures { (s : ModelSlot) → complete (slot_view slot.now) ≡ Some s → IsShaped s → IsTrue result ↔ FitsSlot geometry.now.block_size geometry.now.page s }
@@ -68,7 +68,7 @@ fn fits_slot(geometry: &Geometry, slot: &Slot<'_>) -> bool
     has_written_limits(&structure)
 }
 
-// Whether all slots do.
+// Returns whether all slots are within the writing profile.
 fn fit_all(geometry: &Geometry, slots: &[Slot<'_>]) -> bool
     requires { (all : List ModelSlot) × ((complete_all (map slot_view slots.now) ≡ Some all) × All IsShaped all) }
     ensures { (all : List ModelSlot) → complete_all (map slot_view slots.now) ≡ Some all → All IsShaped all → IsTrue result ↔ All (FitsSlot geometry.now.block_size geometry.now.page) all }
@@ -81,14 +81,15 @@ fn fit_all(geometry: &Geometry, slots: &[Slot<'_>]) -> bool
     true
 }
 
-// Whether a pair has a slot, if a hard tail names it.
+// Returns whether a pair has a slot, if a hard tail names it.
 fn is_filled(follows: bool, slots: &[Slot<'_>]) -> bool
     ensures { IsTrue result ↔ (follows ≡ true → ¬ (length slots.now ≡ 0)) }
 {
     !follows || !slots.is_empty()
 }
 
-// Whether a pair with that log does. A pair that a hard tail names has a slot.
+// Returns whether a pair with that log is within the writing profile. A pair that a hard tail names
+// has a slot.
 fn fits_in_log(
     alloc: Global,
     geometry: &Geometry,
@@ -110,7 +111,7 @@ fn fits_in_log(
     Ok(fit)
 }
 
-// Whether the pair at an index does.
+// Returns whether the pair at an index is within the writing profile.
 fn fits_at<D: BlockDevice>(
     alloc: Global,
     thread: &mut Thread<D>,
@@ -128,8 +129,8 @@ fn fits_at<D: BlockDevice>(
     fits_in_log(alloc, geometry, &thread.lend(index).unwrap(), follows)
 }
 
-/// Whether a pair goes on with the directory of the one in front of it. Those up to the root's first
-/// one, whose number is `root`, don't.
+/// Returns whether a pair continues the directory of the pair before it. The pairs up to the root's
+/// first one, whose number is `root`, don't.
 pub fn follows_at<D: BlockDevice>(thread: &Thread<D>, root: usize, index: usize) -> bool
     requires works { thread.now.failed ≡ false }
     requires below { index < length thread.now.kept.pairs }
@@ -138,14 +139,16 @@ pub fn follows_at<D: BlockDevice>(thread: &Thread<D>, root: usize, index: usize)
     index > root && thread.next(index - 1).is_some()
 }
 
-/// Whether an image keeps within what this library writes, so that it may be changed: each pair has
-/// at most a thousand slots, whose bytes it could hold after a compaction; each superblock has the
-/// limits that a fresh image has; each entry, with any contents that may stand in it, takes at most
-/// half of that room, and a file's contents stand in it up to an eighth of a block only; and no pair
-/// but the first of a directory is without slots.
+/// Returns whether an image is in the writing profile, so that it may be changed. Each pair has at
+/// most a thousand slots, whose bytes it could hold after a compaction. Each superblock has the
+/// limits of a fresh image. Each entry takes at most half of a pair's bytes, with any inline
+/// contents that it may get. A file's contents are inline up to an eighth of a block only. Only the
+/// first pair of a directory may have no slots.
 ///
-/// `root` is the number of the root directory's first pair. `Io` where a read failed, and `NoMemory`
-/// where the room for a block and its slots isn't granted.
+/// `root` is the number of the root directory's first pair.
+///
+/// Errors: `Io` where a read failed. `NoMemory` where memory for a block and its slots isn't
+/// granted.
 pub fn is_writable<D: BlockDevice>(
     alloc: Global,
     thread: &mut Thread<D>,

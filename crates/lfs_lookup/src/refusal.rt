@@ -7,8 +7,8 @@ ghost use Rattle.lfs_lookup.specs.Refusals.{error_for, is_refusal, refusal_in};
 use lfs_device::Error;
 use std::marker::Model;
 
-/// Why an operation isn't carried out, where everything is as it was: an error that isn't `Io`,
-/// `NoMemory` or `Corrupt`. To a contract it is the definition's refusal.
+/// A refusal: an error that isn't `Io`, `NoMemory` or `Corrupt`, and after which all is as it was.
+/// A contract sees the definition's refusal.
 #[derive(Clone, Copy)]
 pub struct Refusal {
     error: Error,
@@ -31,7 +31,7 @@ impl Model for Refusal {
 }
 
 impl Refusal {
-    /// The error that is answered for it.
+    /// Returns the error that the refusal is.
     pub fn error(&self) -> Error
         ensures refusal { refusal_in result ≡ self.now }
         ensures is { is_refusal result ≡ true }
@@ -40,7 +40,7 @@ impl Refusal {
     }
 }
 
-/// The refusal that an error is.
+/// Returns the refusal that an error is.
 pub fn refused(error: Error) -> Refusal
     requires { is_refusal error ≡ true }
     ensures { result ≡ refusal_in error }
@@ -48,7 +48,7 @@ pub fn refused(error: Error) -> Refusal
     Refusal { error }
 }
 
-/// That refusal, if a check says so.
+/// Returns that refusal, if a check fails.
 pub fn refuse_if(is: bool, error: Error) -> Option<Refusal>
     requires { is_refusal error ≡ true }
     ensures { result ≡ refuse_if is (refusal_in error) }

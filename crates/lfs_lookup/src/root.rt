@@ -18,7 +18,7 @@ use lfs_tag::{Content, Log, Slot};
 use lfs_thread::Thread;
 use std::alloc::Global;
 
-// Whether a slot is a superblock's.
+// Returns whether a slot is a superblock's.
 fn is_superblock(slot: &Slot<'_>) -> bool
     ensures { (s : ModelSlot) → complete (slot_view slot.now) ≡ Some s → result ≡ is_superblock s }
 {
@@ -28,7 +28,7 @@ fn is_superblock(slot: &Slot<'_>) -> bool
     }
 }
 
-// Whether the first slot of a log is.
+// Returns whether the first slot of a log is a superblock's.
 fn starts_with_superblock(alloc: Global, log: &Log<'_>) -> Result<bool, Error>
     requires { (content : ModelContent) × IsBlockOf log.now content }
     ensures is { (content : ModelContent) → IsBlockOf log.now content → IfOk result (λ b. b ≡ starts_with_superblock content.slots) }
@@ -41,7 +41,7 @@ fn starts_with_superblock(alloc: Global, log: &Log<'_>) -> Result<bool, Error>
     }
 }
 
-// Whether a pair begins with a superblock.
+// Returns whether a pair begins with a superblock.
 fn begins_with_superblock<D: BlockDevice>(
     alloc: Global,
     thread: &mut Thread<D>,
@@ -57,7 +57,8 @@ fn begins_with_superblock<D: BlockDevice>(
     starts_with_superblock(alloc, &thread.lend(index).unwrap())
 }
 
-// The pair behind one, where the chain may go on: the one has at most one slot, and a hard tail.
+// Returns the pair after one, where the chain may continue: the one has at most one slot, and a
+// hard tail.
 fn next_in_chain<D: BlockDevice>(thread: &Thread<D>, index: usize) -> Option<usize>
     requires works { thread.now.failed ≡ false }
     requires below { index < length thread.now.kept.pairs }
@@ -70,7 +71,7 @@ fn next_in_chain<D: BlockDevice>(thread: &Thread<D>, index: usize) -> Option<usi
     thread.next(index)
 }
 
-// The first pair that has a slot. In an accepted image it begins with a superblock.
+// Returns the first pair that has a slot. In an accepted image it begins with a superblock.
 fn first_superblock<D: BlockDevice>(thread: &Thread<D>) -> usize
     requires works { thread.now.failed ≡ false }
     requires accepted { IsAccepted thread.now.kept.disk thread.now.kept.pairs }
@@ -84,8 +85,8 @@ fn first_superblock<D: BlockDevice>(thread: &Thread<D>) -> usize
     unreachable!()
 }
 
-// The next pair of the chain that has a superblock, behind one that has. None where the root begins
-// at that one.
+// Returns the next pair of the chain that has a superblock, after one that has. Returns None where
+// the root begins at that one.
 fn next_superblock<D: BlockDevice>(
     alloc: Global,
     thread: &mut Thread<D>,
@@ -112,12 +113,13 @@ fn next_superblock<D: BlockDevice>(
     unreachable!()
 }
 
-/// The number of the root directory's first pair: the last one of the superblock's chain (SPEC.md of
-/// littlefs, "0x0ff LFS_TYPE_SUPERBLOCK"). Pairs of the chain may have no slot. One read more at most
-/// than there are pairs in front of the root, and none where the first pair has more slots than the
-/// superblock, or no hard tail.
+/// Returns the number of the root directory's first pair: the last one of the superblock's chain
+/// (SPEC.md of littlefs, "0x0ff LFS_TYPE_SUPERBLOCK"). Pairs of the chain may have no slot. The
+/// call takes at most one read more than there are pairs before the root. It takes none where the
+/// first pair has more slots than the superblock, or no hard tail.
 ///
-/// `Io` where a read failed, and `NoMemory` where the room for a block and its slots isn't granted.
+/// Errors: `Io` where a read failed. `NoMemory` where memory for a block and its slots isn't
+/// granted.
 pub fn find_root<D: BlockDevice>(alloc: Global, thread: &mut Thread<D>) -> Result<usize, Error>
     requires works { thread.old.failed ≡ false }
     requires accepted { IsAccepted thread.old.kept.disk thread.old.kept.pairs }

@@ -17,30 +17,30 @@ use lfs_tag::{Log, Lookup, Steps, find, struct_of};
 use lfs_thread::Thread;
 use std::alloc::{AllocError, Global};
 
-/// A slot, or the place of one: a pair's number in the thread and an id in it.
+/// A slot, or the place of one: a pair's number in the thread and an id in the pair.
 #[derive(Clone, Copy, Debug, PartialEq, Eq, Drop)]
 pub struct Spot {
     pub pair: usize,
     pub id: u16,
 }
 
-// Where a name stands in a directory.
+// Where a name is in a directory.
 #[derive(Clone, Copy, Debug, PartialEq, Eq, Drop)]
 pub(crate) enum Sought {
-    // Its slot, and what stands there.
+    // Its slot, and the entry there.
     Found(Spot, Entry),
-    // It isn't there, and belongs in front of this slot.
+    // The name isn't there, and belongs before this slot.
     Place(Spot),
 }
 
-// Where a name stands in a pair.
+// Where a name is in a pair.
 #[derive(Drop)]
 enum SoughtInPair {
     Found(u16, Entry),
     Place(u16),
 }
 
-// Where a name stands among the slots of a log, where one slot may be passed over.
+// Returns where a name is among the slots of a log, where one slot may be passed over.
 fn find_in_log(
     alloc: Global,
     log: &Log<'_>,
@@ -61,7 +61,7 @@ fn find_in_log(
     }
 }
 
-// Where a name stands in one pair, where one slot may be passed over.
+// Returns where a name is in one pair, where one slot may be passed over.
 fn find_in_pair<D: BlockDevice>(
     alloc: Global,
     thread: &mut Thread<D>,
@@ -84,13 +84,13 @@ fn find_in_pair<D: BlockDevice>(
     Ok(found)
 }
 
-// Where a name stands among the entries of the directory that begins with the pair of number
-// `first`, or where it belongs. A set move isn't heeded; `find_shown` heeds it. A directory goes
-// on along the hard tails (SPEC.md of littlefs, "0x601 LFS_TYPE_HARDTAIL"), and its entries are
-// sorted by name. No more reads than it has pairs.
+// Finds where a name is among the entries of the directory that begins with the pair of number
+// `first`, or where it belongs. A set move is ignored here; `find_shown` regards it. A directory
+// continues along the hard tails (SPEC.md of littlefs, "0x601 LFS_TYPE_HARDTAIL"), and its entries
+// are sorted by name. The call reads no more pairs than the directory has.
 //
-// `Io` where a read failed, and `NoMemory` where the room for a block isn't granted. The thread
-// works on after either.
+// Errors: `Io` where a read failed. `NoMemory` where memory for a block isn't granted. The thread
+// works after either.
 pub(crate) fn find_name<D: BlockDevice>(
     alloc: Global,
     thread: &mut Thread<D>,
@@ -126,13 +126,13 @@ pub(crate) fn find_name<D: BlockDevice>(
     }
 }
 
-/// What a name stands for among the entries of the directory that begins with the pair of number
-/// `first`, where the slot `moved` counts as deleted: the one that a set move names (DESIGN.md of
-/// littlefs, "The move problem"). None where nothing has the name. No more reads than the directory
-/// has pairs, and none where all of them are cached; the one that has the name is cached then.
+/// Finds the entry of a name in the directory that begins with the pair of number `first`, where
+/// the slot `moved` counts as deleted: the one that a set move names (DESIGN.md of littlefs, "The
+/// move problem"). Returns None where no entry has the name. The call reads no more pairs than the
+/// directory has, and none where all these are cached. The pair that has the name is cached then.
 ///
-/// `Io` where a read failed, and `NoMemory` where the room for a block isn't granted. The thread
-/// works on after either.
+/// Errors: `Io` where a read failed. `NoMemory` where memory for a block isn't granted. The thread
+/// works after either.
 pub fn find_shown<D: BlockDevice>(
     alloc: Global,
     thread: &mut Thread<D>,
@@ -162,7 +162,7 @@ pub fn find_shown<D: BlockDevice>(
     }
 }
 
-// The id that is passed over in a pair.
+// Returns the id that is passed over in a pair.
 fn passed_in(moved: Option<Spot>, pair: usize) -> Option<u16>
     ensures { result ≡ passed_in moved pair }
 {

@@ -1,4 +1,4 @@
-// All that stands beneath the root.
+// All entries beneath the root.
 
 ghost use Rattle.std.specs.Prelude.{◌≡◌, ◌++◌, ◌<◌, IfOk, OnOk, false, length, reverse};
 ghost use Rattle.lfs_model.specs.Thread.{gstate_of};
@@ -19,13 +19,13 @@ use std::alloc::{AllocError, Global};
 /// A file or a directory of the tree.
 #[derive(Drop)]
 pub struct TreeItem {
-    /// Its path from the root: a `/` in front of each name.
+    /// Its path from the root: a `/` before each name.
     pub path: Vec<u8>,
-    /// What its entry says.
+    /// Its struct.
     pub structure: Structure,
 }
 
-// What stands in the directory of a path.
+// Returns the tree's entry of an item in the directory at a path.
 fn found_beneath(alloc: Global, path: &[u8], item: Item) -> Result<TreeItem, AllocError>
     ensures { IfOk result (λ found. found_view found ≡ beneath path.now (item_view item)) }
 {
@@ -54,7 +54,8 @@ fn push_items(
     Ok(())
 }
 
-// Puts the entries on top of the directory that begins with the pair of number `first`, in name order.
+// Puts the entries of the directory that begins with the pair of number `first` on top, in name
+// order.
 fn push_directory<D: BlockDevice>(
     alloc: Global,
     thread: &mut Thread<D>,
@@ -75,7 +76,7 @@ fn push_directory<D: BlockDevice>(
     Ok(())
 }
 
-// Puts what stands in a directory on top; a file has nothing beneath it.
+// Puts the entries of a directory on top; a file has none.
 fn push_below<D: BlockDevice>(
     alloc: Global,
     thread: &mut Thread<D>,
@@ -98,10 +99,10 @@ fn push_below<D: BlockDevice>(
     Ok(())
 }
 
-/// All that stands beneath the root, depth first and in name order, the shorter names first: a
-/// directory comes before what stands beneath it, and that before the next name.
+/// Returns all entries beneath the root, depth first and in name order, the shorter names first. A
+/// directory comes before the entries beneath it, and these before the next name.
 ///
-/// `Io` where a read failed, and `NoMemory` where the room for a block, its slots or what was found
+/// Errors: `Io` where a read failed. `NoMemory` where memory for a block, its slots or the entries
 /// isn't granted.
 pub fn walk<D: BlockDevice>(alloc: Global, thread: &mut Thread<D>) -> Result<Vec<TreeItem>, Error>
     requires works { thread.old.failed ≡ false }
@@ -113,7 +114,7 @@ pub fn walk<D: BlockDevice>(alloc: Global, thread: &mut Thread<D>) -> Result<Vec
     let addresses = addresses_of(alloc, thread)?;
     let mut walked = Vec::new(alloc);
     let mut pending = Vec::new(alloc);
-    // The root's entries: the superblock's pairs, which may stand in front of it, show nothing.
+    // The pairs of the superblock's chain, which may come before the root, have no entries.
     push_directory(alloc, thread, &state, 0, b"", &mut pending)?;
     while let Some(found) = pending.pop() {
         push_below(alloc, thread, &addresses, &state, &found, &mut pending)?;

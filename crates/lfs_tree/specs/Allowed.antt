@@ -1,4 +1,4 @@
--- What an operation's checks have shown before it is carried out.
+-- What an operation's checks have shown before it is applied.
 use Rattle.std.specs.Prelude.{ℕ, ◌≡◌, ◌+◌, ◌≤◌, true, false, not, ◌&&◌, List, [], length, nat_lt, None, is_none, is_some}
 use Rattle.lfs_model.specs.TreeEdits.{attributes_of, is_beneath, is_directory, is_file, last_name, names_of, same_path}
 use Rattle.lfs_model.specs.BlockSets.{in_flight_count}
@@ -34,7 +34,7 @@ CanMake t path = CanAdd t path 4
 abbrev pub CanCreate : TreeState → Path → Type 0
 CanCreate t path = CanAdd t path 2
 
--- a file or a directory without entries stands there
+-- a file or a directory without entries is there
 pub record CanRemoveImage (t : TreeState) (path : Path) : Type 0 where
   pub works : t.failed ≡ false
   pub writable : t.writable ≡ true
@@ -46,7 +46,7 @@ pub record CanRemoveImage (t : TreeState) (path : Path) : Type 0 where
 abbrev pub CanRemove : TreeState → Path → Type 0
 CanRemove t path = CanRemoveImage (bare t) path
 
--- an entry stands there that takes the attribute
+-- an entry is there that takes the attribute
 pub record CanSetAttrImage (t : TreeState) (path : Path) (kind : ℕ) (bytes : List ℕ) : Type 0 where
   pub works : t.failed ≡ false
   pub writable : t.writable ≡ true
@@ -60,7 +60,7 @@ pub record CanSetAttrImage (t : TreeState) (path : Path) (kind : ℕ) (bytes : L
 abbrev pub CanSetAttr : TreeState → Path → ℕ → List ℕ → Type 0
 CanSetAttr t path kind bytes = CanSetAttrImage (bare t) path kind bytes
 
--- an entry stands there that has the attribute
+-- an entry is there that has the attribute
 pub record CanRemoveAttrImage (t : TreeState) (path : Path) (kind : ℕ) : Type 0 where
   pub works : t.failed ≡ false
   pub writable : t.writable ≡ true
@@ -72,7 +72,7 @@ pub record CanRemoveAttrImage (t : TreeState) (path : Path) (kind : ℕ) : Type 
 abbrev pub CanRemoveAttr : TreeState → Path → ℕ → Type 0
 CanRemoveAttr t path kind = CanRemoveAttrImage (bare t) path kind
 
--- what stands at the one path may stand at the other, in place of what is there
+-- the entry at the one path may be at the other, in place of the one there
 pub record CanRenameImage (t : TreeState) (from to : Path) : Type 0 where
   pub works : t.failed ≡ false
   pub writable : t.writable ≡ true

@@ -1,4 +1,4 @@
--- The calls of a tree that change its image, and what each of them says.
+-- The calls of a tree that change its image, and what each of them promises.
 use Rattle.std.specs.Prelude.{ℕ, ◌≡◌, List, [], Result, IfErr, OnErr, OnOk}
 use Rattle.lfs_device.specs.declared.error.Error.{Error}
 use Rattle.lfs_model.specs.Content.{put_attribute, without_attribute}
@@ -29,7 +29,7 @@ Does (SetAttr path kind bytes) op = (given : List ℕ) × ((op ≡ ops.SetAttr g
 Does (RemoveAttr path kind) op = (given : List ℕ) × ((op ≡ ops.RemoveAttr given kind) × (as_path given ≡ path))
 Does Recover op = op ≡ ops.Recover
 
--- the tree that it leaves
+-- the tree that the call leaves
 abbrev pub left_by : Call → Tree → Tree
 left_by (Mkdir path) t = added path (DirectoryNode [] []) t
 left_by (Create path) t = added path (FileNode [] []) t
@@ -39,8 +39,8 @@ left_by (SetAttr path kind bytes) t = with_attributes_changed path (put_attribut
 left_by (RemoveAttr path kind) t = with_attributes_changed path (without_attribute kind) t
 left_by Recover t = t
 
--- The operation that the call does is carried out, and leaves the rest alone; or the tree has failed. A loss of power on the way
--- leaves the tree from before, or that of the call.
+-- The operation of the call is applied, and leaves the other entries alone; or the tree has failed. A loss of power during the
+-- call leaves the tree from before, or that of the call.
 pub record IsOperation {X : Type 0} (old : TreeState) (call : Call) (result : Result X Error) (new : TreeState) : Type 0 where
   pub done : OnOk result ((op : Operation) → Does call op → IsAppliedOn old op new)
   pub alone : OnOk result ((op : Operation) → Does call op → LeavesRest old op new)

@@ -1,4 +1,4 @@
--- What an operation on a path finds, and what comes of it over a thread.
+-- What an operation on a path finds, and what it does to a thread.
 use Rattle.std.specs.Prelude.{ℕ, ◌≡◌, Bool, true, false, List, [], ◌∷◌, ◌++◌, None, is_some, Result, IfErr, OnOk}
 use Rattle.lfs_device.specs.declared.error.Error.{Error}
 use Rattle.lfs_model.specs.declared.order.NameOrder.{NameOrder}
@@ -25,7 +25,7 @@ use Rattle.lfs_lookup.specs.declared.paths.Found.{Found}
 use Rattle.lfs_lookup.specs.declared.paths.Found.TheVariants as found
 use Rattle.lfs_lookup.specs.declared.search.Spot.{Spot}
 
--- The image may be changed: it is in the writing profile, and nothing of it is to be recovered.
+-- The image may be changed: it is in the writing profile, and has nothing to recover.
 pub record IsAtRest (t : State) (root : ℕ) : Type 0 where
   pub held : IsRooted t root true
   pub settled : gstate_of t.kept.pairs ≡ no_gstate
@@ -40,7 +40,7 @@ pub record IsVacant (t : Tree) (path : Path) : Type 0 where
   pub parents : parent_fault t [] path ≡ None
   pub nothing : is_some (t path) ≡ false
 
--- the name is the last one of the path, and belongs in front of the slot at the spot
+-- the name is the last one of the path, and belongs before the slot at the spot
 pub record IsPlaceFor (order : NameOrder) (ps : List Pair) (path : Path) (name : Name) (spot : Spot) : Type 0 where
   pub above : Path
   pub first : ℕ
@@ -57,11 +57,11 @@ abbrev pub IsPlaceIn : Found → Spot → Type 0
 IsPlaceIn (found.Nothing parent place) spot = place ≡ spot
 IsPlaceIn _ spot = ⊥
 
--- the operation is carried out
+-- the operation is applied
 abbrev pub AppliesOn : Kept → Operation → Kept → Type 0
 AppliesOn old op new = IsAppliedOn (tree_state_of old true false) op (tree_state_of new true false)
 
--- it leaves the rest alone
+-- the operation leaves the other blocks alone
 abbrev pub Spares : Kept → Operation → Kept → Type 0
 Spares old op new = LeavesRest (tree_state_of old true false) op (tree_state_of new true false)
 
@@ -75,7 +75,7 @@ pub record HasCalled (old new : Kept) : Type 0 where
 abbrev pub ReportsError : Kept → Kept → Error → Type 0
 ReportsError old new e = IsError (tree_state_of old true false) (tree_state_of new true true) e
 
--- a loss of power on the way leaves the tree from before, or that one
+-- a loss of power during the call leaves the tree from before, or that one
 abbrev pub SurvivesTo : Kept → Kept → Tree → Type 0
 SurvivesTo old new after = Survives old.disk old.history new.history (tree_in old.disk old.pairs) after
 
@@ -89,8 +89,8 @@ pub record StandsAs (old : Kept) (tree : Tree) (new : Kept) : Type 0 where
   pub shows : tree_in new.disk new.pairs ≡ tree
   pub no_fault : faults new.history ≡ faults old.history
 
--- What a change of the image says: what is done, that the thread works on and shows the tree from after it, and what an error
--- and a loss of power come to.
+-- What a change of the image promises. The thread works on and shows the tree from after the change. An error has its cause, and
+-- a loss of power leaves the tree from before or from after.
 pub record IsChange {X : Type 0} (old : State) (Done : Kept → Type 0) (after : Tree) (result : Result X Error) (new : State) : Type 0 where
   pub done : OnOk result (Done new.kept)
   pub works : OnOk result (new.failed ≡ false)
@@ -99,11 +99,11 @@ pub record IsChange {X : Type 0} (old : State) (Done : Kept → Type 0) (after :
   pub errors : IfErr result (ReportsError old.kept new.kept)
   pub survives : SurvivesTo old.kept new.kept after
 
--- the operation that the call does is carried out, and leaves the rest alone
+-- the operation of the call is applied, and leaves the other blocks alone
 pub record HasDone (old : Kept) (call : Call) (new : Kept) : Type 0 where
   pub carries : (op : Operation) → Does call op → AppliesOn old op new
   pub spares : (op : Operation) → Does call op → Spares old op new
 
--- what a call says over a thread of which nothing is to be recovered
+-- what a call promises over a thread that has nothing to recover
 abbrev pub IsOperationOn : {X : Type 0} → State → Call → Result X Error → State → Type 0
 IsOperationOn old call result new = IsChange old (HasDone old.kept call) (left_by call (tree_in old.kept.disk old.kept.pairs)) result new

@@ -18,7 +18,7 @@ pub record HasEntry (t : Tree) (path : Path) : Type 0 where
   pub parents : parent_fault t [] path ≡ None
   pub something : is_none (t path) ≡ false
 
--- the last name of the path stands at the spot, in the slot of the path
+-- the last name of the path is at the spot, in the slot of the path
 pub record IsSlotFor (ps : List Pair) (path : Path) (spot : Spot) : Type 0 where
   pub above : Path
   pub name : Name

@@ -24,7 +24,7 @@ use Rattle.lfs_thread.specs.Device.{two_of}
 use Rattle.lfs_thread.specs.Kept.{Header, IsHeader, Kept, disk_on}
 use Rattle.lfs_thread.specs.Steps.{Writes}
 
--- what puts a superblock with that struct into slot 0
+-- the changes that put a superblock with that struct into slot 0
 abbrev pub put_superblock : List ℕ → List Change
 put_superblock bytes = Create 0 superblock_name_type (codes "littlefs") ∷ PutStruct 0 inline_struct_type bytes ∷ []
 
@@ -57,9 +57,9 @@ pub record IsEmptyMap (count : ℕ) (sets : BlockSets) : Type 0 where
   pub used : AreUsed sets (two_of anchor)
   pub in_flight : AreInFlight sets []
 
--- The disk is a fresh one: its thread is the pair of the blocks 0 and 1, which has the superblock alone. Block 0 holds it, in
--- a log of one commit at revision 1, and no log is left in block 1. These two blocks are used, and no block is in flight; the map
--- has all blocks.
+-- The disk is a fresh one: its thread is the pair {0, 1}, which has the superblock alone. Block 0 holds the superblock, in a log
+-- of one commit at revision 1, and no log is left in block 1. These two blocks are used, and no block is in flight; the map has
+-- all blocks.
 pub record IsFormatted (t : Kept) : Type 0 where
   pub fresh : IsFresh t.disk
   pub first : HoldsLogContent 1 (superblock_alone t.disk) (block_at t.disk 0)
@@ -85,8 +85,8 @@ pub record WritesFirstTwo (old new : Kept) : Type 0 where
   pub calls : ErasesTwo old.history new.history
   pub writes : Writes (two_of anchor) old new
 
--- The device comes back with an error: no block but these was written, and none where memory was lacking. `Io` comes with
--- a fault of it, and no other error does.
+-- An error comes with the device. No block but these was written, and none where memory was lacking. `Io` comes with a fault of
+-- the device, and no other error does.
 pub record ComesBack {D : Type 0} (g : Ghosts D) (bs : List ℕ) (old back : D) (error : Error) : Type 0 where
   pub errors : (error ≡ Io) ⊎ (error ≡ NoMemory)
   pub writes : ChangesOnly g bs old back
@@ -94,7 +94,7 @@ pub record ComesBack {D : Type 0} (g : Ghosts D) (bs : List ℕ) (old back : D) 
   pub fault : error ≡ Io → faults (g.history old) < faults (g.history back)
   pub no_fault : error ≢ Io → faults (g.history back) ≡ faults (g.history old)
 
--- The same of a device, in whichever order it has its names.
+-- The same of a device, in either order of names.
 pub record DeviceComesBack {D : Type 0} (g : Ghosts D) (bs : List ℕ) (old back : D) (error : Error) : Type 0 where
   pub errors : (error ≡ Io) ⊎ (error ≡ NoMemory)
   pub others : SameButThese bs (g.blocks old) (g.blocks back)

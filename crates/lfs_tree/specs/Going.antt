@@ -1,4 +1,4 @@
--- An entry that goes from its directory.
+-- An entry that is removed from its directory.
 use Rattle.std.specs.Prelude.{ℕ, ◌≡◌, ◌≤◌, ◌+◌, true, false, List, [], ◌∷◌, ◌++◌}
 use Rattle.lfs_writer.specs.Settling.{blocks_in_list}
 use Rattle.lfs_model.specs.declared.order.NameOrder.{NameOrder}
@@ -37,7 +37,7 @@ pub record IsEntryOn (order : NameOrder) (ps : List Pair) (path : Path) (found :
 abbrev pub no_list : Stored
 no_list = record { head = 0; size = 0; in_flight = false }
 
--- where the contents stand in the file's slot there is none
+-- inline contents have no list
 abbrev pub list_shown : Contents → Stored
 list_shown (contents.Inline len) = no_list
 list_shown (contents.List head size) = record { head = head; size = size; in_flight = false }
@@ -70,8 +70,8 @@ CanGo t path _ = ⊥
 
 -- ---- what comes of it
 
--- The tree hasn't it, the other slots stand where they should, and its blocks are free: so a remove of its path is completed. The
--- root directory begins where it did.
+-- The tree hasn't the entry, the other slots are where they should be, and the blocks of the entry are free. So a remove of its
+-- path is completed. The root directory begins where it did.
 pub record HasGone (old : Kept) (path : Path) (new : Kept) : Type 0 where
   pub ready : IsReady new
   pub flying : SameInFlight old.map new.map

@@ -1,4 +1,4 @@
--- What an operation leaves of a file that it neither takes away nor moves.
+-- What an operation leaves of a file that it neither removes nor moves.
 use Rattle.std.specs.Prelude.{ℕ, ◌≡◌, true, false, List, [], Option, Some, None, All, Contains}
 use Rattle.lfs_model.specs.TreeEdits.{is_file, same_path}
 use Rattle.lfs_model.specs.Disk.{Disk, block_at}
@@ -12,7 +12,7 @@ use Rattle.lfs_model.specs.Tree.{Path, Tree}
 use Rattle.lfs_model.specs.Shown.{all_slots, file_blocks, tree_in}
 use Rattle.lfs_thread.specs.Kept.{Kept}
 
--- so many blocks an operation that the tree carries out may take: a pair is cut for an entry that comes, and a directory has a pair of its own
+-- how many blocks an operation may take: a pair may be cut for a new entry, and a directory has a pair of its own
 abbrev pub taken_by : Operation → ℕ
 taken_by (ops.Mkdir path) = 4
 taken_by (ops.Open path flags) = 2
@@ -36,7 +36,7 @@ pub record KeepsFile (old new : Kept) (path : Path) : Type 0 where
   pub list : list_at new path ≡ list_at old path
   pub bytes : (b : ℕ) → Contains (list_at old path) b → block_at new.disk b ≡ block_at old.disk b
 
--- every block of a file's list holds what it held
+-- every block of a file's list keeps its bytes
 abbrev pub ListsStay : Disk → List Pair → Disk → Type 0
 ListsStay disk ps new = All (λ t. All (λ b. block_at new b ≡ block_at disk b) (file_blocks disk t.struct)) (all_slots ps)
 

@@ -1,4 +1,4 @@
--- The skip lists that slots name, whose blocks are freed where the slots are gone.
+-- The skip lists of slots that are dropped. Their blocks are freed after that.
 use Rattle.std.specs.Prelude.{ℕ, ◌≤◌, ◌+◌, false, List, [], ◌∷◌, Option, Some, None}
 use Rattle.std.specs.List.{AllByRecursion, flat_map}
 use Rattle.lfs_writer.specs.Settling.{blocks_in_list}
@@ -21,7 +21,7 @@ list_named (Branch to) = []
 abbrev pub lists_named : List Slot → List Stored
 lists_named slots = flat_map (λ s. list_named s.struct) slots
 
--- of a log's slot, whose struct is a type and bytes
+-- the list of a log's slot, whose struct is a type and bytes
 abbrev pub list_typed : Option (ℕ × List ℕ) → List Stored
 list_typed None = []
 list_typed (Some struct) = list_named (struct_typed struct.0 struct.1)
@@ -34,7 +34,7 @@ lists_typed slots = flat_map (λ s. list_typed s.struct) slots
 abbrev pub blocks_in_lists : Kept → List Stored → List ℕ
 blocks_in_lists t lists = flat_map (blocks_in_list t) lists
 
--- The image hasn't the files of these lists any more; the lists stand on the disk, and their blocks are still used.
+-- The image hasn't the files of these lists any more. The lists are on the disk, and their blocks are still used.
 pub record CanFreeLists (t : Kept) (lists : List Stored) : Type 0 where
   pub ready : IsReadyBut t (blocks_in_lists t lists) []
   pub once : (b : ℕ) → count b (used_blocks t.disk t.pairs) + count b (blocks_in_lists t lists) ≤ 1

@@ -38,8 +38,7 @@ pub record HasBytesAs (t : TreeState) (these : List ℕ) (shape : Form) (content
   pub bytes : bytes_held (kept_of t) contents ≡ these
   pub form : form_of contents ≡ shape
 
--- These are the contents of an open writer over the file at the path: they stand on the disk, and what blocks of theirs are used
--- are the file's.
+-- These are the contents of an open writer over the file at the path. They are on the disk, and their used blocks are the file's.
 pub record IsOverFile (t : Kept) (path : Path) (contents : Contents) : Type 0 where
   pub file : is_file (tree_in t.disk t.pairs path) ≡ true
   pub stands : StandsIn t contents
@@ -50,14 +49,15 @@ IsOver t path contents = IsOverFile (kept_of t) path contents
 
 -- ---- what is asked for
 
--- nothing is in flight, and a file stands there
+-- nothing is in flight, and a file is there
 pub record CanOpen (t : TreeState) (path : Path) : Type 0 where
   pub works : t.failed ≡ false
   pub writable : t.writable ≡ true
   pub idle : in_flight_count t.map ≡ 0
   pub file : is_file (tree_view t path) ≡ true
 
--- So many bytes, at least one, may be written there. Past the inline limit there is room for what that wants in flight.
+-- So many bytes, at least one, may be written there. Past the inline limit there is room for the blocks in flight that this
+-- takes.
 pub record CanWriteBeside (t : TreeState) (contents : Contents) (place count : ℕ) : Type 0 where
   pub works : t.failed ≡ false
   pub stands : StandsIn (kept_of t) contents
@@ -97,7 +97,7 @@ CanStoreAt t path contents = CanStoreAtImage (bare t) path contents
 
 -- ---- what comes of it
 
--- contents of so many bytes as they are opened: in memory where they stand in the file's entry, else as its list
+-- contents of so many bytes as they are opened: in memory where they are inline in the file's entry, else as its list
 abbrev pub IsOpenedForm : ℕ → ℕ → Form → Type 0
 IsOpenedForm block_size size shape = ((shape ≡ form.InMemory size) × (size ≤ inline_limit block_size)) ⊎ (shape ≡ form.Finished size false)
 
@@ -115,14 +115,15 @@ pub record IsWrittenBeside (old new : TreeState) : Type 0 where
   pub called : new.history ≡ calls ++ old.history
   pub no_fault : faults new.history ≡ faults old.history
 
--- What a call on a writer's contents says, that leaves the image as it is. So does a loss of power on its way.
+-- What a call promises that changes a writer's contents and leaves the image. A loss of power during the call leaves the image,
+-- too.
 pub record IsWriting {X : Type 0} (old : TreeState) (result : Result X Error) (new : TreeState) : Type 0 where
   pub beside : OnOk result (IsWrittenBeside old new)
   pub broken : OnErr result (IsBroken old new)
   pub errors : IfErr result (IsError old new)
   pub survives : old.writable ≡ true → SurvivesAs old new (tree_view old)
 
--- where slots stand is what the operation on such a writer wants
+-- slots are where the operation on such a writer puts them
 abbrev pub IsArrangedBy : TreeState → Path → List ℕ → (ℕ → Operation) → TreeState → Type 0
 IsArrangedBy old path bytes op new = (files : Files) (fd : ℕ) (writer : Writer) → IsWriterOf (record { tree = tree_view old; files = files }) fd path bytes writer
     → IsArranged old.disk old.pairs (record { tree = tree_view old; files = files }) (op fd) new.disk new.pairs
@@ -131,7 +132,8 @@ IsArrangedBy old path bytes op new = (files : Files) (fd : ℕ) (writer : Writer
 abbrev pub IsAboutPath : Session → Operation → Path → Type 0
 IsAboutPath s op path = paths_of s op ≡ path ∷ []
 
--- The file at the path has these bytes, without a fault of the device, and nothing is in flight any more. Other pairs and all lists hold what they held.
+-- The file at the path has these bytes, without a fault of the device, and nothing is in flight any more. Other pairs and all
+-- lists keep their bytes.
 pub record IsStoredAtImage (old : TreeState) (path : Path) (bytes : List ℕ) (new : TreeState) : Type 0 where
   pub works : new.failed ≡ false
   pub sound : IsSound new

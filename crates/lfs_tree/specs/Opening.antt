@@ -1,4 +1,4 @@
--- What is opened of a file for writing.
+-- What a file gives a writer that opens it.
 use Rattle.std.specs.Prelude.{All, false}
 use Rattle.lfs_model.specs.BlockSets.{IsFree}
 use Rattle.lfs_model.specs.Slots.{Slot, Struct}
@@ -16,7 +16,7 @@ use Rattle.lfs_writer.specs.Form.{Form}
 use Rattle.lfs_writer.specs.Owned.{AreOwned}
 use Rattle.lfs_writer.specs.declared.contents.Contents.{Contents}
 
--- a file's slot stands there, no block is in flight, and those of the file's list aren't free
+-- a file's slot is there, no block is in flight, and the blocks of the file's list aren't free
 pub record CanBeOpened (t : Kept) (slot : Spot) (contents : EntryContents) (held : Slot) : Type 0 where
   pub file : IsFileAt t slot contents held
   pub idle : IsIdle t.map t.disk.blocks
@@ -26,7 +26,7 @@ abbrev pub opened_form : EntryContents → Form
 opened_form (entry.Inline len) = form.InMemory len
 opened_form (entry.List head size) = form.Finished size false
 
--- a writer has the bytes that the struct says, in memory or as the file's list
+-- a writer has the bytes of the struct, in memory or as the file's list
 pub record IsOpened (t : Kept) (struct : Struct) (shape : Form) (contents : Contents) : Type 0 where
   pub holds : HoldsContents t contents (bytes_shown t.disk struct) shape
   pub owned : AreOwned t.map (file_blocks t.disk struct) (held_in t contents)

@@ -18,6 +18,6 @@ pub record ReadsOnce (paths : List Path) (old : TreeState) (history : List Event
   pub few : reads history ≤ reads old.history + sum_by (pairs_of_path old.pairs) paths
   pub none : HasCached old paths → reads history ≡ reads old.history
 
--- Where nothing is to be recovered, no more reads came than the directories above the path have pairs, and six.
+-- Where nothing is to recover, no more reads came than the directories above the path have pairs, and six.
 abbrev pub ReadsToCreate : Path → TreeState → List Event → Type 0
 ReadsToCreate path old history = gstate_of old.pairs ≡ no_gstate → reads history ≤ reads old.history + sum_by (pairs_of_path old.pairs) (parents path) + 6

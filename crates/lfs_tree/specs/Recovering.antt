@@ -1,4 +1,4 @@
--- What a recovery comes to over a thread.
+-- What a recovery does to a thread.
 use Rattle.std.specs.Prelude.{ℕ, ◌≡◌, ◌≤◌, true, false, length}
 use Rattle.lfs_model.specs.TreeEdits.{is_file}
 use Rattle.lfs_model.specs.BlockSets.{AreUsed}
@@ -39,9 +39,9 @@ pub record HasDroppedLost (old new : Kept) : Type 0 where
   pub keeps : (path : Path) → is_file (tree_in old.disk old.pairs path) ≡ true → KeepsFile old new path
   pub flight : LeavesFlight (tree_state_of old true false) (tree_state_of new true false)
 
--- What a loss of power left is ended, if it left anything, without a fault of the device. Where slots stand behind a further
--- recovery they stand behind one of the old image, and no more blocks are used: so an operation on the new image is one on the old.
--- Where nothing was left, nothing was called.
+-- What a loss of power left is ended, without a fault of the device. Slots that are laid out after a further recovery are laid
+-- out after one of the old image, and no more blocks are used. So an operation on the new image is one on the old. Where nothing
+-- was left, no call was made.
 pub record HasSettled (old new : Kept) : Type 0 where
   pub carries : AppliesOn old ops.Recover new
   pub leads_on : RecoversTo old new

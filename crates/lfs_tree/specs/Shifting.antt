@@ -39,13 +39,13 @@ IsSourceIn (found.Directory parent slot first) source = source ≡ record { slot
 IsSourceIn (found.File parent slot contents) source = source ≡ record { slot = slot; first = parent }
 IsSourceIn _ source = ⊥
 
--- the path's slot stands there, in the directory that begins with the pair of that number
+-- the path's slot is there, in the directory that begins with the pair of that number
 pub record IsSource (ps : List Pair) (path : Path) (source : Source) : Type 0 where
   pub slot : IsSlotFor ps path source.slot
   pub first_is : slot.first ≡ source.first
 
--- The image may be changed, and two blocks are free. The entry at the one path stands in the slot; it may be written under the name,
--- as which it is to be at the other path, which isn't beneath it.
+-- The image may be changed, and two blocks are free. The entry at the one path is in the slot, and may be written under the name.
+-- That name is its last one at the other path, which isn't beneath it.
 pub record CanShift (t : Kept) (from to : Path) (source : Source) (name : Name) : Type 0 where
   pub old : CanEdit t source.slot.pair source.slot.id
   pub old_is : from ≡ old.path ++ old.name ∷ []
@@ -95,7 +95,7 @@ CanShiftFound t from to source _ name = ⊥
 abbrev pub HasSparedOthers : Kept → Path → Path → Kept → Type 0
 HasSparedOthers old from to new = (s : Session) (given to_given : List ℕ) → as_path given ≡ from → as_path to_given ≡ to → LeavesAlone old.disk old.pairs s (ops.Rename given to_given) new.disk new.pairs
 
--- The tree has the entry at the other path, the other slots stand where they should, and the blocks are the image's again: so a
+-- The tree has the entry at the other path, the other slots are where they should be, and the blocks are the image's again. So a
 -- rename of the one path to the other is completed. The root directory begins where it did.
 pub record HasShifted (old : Kept) (from to : Path) (new : Kept) : Type 0 where
   pub ready : IsReady new
@@ -105,7 +105,7 @@ pub record HasShifted (old : Kept) (from to : Path) (new : Kept) : Type 0 where
       → IsCompleted old.disk old.pairs s (ops.Rename given to_given) new.disk new.pairs
   pub alone : HasSparedOthers old from to new
 
--- The same, but that the blocks of the list that the replaced file had are still used.
+-- The same, but the blocks of the replaced file's list are still used.
 pub record HasShiftedOnto (old : Kept) (from to : Path) (contents : Contents) (new : Kept) : Type 0 where
   pub free : CanFree new contents
   pub shows : tree_in new.disk new.pairs ≡ renamed from to (tree_in old.disk old.pairs)
@@ -115,7 +115,7 @@ pub record HasShiftedOnto (old : Kept) (from to : Path) (contents : Contents) (n
       → IsCompleted old.disk old.pairs s (ops.Rename given to_given) new.disk new.pairs
   pub alone : HasSparedOthers old from to new
 
--- `Io` comes with a fault of the device, and any other answer with none; where there is no error the thread works
+-- `Io` comes with a fault of the device, and any other result with none; where there is no error the thread works
 pub record ReportsOfWork {X : Type 0} (old new : State) (result : Result X Error) : Type 0 where
   pub works : OnOk result (new.failed ≡ false)
   pub errors : IfErr result (λ e. (e ≡ Io) ⊎ (e ≡ NoMemory))

@@ -63,13 +63,13 @@ abbrev pub IsFileIn : Found → FileSlot → Type 0
 IsFileIn (found.File parent slot contents) file = (file.spot ≡ slot) × (file.list ≡ list_named contents)
 IsFileIn _ file = ⊥
 
--- that of the file at a path
+-- the slot of the file at a path, and its list
 pub record IsFileFor (ps : List Pair) (path : Path) (file : FileSlot) : Type 0 where
   pub slot : IsSlotFor ps path file.spot
   pub leaf : branch_of slot.stands.stands.stands.slot.struct ≡ None
   pub list : file.list ≡ list_in_struct slot.stands.stands.stands.slot.struct
 
--- what a slot says of finished contents: their bytes themselves, or their list
+-- the struct of finished contents: their bytes themselves, or their list
 abbrev pub struct_in : Contents → Struct
 struct_in (InMemory list) = Inline (held_bytes list)
 struct_in (Finished stored) = Ctz stored.head stored.size
@@ -80,7 +80,7 @@ list_in (InMemory list) = no_list
 list_in (Finished stored) = stored
 list_in (InHand hand) = no_list
 
--- they are finished, and in memory exactly where they are at most the limit
+-- contents are finished, and in memory exactly where they are at most the limit
 abbrev pub IsFinished : ℕ → Form → Type 0
 IsFinished limit (form.InMemory size) = size ≤ limit
 IsFinished limit (form.Finished size flying) = limit < size
@@ -101,7 +101,7 @@ pub record CanCommit (t : Kept) (path : Path) (contents : Contents) : Type 0 whe
   pub finished : IsFinished (inline_limit t.disk.block_size) (form_of contents)
   pub room : used_count t.map + ctz_blocks t.disk.block_size (length (bytes_held t contents)) + 2 ≤ length t.map
 
--- where slots stand is what the operation on a dirty writer of the file, with these contents, wants
+-- slots are where the operation on a dirty writer of the file, with these contents, puts them
 abbrev pub IsLaidBy : Kept → Path → List ℕ → (ℕ → Operation) → Kept → Type 0
 IsLaidBy old path bytes op new = (files : Files) (fd : ℕ) (writer : Writer) → IsWriterOf (record { tree = tree_in old.disk old.pairs; files = files }) fd path bytes writer
     → IsLaidOut old.disk old.pairs (record { tree = tree_in old.disk old.pairs; files = files }) (op fd) new.disk new.pairs
@@ -126,6 +126,6 @@ pub record HasCommitted (old : Kept) (path : Path) (bytes : List ℕ) (new : Kep
   pub alone : ChangesPairOf old.disk old.pairs path new.disk
   pub none_in_flight : in_flight_count new.map ≡ 0
 
--- the same, seen from a tree
+-- the same, of a tree
 abbrev pub HasStored : Kept → Path → List ℕ → Kept → Type 0
 HasStored old path bytes new = IsStoredAt (tree_state_of old true false) path bytes (tree_state_of new true false)

@@ -25,8 +25,8 @@ use Rattle.lfs_model.specs.Shown.{tree_in, used_blocks}
 use Rattle.lfs_thread.specs.Kept.{Kept}
 use Rattle.lfs_tree.specs.KeepsFiles.{KeepsFile, ListsStay}
 
--- The disk and its calls so far, its pairs, what is known of each block, whether it is in the writing profile, whether a call
--- failed, and which blocks are cached.
+-- The disk and its calls so far, its pairs, and the state of each block. Also whether the image is in the writing profile,
+-- whether a call failed, and which blocks are cached.
 pub record TreeState : Type 0 where
   pub disk : Disk
   pub history : List Event
@@ -36,7 +36,7 @@ pub record TreeState : Type 0 where
   pub failed : Bool
   pub cache : CachedBlocks
 
--- but for what is cached
+-- equal except for the cached blocks
 abbrev pub bare : TreeState → TreeState
 bare t = record t { cache = [] }
 
@@ -56,7 +56,7 @@ around_of t = record {
   gstate = gstate_of t.pairs;
 }
 
--- The disk is accepted with these pairs, what is kept of the profile is so, and the used blocks are the image's.
+-- The disk is accepted with these pairs, the profile is as noted, and the used blocks are the image's.
 pub record IsSoundImage (t : TreeState) : Type 0 where
   pub accepted : IsAccepted t.disk t.pairs
   pub fits : t.writable ≡ true → IsWritable t.disk t.pairs
@@ -69,7 +69,8 @@ IsSound t = IsSoundImage (bare t)
 
 -- ---- calls that only read
 
--- the disk was only read, by calls that didn't fail, and nothing else changed but what is cached; a failed tree isn't asked
+-- The disk was only read, by calls that didn't fail, and nothing else changed but the cached blocks. No call of a failed tree is
+-- meant.
 pub record IsAsked (old new : TreeState) : Type 0 where
   pub same : new ≡ record old { history = new.history; cache = new.cache }
   pub failed : old.failed ≡ true → new ≡ old
@@ -88,13 +89,13 @@ pub record IsError (old new : TreeState) (e : Error) : Type 0 where
   pub fault : e ≡ Io → faults old.history < faults new.history
   pub no_fault : e ≢ Io → faults new.history ≡ faults old.history
 
--- what such a call says
+-- what such a call promises
 pub record IsAsking {X : Type 0} (old : TreeState) (result : Result X Error) (new : TreeState) : Type 0 where
   pub asked : OnOk result (IsAsked old new)
   pub broken : OnErr result (IsBrokenAsking old new)
   pub errors : IfErr result (IsError old new)
 
--- The same of a mount. `Corrupt` says that the disk isn't accepted.
+-- The same of a mount. `Corrupt` comes where the disk isn't accepted.
 pub record IsMountError (old new : TreeState) (e : Error) : Type 0 where
   pub errors : (e ≡ Io) ⊎ ((e ≡ NoMemory) ⊎ ((e ≡ Corrupt) × ((ps : List Pair) → IsAccepted old.disk ps → ⊥)))
   pub fault : e ≡ Io → faults old.history < faults new.history
@@ -109,18 +110,18 @@ pub record IsBroken (old new : TreeState) : Type 0 where
   pub calls : List Event
   pub called : new.history ≡ calls ++ old.history
 
--- the same blocks are in flight, hold what they held, and have as many unprogrammed bytes
+-- the same blocks are in flight, keep their bytes, and have as many unprogrammed bytes
 pub record LeavesFlight (old new : TreeState) : Type 0 where
   pub stay : (b : ℕ) → IsInFlight old.map b → IsInFlight new.map b
   pub none_comes : (b : ℕ) → IsInFlight new.map b → IsInFlight old.map b
   pub bytes : (b : ℕ) → IsInFlight old.map b → block_at new.disk b ≡ block_at old.disk b
   pub unprogrammed_still : (b k : ℕ) → IsInFlight old.map b → unprogrammed old.history b k ≡ true → unprogrammed new.history b k ≡ true
 
--- a loss of power on the way leaves the tree from before, or that one
+-- a loss of power during the call leaves the tree from before, or that one
 abbrev pub SurvivesAs : TreeState → TreeState → Tree → Type 0
 SurvivesAs old new after = Survives old.disk old.history new.history (tree_view old) after
 
--- the operation is carried out without a fault of the device, whatever files are open
+-- the operation is applied without a fault of the device, whatever files are open
 pub record IsAppliedImage (old : TreeState) (op : Operation) (new : TreeState) : Type 0 where
   pub works : new.failed ≡ false
   pub sound : IsSound new
@@ -142,11 +143,11 @@ pub record IsAppliedImage (old : TreeState) (op : Operation) (new : TreeState) :
 abbrev pub IsAppliedOn : TreeState → Operation → TreeState → Type 0
 IsAppliedOn old op new = IsAppliedImage (bare old) op (bare new)
 
--- Where nothing was to be recovered, the blocks of files, and those of pairs that the operation doesn't concern, hold what they held.
+-- Where nothing was to recover, the blocks of files keep their bytes. So do blocks of pairs that the operation isn't about.
 abbrev pub LeavesRest : TreeState → Operation → TreeState → Type 0
 LeavesRest old op new = gstate_of old.pairs ≡ no_gstate → (files : Files) → LeavesAlone old.disk old.pairs (record { tree = tree_view old; files = files }) op new.disk new.pairs
 
--- The image of a disk that was only read, at least once and without a fault: it works, and no block is in flight.
+-- The image of a disk that was only read, at least once and without a fault. The tree works, and no block is in flight.
 pub record IsMountedTree (disk : Disk) (history : List Event) (t : TreeState) : Type 0 where
   pub works : t.failed ≡ false
   pub disk_is : t.disk ≡ disk

@@ -1,11 +1,11 @@
-// What a tree does with the answers of its thread.
+// What a tree does with the results of its thread.
 
 ghost use Rattle.std.specs.Prelude.{◌≡◌, ◌||◌, is_err};
 
 use lfs_device::{BlockDevice, Error};
 use lfs_thread::Thread;
 
-// The thread has failed where a call answered with an error.
+// The thread has failed where a call returned an error.
 pub(crate) fn note_error<D: BlockDevice, X>(thread: &mut Thread<D>, answer: &Result<X, Error>)
     ensures { thread.new ≡ record thread.old { failed = is_err answer.now || thread.old.failed } }
 {

@@ -1,4 +1,4 @@
-// Attributes of entries at paths, in a thread of which nothing is to be recovered.
+// Attributes of entries at paths, in a thread that has nothing to recover.
 
 ghost use Rattle.std.specs.Prelude.{◌≡◌, true, false};
 ghost use Rattle.lfs_tree.specs.Allowed.{CanRemoveAttr, CanSetAttr};
@@ -14,7 +14,7 @@ use lfs_operations::{remove_attribute, set_attribute};
 use lfs_thread::Thread;
 use std::alloc::Global;
 
-// The slot of an entry that is found.
+// Returns the slot of an entry that was found.
 fn slot_in(found: Found) -> Spot
     requires { has_slot found ≡ true }
     ensures { IsSlotIn found result }
@@ -25,9 +25,9 @@ fn slot_in(found: Found) -> Spot
     }
 }
 
-// Gives an entry an attribute.
+// Sets an attribute of an entry.
 //
-// `Io` where a call of the device failed, and `NoMemory` where memory isn't granted.
+// Errors: `Io` where a call of the device failed. `NoMemory` where memory isn't granted.
 pub(crate) fn set_attr_at<D: BlockDevice>(
     alloc: Global,
     thread: &mut Thread<D>,
@@ -47,9 +47,9 @@ pub(crate) fn set_attr_at<D: BlockDevice>(
     set_attribute(alloc, thread, slot.pair, slot.id, kind, bytes)
 }
 
-// Takes an attribute from an entry.
+// Removes an attribute of an entry.
 //
-// `Io` where a call of the device failed, and `NoMemory` where memory isn't granted.
+// Errors: `Io` where a call of the device failed. `NoMemory` where memory isn't granted.
 pub(crate) fn remove_attr_at<D: BlockDevice>(
     alloc: Global,
     thread: &mut Thread<D>,

@@ -1,4 +1,4 @@
-// Files that get the contents of a writer, in a thread of which nothing is to be recovered.
+// Files that get the contents of a writer, in a thread that has nothing to recover.
 
 ghost use Rattle.std.specs.Prelude.{◌≡◌, ◌∷◌, [], false, true, IfErr, OnOk};
 ghost use Rattle.lfs_writer.specs.Standing.{ReportsWork};
@@ -23,14 +23,14 @@ use lfs_thread::Thread;
 use lfs_writer::{Contents, Stored, finish_file, settle_file};
 use std::alloc::Global;
 
-// The slot of a file, and its list, which has no bytes where they stand in the slot.
+// The slot of a file, and its list. Inline bytes have a list without bytes.
 #[derive(Clone, Copy, Drop)]
 struct FileSlot {
     spot: Spot,
     list: Stored,
 }
 
-// A list of no bytes.
+// Returns a list of no bytes.
 fn no_list() -> Stored
     ensures { result ≡ no_list }
 {
@@ -41,7 +41,7 @@ fn no_list() -> Stored
     }
 }
 
-// The list that an entry names.
+// Returns the list that an entry names.
 fn list_named(contents: lfs_lookup::Contents) -> Stored
     ensures { result ≡ list_named contents }
 {
@@ -55,7 +55,7 @@ fn list_named(contents: lfs_lookup::Contents) -> Stored
     }
 }
 
-// The list of finished contents.
+// Returns the list of finished contents.
 fn list_in(contents: &Contents) -> Stored
     ensures { result ≡ list_in contents.now }
 {
@@ -65,7 +65,7 @@ fn list_in(contents: &Contents) -> Stored
     }
 }
 
-// The slot of a file that is found.
+// Returns the slot of a file that was found.
 fn file_in(found: Found) -> FileSlot
     requires { is_file_found found ≡ true }
     ensures { IsFileIn found result }
@@ -79,7 +79,7 @@ fn file_in(found: Found) -> FileSlot
     }
 }
 
-// Puts finished contents into a file's slot. The map isn't told of the lists.
+// Puts finished contents into a file's slot. The lists aren't settled in the map.
 fn put_contents<D: BlockDevice>(
     alloc: Global,
     thread: &mut Thread<D>,
@@ -116,7 +116,7 @@ fn put_contents<D: BlockDevice>(
 
 // Commits finished contents of the file at a path, and settles its lists.
 //
-// `Io` where a call of the device failed, and `NoMemory` where memory isn't granted.
+// Errors: `Io` where a call of the device failed. `NoMemory` where memory isn't granted.
 fn commit_at<D: BlockDevice>(
     alloc: Global,
     thread: &mut Thread<D>,
@@ -145,7 +145,7 @@ fn commit_at<D: BlockDevice>(
 
 // Commits the contents of a writer of the file at a path.
 //
-// `Io` where a call of the device failed, and `NoMemory` where memory isn't granted.
+// Errors: `Io` where a call of the device failed. `NoMemory` where memory isn't granted.
 pub(crate) fn store_at<D: BlockDevice>(
     alloc: Global,
     thread: &mut Thread<D>,

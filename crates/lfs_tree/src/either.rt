@@ -1,4 +1,4 @@
-// A device's image as a tree, in whichever order its directories have their names.
+// A mounted image, in either order of names.
 
 ghost use Rattle.std.specs.Prelude.{◌≡◌, IfErr, IfOk, List};
 ghost use Rattle.lfs_device.specs.Shown.{ordered};
@@ -19,8 +19,8 @@ use std::alloc::Global;
 /// Reads the image of a device, as [`Tree::mount`] does, in the order of names that it has. Where
 /// both orders fit, the longer names come first.
 ///
-/// `Corrupt` exactly where no image is accepted there in either order. `Io` where a read failed, and
-/// `NoMemory` where memory isn't granted. The device comes back with an error.
+/// Errors: `Corrupt` exactly where the device has no accepted image in either order. `Io` where a
+/// read failed. `NoMemory` where memory isn't granted. An error comes with the device.
 pub fn mount_either<D: BlockDevice>(
     alloc: Global,
     device: D,

@@ -1,4 +1,4 @@
-// Operations on paths of a thread of which nothing is to be recovered.
+// Operations on paths of a thread that has nothing to recover.
 
 ghost use Rattle.std.specs.Prelude.{◌≡◌, ◌≤◌, ◌+◌, map, sum_by, true, false, IfOk};
 ghost use Rattle.lfs_device.specs.Bytes.{HasBytes};
@@ -17,7 +17,7 @@ use lfs_operations::{create, make_directory};
 use lfs_thread::Thread;
 use std::alloc::Global;
 
-// What is known of any device, for the proof: how large a block is, and that it holds bytes.
+// Shows the proof what is known of any device: how large a block is, and that it holds bytes.
 pub(crate) fn know_device<D: BlockDevice>(thread: &Thread<D>)
     ensures large { 1024 ≤ thread.now.kept.disk.block_size }
     ensures bytes { HasBytes thread.now.kept.disk.blocks }
@@ -25,7 +25,7 @@ pub(crate) fn know_device<D: BlockDevice>(thread: &Thread<D>)
     let _size = thread.device().geometry().block_size;
 }
 
-// The last of the names.
+// Returns the last of the names.
 pub(crate) fn last_of<'a>(names: &[&'a [u8]]) -> &'a [u8]
     ensures { result.now ≡ last_name (map (λ name. name.now) names.now) }
 {
@@ -35,7 +35,7 @@ pub(crate) fn last_of<'a>(names: &[&'a [u8]]) -> &'a [u8]
     }
 }
 
-// The place of a name that isn't found.
+// Returns the place of a name that wasn't found.
 fn place_in(found: Found) -> Spot
     requires { is_place found ≡ true }
     ensures { IsPlaceIn found result }
@@ -46,14 +46,14 @@ fn place_in(found: Found) -> Spot
     }
 }
 
-// What is found at a path, and the path's last name.
+// What a look-up finds at a path, and the path's last name.
 #[derive(Drop)]
 pub(crate) struct Target<'a> {
     pub(crate) found: Found,
     pub(crate) name: &'a [u8],
 }
 
-// What a path leads to.
+// Looks up a path.
 pub(crate) fn find_target<'a, D: BlockDevice>(
     alloc: Global,
     thread: &mut Thread<D>,
@@ -73,9 +73,9 @@ pub(crate) fn find_target<'a, D: BlockDevice>(
     })
 }
 
-// Makes an empty file where nothing is.
+// Makes an empty file where no entry is.
 //
-// `Io` where a call of the device failed, and `NoMemory` where memory isn't granted.
+// Errors: `Io` where a call of the device failed. `NoMemory` where memory isn't granted.
 pub(crate) fn create_at<D: BlockDevice>(
     alloc: Global,
     thread: &mut Thread<D>,
@@ -95,9 +95,9 @@ pub(crate) fn create_at<D: BlockDevice>(
     create(alloc, thread, place.pair, place.id, target.name)
 }
 
-// Makes an empty directory where nothing is.
+// Makes an empty directory where no entry is.
 //
-// `Io` where a call of the device failed, and `NoMemory` where memory isn't granted.
+// Errors: `Io` where a call of the device failed. `NoMemory` where memory isn't granted.
 pub(crate) fn make_at<D: BlockDevice>(
     alloc: Global,
     thread: &mut Thread<D>,

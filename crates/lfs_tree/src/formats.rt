@@ -23,7 +23,7 @@ use std::alloc::Global;
 // Where the thread begins.
 const ROOT: [u32; 2] = [0, 1];
 
-// The changes that put the superblock into slot 0.
+// Returns the changes that put the superblock into slot 0.
 fn superblock_changes<'a>(structure: &'a [u8; 24]) -> [Change<'a>; 2]
     ensures { changes_view result ≡ put_superblock structure.now }
 {
@@ -69,14 +69,14 @@ fn write_thread<D: BlockDevice>(
     ensures device { ChangesOnly D.BlockDevice (two_of anchor) device.old device.new }
     ensures faults { ReportsFaults D.BlockDevice device.old device.new result }
 {
-    // Room for the header, before anything is written.
+    // The header's memory is taken before anything is written.
     pairs.reserve(1)?;
     let pair = write_root(alloc, device)?;
     pairs.push(pair)?;
     Ok(())
 }
 
-// An empty cache, and a map of so many blocks, of which the first two are used.
+// Makes an empty cache, and a map of so many blocks, of which the first two are used.
 fn in_memory(alloc: Global, block_count: u32) -> Result<(Cache, BlockMap), Error>
     requires { 2 ≤ block_count }
     ensures empty { IfOk result (λ parts. parts.0 ≡ []) }
@@ -90,17 +90,18 @@ fn in_memory(alloc: Global, block_count: u32) -> Result<(Cache, BlockMap), Error
     Ok((cache, map))
 }
 
-/// Makes an empty file system on a device, whatever it holds: both blocks of the pair of the blocks
-/// 0 and 1 are erased, and the first then has the superblock alone, at revision 1. It says version
-/// 2.0, the device's block size in bytes and its block count, and the limits of what is written:
-/// names of 255 bytes, files of 2,147,483,647 and attributes of 1,022 (SPEC.md of littlefs, "0x0ff
-/// LFS_TYPE_SUPERBLOCK"). The root directory is empty then, and the image may be written.
+/// Makes an empty file system on a device, whatever it holds. Both blocks of the pair {0, 1} are
+/// erased. The first one then has the superblock alone, at revision 1 (SPEC.md of littlefs, "0x0ff
+/// LFS_TYPE_SUPERBLOCK"). The superblock gives version 2.0, the device's block size in bytes and
+/// its block count. It also gives the limits that are written: names of 255 bytes, files of
+/// 2,147,483,647 and attributes of 1,022. The root directory is empty then, and the image may be
+/// written.
 ///
-/// No other block is written, and a loss of power on the way leaves each other block as it was.
+/// No other block is written. A loss of power during the call leaves each other block as it was.
 ///
-/// `Io` where a call of the device failed; the two blocks may hold anything then. `NoMemory` where
-/// there is no room for the map, the headers and a block; nothing is written then. The device comes
-/// back with an error.
+/// Errors: `Io` where a call of the device failed; the two blocks may hold any bytes then.
+/// `NoMemory` where memory for the map, the headers and a block isn't granted; nothing is written
+/// then. An error comes with the device.
 pub fn format<D: BlockDevice>(alloc: Global, mut device: D) -> Result<Thread<D>, (D, Error)>
     ensures works { IfOk result (λ t. t.failed ≡ false) }
     ensures formatted { IfOk result (λ t. IsFormatted t.kept) }

@@ -1,4 +1,4 @@
-// What an operation leaves beside what it changes.
+// What an operation leaves besides its own changes.
 
 ghost use Rattle.std.specs.Prelude.{◌≡◌, ◌≤◌, ◌+◌, false, length, true};
 ghost use Rattle.lfs_model.specs.BlockSets.{in_flight_count};
@@ -12,9 +12,9 @@ ghost use Rattle.lfs_writer.specs.Contents.{form_of};
 ghost use Rattle.lfs_writer.specs.Form.{form_blocks};
 ghost use Rattle.lfs_writer.specs.declared.contents.Contents.{Contents};
 
-/// The contents of a file that is open for writing stay as they are in an operation that neither
-/// takes it away nor moves it, also what isn't in the tree yet. No more blocks are in flight than
-/// contents in their form have.
+/// An operation that neither removes nor moves an open file leaves the contents of its writer. So
+/// it is also with bytes that aren't in the tree yet. No more blocks are in flight than contents in
+/// their form have.
 pub fn contents_stay()
     ensures over { (old new : TreeState) (op : Operation) (path : Path) (contents : Contents) → IsOver old path contents → IsSound old → IsAppliedOn old op new → takes_or_moves op path ≡ false → IsOver new path contents }
     ensures bytes { (old new : TreeState) (op : Operation) (path : Path) (contents : Contents) → IsOver old path contents → IsSound old → IsAppliedOn old op new → takes_or_moves op path ≡ false
@@ -22,7 +22,7 @@ pub fn contents_stay()
     ensures flying { (t : TreeState) (path : Path) (contents : Contents) → IsOver t path contents → in_flight_count t.map ≤ form_blocks t.disk.block_size (form_of contents) }
 {}
 
-/// An operation that the tree carries out takes few blocks more than the image has.
+/// An operation that is applied takes few blocks more than the image has.
 pub fn carried_takes_few()
     ensures { (old new : TreeState) (op : Operation) → IsSound old → old.writable ≡ true → IsAppliedOn old op new → length (around_of new).used ≤ length (around_of old).used + taken_by op }
 {}

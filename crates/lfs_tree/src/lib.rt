@@ -1,5 +1,5 @@
-//! A mounted image: format and mount, the calls that take a path, recovery among them, and the
-//! contents of open writers beside it. Paths, and what the calls answer, are of `lfs_lookup`.
+//! A mounted image: format and mount, the calls that take a path, the recovery, and the contents of
+//! open writers. Paths, and the results of calls, are in `lfs_lookup`.
 #![tactic(auto)]
 
 mod answers;

@@ -1,4 +1,4 @@
-// The skip lists of slots that go with their pairs.
+// The skip lists of slots that are dropped with their pairs.
 
 ghost use Rattle.std.specs.Prelude.{◌≡◌, ◌++◌, ◌<◌, IfErr, IfOk, OnOk, false, is_err, length, map};
 ghost use Rattle.std.specs.Option.{option_to_list};
@@ -23,7 +23,7 @@ use lfs_thread::Thread;
 use lfs_writer::{Stored, settle_file, settled_map_is_exact};
 use std::alloc::{AllocError, Global};
 
-// The list that a slot names, if it names one.
+// Returns the list that a slot names, if it names one.
 fn list_of(slot: &Slot<'_>) -> Option<Stored>
     requires { HasParts (slot_view slot.now) }
     ensures { option_to_list result ≡ list_typed (slot_view slot.now).struct }
@@ -54,7 +54,7 @@ fn push_lists(lists: &mut Vec<Stored>, slots: &[Slot<'_>]) -> Result<(), AllocEr
     Ok(())
 }
 
-// Adds those that the slots of a log name.
+// Adds the lists that the slots of a log name.
 fn push_lists_in(alloc: Global, lists: &mut Vec<Stored>, log: &Log<'_>) -> Result<(), Error>
     requires { HoldsContent log.now }
     ensures lists { (content : ModelContent) → IsBlockOf log.now content → OnOk result (lists.new.items ≡ lists.old.items ++ lists_named content.slots) }
@@ -65,7 +65,7 @@ fn push_lists_in(alloc: Global, lists: &mut Vec<Stored>, log: &Log<'_>) -> Resul
     Ok(())
 }
 
-// Adds those that the slots of a pair name.
+// Adds the lists that the slots of a pair name.
 fn push_lists_at<D: BlockDevice>(
     alloc: Global,
     thread: &mut Thread<D>,
@@ -81,9 +81,9 @@ fn push_lists_at<D: BlockDevice>(
     push_lists_in(alloc, lists, &thread.lend(index).unwrap())
 }
 
-// The lists that the slots of these pairs name, which no path leads to.
+// Returns the lists that the slots of these pairs name. No path leads to the pairs.
 //
-// `Io` where a read failed, and `NoMemory` where memory isn't granted.
+// Errors: `Io` where a read failed. `NoMemory` where memory isn't granted.
 pub(crate) fn lists_of_pairs<D: BlockDevice>(
     alloc: Global,
     thread: &mut Thread<D>,
@@ -101,9 +101,9 @@ pub(crate) fn lists_of_pairs<D: BlockDevice>(
     Ok(lists)
 }
 
-// Frees the blocks of lists in the map, once no pair names them. Nothing is written.
+// Frees the blocks of lists in the map, after no pair names them any more. Nothing is written.
 //
-// `Io` where a read failed; the thread has failed then.
+// Errors: `Io` where a read failed. The thread has failed then.
 pub(crate) fn free_lists<D: BlockDevice>(
     thread: &mut Thread<D>,
     lists: &[Stored],

@@ -1,4 +1,4 @@
-// How what a loss of power left of an image is ended.
+// How a recovery ends what a loss of power left.
 
 ghost use Rattle.std.specs.Prelude.{◌≡◌, false, true, IfErr, IfOk, OnOk};
 ghost use Rattle.lfs_model.specs.History.{faults};
@@ -24,7 +24,7 @@ use std::alloc::Global;
 // Drops the pairs of these numbers, which no path leads to, and frees the lists that their slots
 // name. No move is set.
 //
-// `Io` where a call of the device failed, and `NoMemory` where memory isn't granted.
+// Errors: `Io` where a call of the device failed. `NoMemory` where memory isn't granted.
 fn drop_with_lists<D: BlockDevice>(
     alloc: Global,
     thread: &mut Thread<D>,
@@ -49,7 +49,7 @@ fn drop_with_lists<D: BlockDevice>(
 // Drops the directories that no path leads to, with their files. No move is set, and the root
 // directory begins with the pair of number `root`.
 //
-// Errors as those of `drop_with_lists`.
+// Errors are those of `drop_with_lists`.
 fn drop_lost<D: BlockDevice>(
     alloc: Global,
     thread: &mut Thread<D>,
@@ -67,7 +67,7 @@ fn drop_lost<D: BlockDevice>(
 {
     know_device(thread);
     let numbers = unreached(alloc, thread, root)?;
-    // They are known before anything is written.
+    // The lists are known before anything is written.
     let lists = lists_of_pairs(alloc, thread, &numbers)?;
     drop_with_lists(alloc, thread, &numbers, &lists)?;
     Ok(())
@@ -75,7 +75,7 @@ fn drop_lost<D: BlockDevice>(
 
 // Ends what a loss of power left: a set move, and directories that no path leads to.
 //
-// Errors as those of `drop_lost`.
+// Errors are those of `drop_lost`.
 pub(crate) fn recover_at<D: BlockDevice>(
     alloc: Global,
     thread: &mut Thread<D>,

@@ -1,4 +1,4 @@
-// What is to be known of an image that was mounted.
+// What a tree keeps of an image that was mounted.
 
 ghost use Rattle.std.specs.Prelude.{◌≡◌, ◌↔◌, IsTrue, IfOk, false};
 ghost use Rattle.lfs_model.specs.Thread.{superblocks_before};
@@ -11,8 +11,8 @@ use lfs_lookup::{find_root, is_writable};
 use lfs_thread::Thread;
 use std::alloc::Global;
 
-// The number of the root directory's first pair, and whether the image is one of those that are
-// written.
+// Returns the number of the root directory's first pair, and whether the image is in the writing
+// profile.
 pub(crate) fn read_root<D: BlockDevice>(
     alloc: Global,
     thread: &mut Thread<D>,

@@ -21,14 +21,14 @@ use lfs_thread::Thread;
 use lfs_writer::{Contents, Stored, in_memory};
 use std::alloc::Global;
 
-// How the device of a thread is divided.
+// Returns the geometry of a thread's device.
 fn geometry_of<D: BlockDevice>(thread: &Thread<D>) -> Geometry
     ensures { IsDividedAs result thread.now.kept.disk }
 {
     thread.device().geometry()
 }
 
-// Contents in memory, of a slot that has so many bytes.
+// Makes contents in memory, of a slot that has so many bytes.
 fn inline_opened<D: BlockDevice>(
     alloc: Global,
     thread: &mut Thread<D>,
@@ -45,11 +45,11 @@ fn inline_opened<D: BlockDevice>(
     in_memory(alloc, geometry, &bytes)
 }
 
-// Contents in a finished list, of a slot that names it.
+// Makes contents in a finished list, of a slot that names it.
 fn list_opened<D: BlockDevice>(thread: &Thread<D>, head: u32, size: u32) -> Contents
     ensures { (slot : SpotSeen) (held : Slot) → CanBeOpened thread.now.kept slot (entry_contents.List head size) held → IsOpened thread.now.kept held.struct (opened_form (entry_contents.List head size)) result }
 {
-    // Its blocks are of that size, for the proof.
+    // The blocks are of that size, for the proof.
     let _geometry = geometry_of(thread);
     Contents::Finished(Stored {
         head,
@@ -58,7 +58,7 @@ fn list_opened<D: BlockDevice>(thread: &Thread<D>, head: u32, size: u32) -> Cont
     })
 }
 
-// Contents of a file, whose slot stands there.
+// Makes the contents of a file, from its slot.
 fn opened_from<D: BlockDevice>(
     alloc: Global,
     thread: &mut Thread<D>,
@@ -76,7 +76,8 @@ fn opened_from<D: BlockDevice>(
     }
 }
 
-// The contents of the file at a path: in memory where they stand in its entry, else its list.
+// Makes the contents of the file at a path: in memory where they are inline in its entry, else its
+// list.
 pub(crate) fn open_at<D: BlockDevice>(
     alloc: Global,
     thread: &mut Thread<D>,
@@ -100,7 +101,7 @@ pub(crate) fn open_at<D: BlockDevice>(
     opened_from(alloc, thread, slot, contents)
 }
 
-// Contents of no bytes.
+// Makes contents of no bytes.
 pub(crate) fn no_contents<D: BlockDevice>(
     alloc: Global,
     thread: &Thread<D>,

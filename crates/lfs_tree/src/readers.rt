@@ -18,10 +18,11 @@ use lfs_lookup::{FileContents, FoundFile, Path, bytes_of, file_at};
 use std::alloc::Global;
 
 impl<D: BlockDevice> Tree<D> {
-    /// What a path leads to, and the contents of a file there. Each pair of the directories above it is
-    /// read at most once, and none where all of them are cached.
+    /// Looks up a path, and returns the contents of a file there. Each pair of the directories
+    /// above it is read at most once, and none where all of them are cached.
     ///
-    /// `Io` where a read failed, and `NoMemory` where memory isn't granted. It has failed then.
+    /// Errors: `Io` where a read failed. `NoMemory` where memory isn't granted. The tree has failed
+    /// after either.
     pub fn find_file(&mut self, alloc: Global, path: &Path<'_>) -> Result<FoundFile, Error>
         requires { self.old.failed ≡ false }
         ensures asks { IsAsking self.old result self.new }
@@ -34,10 +35,11 @@ impl<D: BlockDevice> Tree<D> {
         found
     }
 
-    /// Bytes of a file with these contents, from a position on, so many at most. Nothing is looked up,
-    /// and nothing read where they stand in the file's entry.
+    /// Returns the bytes from a position on, at most `count`, of a file with these contents.
+    /// Nothing is looked up, and inline bytes take no reads.
     ///
-    /// `Io` where a read failed, and `NoMemory` where memory isn't granted. It has failed then.
+    /// Errors: `Io` where a read failed. `NoMemory` where memory isn't granted. The tree has failed
+    /// after either.
     pub fn read(
         &mut self,
         alloc: Global,

@@ -1,4 +1,4 @@
-// A device that is read anew.
+// A device that is mounted again.
 
 ghost use Rattle.std.specs.Prelude.{◌≡◌, IfErr, OnErr, OnOk};
 ghost use Rattle.lfs_tree.specs.TreeState.{IsBrokenAsking, IsMountError, IsMountedTree};
@@ -10,7 +10,7 @@ use lfs_device::{BlockDevice, Error};
 use lfs_thread::{Parts, Thread};
 use std::alloc::Global;
 
-// What a thread has beside its device, of a device of which nothing is known.
+// What a thread has besides its device, for a device of which nothing is known.
 #[derive(Drop)]
 pub(crate) struct Spare {
     alloc: Global,
@@ -19,7 +19,7 @@ pub(crate) struct Spare {
 }
 
 impl Spare {
-    // Room for it.
+    // Takes the memory for it.
     pub(crate) fn new(alloc: Global) -> Result<Spare, Error>
         ensures { IfErr result (λ e. e ≡ Error.NoMemory) }
     {
@@ -29,7 +29,7 @@ impl Spare {
     }
 }
 
-// The same device, mounted again.
+// Mounts the same device again.
 pub(crate) fn mounted_again<D: BlockDevice>(
     tree: Tree<D>,
     spare: Spare,

@@ -1,4 +1,4 @@
-// Entries at paths that go, in a thread of which nothing is to be recovered.
+// Entries at paths that are removed, in a thread that has nothing to recover.
 
 ghost use Rattle.std.specs.Prelude.{◌≡◌, true, false, is_err, OnOk};
 ghost use Rattle.lfs_writer.specs.Settling.{IsReadBesideMap};
@@ -24,9 +24,10 @@ use lfs_thread::Thread;
 use lfs_writer::{Stored, settle_file, settled_map_is_exact};
 use std::alloc::Global;
 
-// Frees the blocks of a file's list in the map, once no pair names it. Nothing is written.
+// Frees the blocks of a file's list in the map, after no pair names it any more. Nothing is
+// written.
 //
-// `Io` where a read failed; the thread has failed then.
+// Errors: `Io` where a read failed. The thread has failed then.
 pub(crate) fn free_list<D: BlockDevice>(
     thread: &mut Thread<D>,
     contents: Contents,
@@ -58,7 +59,7 @@ pub(crate) fn free_list<D: BlockDevice>(
     }
 }
 
-// Takes the file in a slot of the directory that begins with the pair of number `parent`.
+// Removes the file in a slot of the directory that begins with the pair of number `parent`.
 fn take_file<D: BlockDevice>(
     alloc: Global,
     thread: &mut Thread<D>,
@@ -78,7 +79,7 @@ fn take_file<D: BlockDevice>(
     free_list(thread, contents)
 }
 
-// Takes what was found, a file or a directory without entries.
+// Removes what was found, a file or a directory without entries.
 fn take_found<D: BlockDevice>(
     alloc: Global,
     thread: &mut Thread<D>,
@@ -107,9 +108,9 @@ fn take_found<D: BlockDevice>(
     }
 }
 
-// Takes a file, or a directory without entries.
+// Removes a file, or a directory without entries.
 //
-// `Io` where a call of the device failed, and `NoMemory` where memory isn't granted.
+// Errors: `Io` where a call of the device failed. `NoMemory` where memory isn't granted.
 pub(crate) fn remove_at<D: BlockDevice>(
     alloc: Global,
     thread: &mut Thread<D>,

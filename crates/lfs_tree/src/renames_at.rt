@@ -1,4 +1,4 @@
-// Entries at paths that get another one, in a thread of which nothing is to be recovered.
+// Entries at paths that get another one, in a thread that has nothing to recover.
 
 ghost use Rattle.std.specs.Prelude.{◌≡◌, ◌≢◌, false, true, OnOk};
 ghost use Rattle.lfs_model.specs.TreeEdits.{renamed, same_path};
@@ -30,7 +30,7 @@ pub(crate) struct Source {
     pub(crate) first: usize,
 }
 
-// The slot of an entry that is found.
+// Returns the slot of an entry that was found.
 fn source_in(found: Found) -> Source
     requires { has_slot found ≡ true }
     ensures { IsSourceIn found result }
@@ -156,7 +156,7 @@ fn move_onto_directory<D: BlockDevice>(
     }
 }
 
-// Gives an entry the path at which that was found.
+// Gives an entry the path at which `target` was found.
 fn move_found<D: BlockDevice>(
     alloc: Global,
     thread: &mut Thread<D>,
@@ -183,9 +183,9 @@ fn move_found<D: BlockDevice>(
     }
 }
 
-// Gives an entry another path, at which nothing is, a file, or a directory without entries.
+// Gives an entry another path. At that path is no entry, a file, or a directory without entries.
 //
-// `Io` where a call of the device failed, and `NoMemory` where memory isn't granted.
+// Errors: `Io` where a call of the device failed. `NoMemory` where memory isn't granted.
 pub(crate) fn rename_at<D: BlockDevice>(
     alloc: Global,
     thread: &mut Thread<D>,

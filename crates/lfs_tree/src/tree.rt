@@ -47,12 +47,12 @@ use lfs_thread::Thread;
 use std::alloc::Global;
 use std::marker::Model;
 
-/// A mounted image: what littlefs 2.0 allows, on a device.
+/// A mounted image: a file system of littlefs 2.0, on a device.
 ///
-/// After an error it has failed: it is only to be read anew then, by [`remount`](Tree::remount).
+/// After an error the tree has failed. Then the only useful call is [`remount`](Tree::remount).
 #[derive(Drop)]
 pub struct Tree<D: BlockDevice> {
-    // It has failed where a call of the tree has.
+    // The thread has failed where a call of the tree has.
     pub(crate) thread: Thread<D>,
     // The number of the root directory's first pair.
     pub(crate) root: usize,
@@ -73,8 +73,8 @@ impl<D: BlockDevice> Model for Tree<D> {
 impl<D: BlockDevice> Tree<D> {
     /// Reads the image of a device. Only reads are made.
     ///
-    /// `Corrupt` exactly where no image is accepted there. `Io` where a read failed, and `NoMemory`
-    /// where memory isn't granted. The device comes back with an error.
+    /// Errors: `Corrupt` exactly where the device has no accepted image. `Io` where a read failed.
+    /// `NoMemory` where memory isn't granted. An error comes with the device.
     pub fn mount(alloc: Global, device: D) -> Result<Tree<D>, (D, Error)>
         ensures mounted { IfOk result (IsMountedTree (disk_on D.BlockDevice device) (D.history device)) }
         ensures corrupt { IfErr result (λ e. e.1 ≡ Error.Corrupt → (ps : List Pair) → ¬ IsAccepted (disk_on D.BlockDevice device) ps) }
@@ -92,8 +92,9 @@ impl<D: BlockDevice> Tree<D> {
         }
     }
 
-    /// Makes an empty file system on a device, as [`format`](crate::format) does. Its errors are those
-    /// of that call, and those of a mount.
+    /// Makes an empty file system on a device, as [`format`](crate::format) does.
+    ///
+    /// Errors are those of that call.
     pub fn format(alloc: Global, device: D) -> Result<Tree<D>, (D, Error)>
         ensures works { IfOk result (λ t. (t.failed ≡ false) × (t.writable ≡ true)) }
         ensures sound { IfOk result IsSound }
@@ -112,9 +113,9 @@ impl<D: BlockDevice> Tree<D> {
         }
     }
 
-    /// Reads the device anew, after an error too. What was in flight no longer is.
+    /// Reads the device anew, after an error too. No block is in flight afterwards.
     ///
-    /// Errors as those of [`mount`](Tree::mount); it has failed then.
+    /// Errors are those of [`mount`](Tree::mount). The tree has failed after any.
     pub fn remount(&mut self, alloc: Global) -> Result<(), Error>
         ensures mounted { OnOk result (IsMountedTree self.old.disk self.old.history self.new) }
         ensures broken { OnErr result (IsBrokenAsking self.old self.new) }
@@ -129,7 +130,7 @@ impl<D: BlockDevice> Tree<D> {
         }
     }
 
-    /// The device, as the last call left it, after an error too.
+    /// Borrows the device, as the last call left it, after an error too.
     pub fn device(&self) -> &D
         ensures disk { disk_on D.BlockDevice result.now ≡ self.now.disk }
         ensures history { D.history result.now ≡ self.now.history }
@@ -137,7 +138,7 @@ impl<D: BlockDevice> Tree<D> {
         self.thread.device()
     }
 
-    /// The device, as the last call left it. It may be had from a tree that has failed, too.
+    /// Returns the device, as the last call left it, also from a tree that has failed.
     pub fn into_device(self) -> D
         ensures disk { disk_on D.BlockDevice result ≡ self.disk }
         ensures history { D.history result ≡ self.history }
@@ -145,21 +146,21 @@ impl<D: BlockDevice> Tree<D> {
         self.thread.into_device()
     }
 
-    /// Whether a call failed.
+    /// Returns whether a call failed.
     pub fn has_failed(&self) -> bool
         ensures { result ≡ self.now.failed }
     {
         self.thread.has_failed()
     }
 
-    /// Whether the image is one of those that this library writes.
+    /// Returns whether the image is in the writing profile.
     pub fn is_writable(&self) -> bool
         ensures { result ≡ self.now.writable }
     {
         self.is_writable
     }
 
-    /// The geometry of its device.
+    /// Returns the geometry of the device.
     pub fn geometry(&self) -> Geometry
         ensures block_size { result.block_size ≡ self.now.disk.block_size }
         ensures page { result.page ≡ self.now.disk.page }
@@ -168,14 +169,14 @@ impl<D: BlockDevice> Tree<D> {
         self.device().geometry()
     }
 
-    /// The session fails for want of memory of its own.
+    /// Makes the tree fail, for a session whose own memory isn't granted.
     pub fn fail(&mut self)
         ensures { self.new ≡ record self.old { failed = true } }
     {
         self.thread.fail();
     }
 
-    /// How many blocks the image uses.
+    /// Returns how many blocks the image uses.
     pub fn used_count(&self) -> u32
         requires { self.now.failed ≡ false }
         ensures { result ≡ length (around_of self.now).used }
@@ -183,7 +184,7 @@ impl<D: BlockDevice> Tree<D> {
         self.thread.used_count()
     }
 
-    /// Whether the image uses a block.
+    /// Returns whether the image uses a block. `block` is below the number of blocks.
     pub fn is_used(&self, block: u32) -> bool
         requires works { self.now.failed ≡ false }
         requires below { block < block_count self.now.disk }
@@ -192,7 +193,7 @@ impl<D: BlockDevice> Tree<D> {
         self.thread.is_used(block)
     }
 
-    /// The global state (DESIGN.md of littlefs, "The move problem").
+    /// Returns the global state (DESIGN.md of littlefs, "The move problem").
     pub fn gstate(&self) -> MoveState
         requires { self.now.failed ≡ false }
         ensures { move_view result ≡ (around_of self.now).gstate }
@@ -200,10 +201,11 @@ impl<D: BlockDevice> Tree<D> {
         self.thread.state()
     }
 
-    /// What a path leads to. Each pair of the directories above it is read at most once, and none where
-    /// all of them are cached; at most eight directories of one pair each are cached then.
+    /// Looks up a path. Each pair of the directories above it is read at most once, and none where
+    /// all of them are cached. At most eight directories of one pair each are cached then.
     ///
-    /// `Io` where a read failed, and `NoMemory` where memory isn't granted. It has failed then.
+    /// Errors: `Io` where a read failed. `NoMemory` where memory isn't granted. The tree has failed
+    /// after either.
     pub fn look_up(&mut self, alloc: Global, path: &Path<'_>) -> Result<Finding, Error>
         requires { self.old.failed ≡ false }
         ensures asks { IsAsking self.old result self.new }
@@ -216,10 +218,11 @@ impl<D: BlockDevice> Tree<D> {
         found
     }
 
-    /// What a path leads to, and whether it is a directory that has entries. No more reads than the
-    /// directories above it, and the one at it, have pairs.
+    /// Looks up a path, and returns whether it leads to a directory that has entries. The call
+    /// reads no more pairs than the directories above the path and the one at it have.
     ///
-    /// `Io` where a read failed, and `NoMemory` where memory isn't granted. It has failed then.
+    /// Errors: `Io` where a read failed. `NoMemory` where memory isn't granted. The tree has failed
+    /// after either.
     pub fn look_inside(&mut self, alloc: Global, path: &Path<'_>) -> Result<Inside, Error>
         requires { self.old.failed ≡ false }
         ensures asks { IsAsking self.old result self.new }
@@ -232,10 +235,12 @@ impl<D: BlockDevice> Tree<D> {
         inside
     }
 
-    /// What a path leads to, and an attribute of it, which has at most 1,022 bytes. Each pair of the
-    /// directories above it is read at most once, and none where all of them are cached.
+    /// Looks up a path, and returns an attribute of its entry, which has at most 1,022 bytes. Each
+    /// pair of the directories above it is read at most once, and none where all of them are
+    /// cached.
     ///
-    /// `Io` where a read failed, and `NoMemory` where memory isn't granted. It has failed then.
+    /// Errors: `Io` where a read failed. `NoMemory` where memory isn't granted. The tree has failed
+    /// after either.
     pub fn get_attr(
         &mut self,
         alloc: Global,
@@ -253,11 +258,12 @@ impl<D: BlockDevice> Tree<D> {
         found
     }
 
-    /// How many bytes of its pair the attributes of what stands at a path take: 4 each, and its own.
-    /// 0 where nothing stands there. No more reads than the directories above it have pairs, and none
-    /// where all of them are cached.
+    /// Returns how many bytes of its pair the attributes of the entry at a path take, each with its
+    /// tag of 4 bytes. Returns 0 where no entry is there. The call reads no more pairs than the
+    /// directories above the path have, and none where all of them are cached.
     ///
-    /// `Io` where a read failed, and `NoMemory` where memory isn't granted. It has failed then.
+    /// Errors: `Io` where a read failed. `NoMemory` where memory isn't granted. The tree has failed
+    /// after either.
     pub fn attributes_size(&mut self, alloc: Global, path: &Path<'_>) -> Result<usize, Error>
         requires { self.old.failed ≡ false }
         ensures asks { IsAsking self.old result self.new }
@@ -269,10 +275,12 @@ impl<D: BlockDevice> Tree<D> {
         size
     }
 
-    /// What a path leads to, and what stands in it, where it is a directory. Each pair of the
-    /// directories above it, and of its own, is read at most once, and none where all of them are cached.
+    /// Looks up a path, and returns the entries in it, where it leads to a directory. Each pair of
+    /// the directories above it, and of its own, is read at most once, and none where all of them
+    /// are cached.
     ///
-    /// `Io` where a read failed, and `NoMemory` where memory isn't granted. It has failed then.
+    /// Errors: `Io` where a read failed. `NoMemory` where memory isn't granted. The tree has failed
+    /// after either.
     pub fn list(&mut self, alloc: Global, path: &Path<'_>) -> Result<Listing, Error>
         requires { self.old.failed ≡ false }
         ensures asks { IsAsking self.old result self.new }
@@ -285,10 +293,12 @@ impl<D: BlockDevice> Tree<D> {
         listing
     }
 
-    /// Makes an empty directory where nothing is.
+    /// Makes an empty directory where no entry is.
     ///
-    /// What a loss of power left is ended first. `Io` where a call of the device failed, and `NoMemory`
-    /// where memory isn't granted. It has failed then.
+    /// A recovery comes first.
+    ///
+    /// Errors: `Io` where a call of the device failed. `NoMemory` where memory isn't granted. The
+    /// tree has failed after either.
     pub fn mkdir(&mut self, alloc: Global, path: &Path<'_>) -> Result<(), Error>
         requires { CanMake self.old path.now }
         ensures { IsOperation self.old (call.Mkdir path.now) result self.new }
@@ -299,11 +309,13 @@ impl<D: BlockDevice> Tree<D> {
         made
     }
 
-    /// Makes an empty file where nothing is.
+    /// Makes an empty file where no entry is.
     ///
-    /// What a loss of power left is ended first. Where it left nothing, no more reads come than the
-    /// directories above the path have pairs, and six. `Io` where a call of the device failed, and
-    /// `NoMemory` where memory isn't granted. It has failed then.
+    /// A recovery comes first. Where nothing is to recover, the call takes at most six reads more
+    /// than the directories above the path have pairs.
+    ///
+    /// Errors: `Io` where a call of the device failed. `NoMemory` where memory isn't granted. The
+    /// tree has failed after either.
     pub fn create(&mut self, alloc: Global, path: &Path<'_>) -> Result<(), Error>
         requires { CanCreate self.old path.now }
         ensures does { IsOperation self.old (call.Create path.now) result self.new }
@@ -315,10 +327,12 @@ impl<D: BlockDevice> Tree<D> {
         created
     }
 
-    /// Takes a file, or a directory without entries.
+    /// Removes a file, or a directory without entries.
     ///
-    /// What a loss of power left is ended first. `Io` where a call of the device failed, and `NoMemory`
-    /// where memory isn't granted. It has failed then.
+    /// A recovery comes first.
+    ///
+    /// Errors: `Io` where a call of the device failed. `NoMemory` where memory isn't granted. The
+    /// tree has failed after either.
     pub fn remove(&mut self, alloc: Global, path: &Path<'_>) -> Result<(), Error>
         requires { CanRemove self.old path.now }
         ensures { IsOperation self.old (call.Remove path.now) result self.new }
@@ -329,11 +343,13 @@ impl<D: BlockDevice> Tree<D> {
         removed
     }
 
-    /// Gives an entry another path, at which nothing is, a file, or an empty directory, which goes. What is
-    /// beneath a directory goes with it.
+    /// Gives an entry another path. At that path is no entry, a file, or an empty directory, which
+    /// is replaced. The entries beneath a directory move with it.
     ///
-    /// What a loss of power left is ended first. `Io` where a call of the device failed, and `NoMemory`
-    /// where memory isn't granted. It has failed then.
+    /// A recovery comes first.
+    ///
+    /// Errors: `Io` where a call of the device failed. `NoMemory` where memory isn't granted. The
+    /// tree has failed after either.
     pub fn rename(&mut self, alloc: Global, from: &Path<'_>, to: &Path<'_>) -> Result<(), Error>
         requires can { CanRename self.old from.now to.now }
         requires apart { same_path from.now to.now ≡ false }
@@ -345,10 +361,12 @@ impl<D: BlockDevice> Tree<D> {
         renamed
     }
 
-    /// Gives an entry an attribute, in place of the one of that type that it has, if it has one.
+    /// Sets an attribute of an entry, in place of the one of that type, if the entry has one.
     ///
-    /// What a loss of power left is ended first. `Io` where a call of the device failed, and `NoMemory`
-    /// where memory isn't granted. It has failed then.
+    /// A recovery comes first.
+    ///
+    /// Errors: `Io` where a call of the device failed. `NoMemory` where memory isn't granted. The
+    /// tree has failed after either.
     pub fn set_attr(
         &mut self,
         alloc: Global,
@@ -365,12 +383,12 @@ impl<D: BlockDevice> Tree<D> {
         set
     }
 
-    /// Ends what a loss of power left in the image: a set move, and directories that no path leads to
-    /// (DESIGN.md of littlefs, "The move problem"). What is in those goes with them, and the blocks of
-    /// its files are free. Nothing is written where nothing is left.
+    /// Ends what a loss of power left in the image: a set move, and directories that no path leads
+    /// to (DESIGN.md of littlefs, "The move problem"). These directories are dropped with their
+    /// entries, and the blocks of their files are free. Nothing is written where nothing is left.
     ///
-    /// `Io` where a call of the device failed, and `NoMemory` where memory isn't granted. It has failed
-    /// then.
+    /// Errors: `Io` where a call of the device failed. `NoMemory` where memory isn't granted. The
+    /// tree has failed after either.
     pub fn recover(&mut self, alloc: Global) -> Result<(), Error>
         requires works { self.old.failed ≡ false }
         requires writable { self.old.writable ≡ true }
@@ -386,10 +404,12 @@ impl<D: BlockDevice> Tree<D> {
         recovered
     }
 
-    /// Takes an attribute from an entry.
+    /// Removes an attribute of an entry.
     ///
-    /// What a loss of power left is ended first. `Io` where a call of the device failed, and `NoMemory`
-    /// where memory isn't granted. It has failed then.
+    /// A recovery comes first.
+    ///
+    /// Errors: `Io` where a call of the device failed. `NoMemory` where memory isn't granted. The
+    /// tree has failed after either.
     pub fn remove_attr(&mut self, alloc: Global, path: &Path<'_>, kind: u8) -> Result<(), Error>
         requires { CanRemoveAttr self.old path.now kind }
         ensures { IsOperation self.old (call.RemoveAttr path.now kind) result self.new }

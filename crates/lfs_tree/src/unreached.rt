@@ -15,14 +15,14 @@ use lfs_lookup::{Item, Structure, entries_under, follows_at};
 use lfs_thread::{Thread, number_of};
 use std::alloc::{AllocError, Global};
 
-// So many marks that aren't set.
+// Makes so many marks that aren't set.
 fn none_marked(alloc: Global, count: usize) -> Result<Vec<bool>, AllocError>
     ensures { IfOk result (λ marks. marks.items ≡ replicate count false) }
 {
     vec![in alloc; false; count]
 }
 
-// Marks the pair of a number, unless it is marked. Its directory is to be visited then.
+// Marks the pair of a number, unless it is marked. Its directory is visited later.
 fn mark(marks: &mut Vec<bool>, pending: &mut Vec<usize>, number: usize) -> Result<(), AllocError>
     requires { number < length marks.old.items }
     ensures { OnOk result (HasMarked (λ n. n ≡ number) marks.old.items pending.old.items marks.new.items pending.new.items) }
@@ -71,7 +71,7 @@ fn mark_branches<D: BlockDevice>(
     Ok(())
 }
 
-// Which pairs a path leads to, as the first of a directory.
+// Returns which pairs a path leads to, as the first of a directory.
 fn mark_reached<D: BlockDevice>(
     alloc: Global,
     thread: &mut Thread<D>,
@@ -94,7 +94,8 @@ fn mark_reached<D: BlockDevice>(
     Ok(marks)
 }
 
-// Whether a path leads to the directory of a pair, by whether one leads to that of the pair in front.
+// Returns whether a path leads to the directory of a pair. Where a hard tail leads to the pair,
+// this is so of the pair before.
 fn is_reached_at<D: BlockDevice>(
     thread: &Thread<D>,
     root: usize,
@@ -124,7 +125,7 @@ fn note(numbers: &mut Vec<usize>, index: usize, is_reached: bool) -> Result<(), 
     Ok(())
 }
 
-// The numbers of the pairs of directories whose first one isn't marked.
+// Returns the numbers of the pairs of directories whose first one isn't marked.
 fn unmarked<D: BlockDevice>(
     alloc: Global,
     thread: &Thread<D>,
@@ -146,10 +147,10 @@ fn unmarked<D: BlockDevice>(
     Ok(numbers)
 }
 
-// The numbers of the pairs of directories that no path leads to. The root directory begins with the
-// pair of number `root`.
+// Returns the numbers of the pairs of directories that no path leads to. The root directory begins
+// with the pair of number `root`.
 //
-// `Io` where a read failed, and `NoMemory` where memory isn't granted.
+// Errors: `Io` where a read failed. `NoMemory` where memory isn't granted.
 pub(crate) fn unreached<D: BlockDevice>(
     alloc: Global,
     thread: &mut Thread<D>,

@@ -23,9 +23,11 @@ use lfs_writer::{Contents, truncate_file, write_file};
 use std::alloc::Global;
 
 impl<D: BlockDevice> Tree<D> {
-    /// The contents of a file for a writer that opens it: in memory where they stand in its entry, else its list.
+    /// Returns the contents of a file for a writer that opens it: in memory where they are inline
+    /// in its entry, else its list.
     ///
-    /// `Io` where a read failed, and `NoMemory` where memory isn't granted. It has failed then.
+    /// Errors: `Io` where a read failed. `NoMemory` where memory isn't granted. The tree has failed
+    /// after either.
     pub fn contents(&mut self, alloc: Global, path: &Path<'_>) -> Result<Contents, Error>
         requires { CanOpen self.old path.now }
         ensures asks { IsAsking self.old result self.new }
@@ -38,9 +40,9 @@ impl<D: BlockDevice> Tree<D> {
         contents
     }
 
-    /// Contents of no bytes, for a writer that opens a file to write it anew.
+    /// Returns contents of no bytes, for a writer that opens a file to write it anew.
     ///
-    /// `NoMemory` where memory isn't granted. It has failed then.
+    /// Errors: `NoMemory` where memory isn't granted. The tree has failed then.
     pub fn empty_contents(&mut self, alloc: Global) -> Result<Contents, Error>
         requires works { self.old.failed ≡ false }
         requires idle { in_flight_count self.old.map ≡ 0 }
@@ -56,10 +58,11 @@ impl<D: BlockDevice> Tree<D> {
         contents
     }
 
-    /// Writes bytes, at least one, at a place of a writer's contents; zeros fill a gap before it. The image stays as it is.
+    /// Writes bytes, at least one, at a place of a writer's contents. Zeros fill a gap before it.
+    /// The image stays as it is.
     ///
-    /// The contents are gone after an error: `Io` where a call of the device failed, and `NoMemory` where memory isn't
-    /// granted. The tree has failed then.
+    /// Errors: `Io` where a call of the device failed. `NoMemory` where memory isn't granted. After
+    /// an error the contents are dropped, and the tree has failed.
     pub fn write(
         &mut self,
         alloc: Global,
@@ -81,7 +84,7 @@ impl<D: BlockDevice> Tree<D> {
 
     /// Cuts a writer's contents to a size, or fills them up to it with zeros. The image stays as it is.
     ///
-    /// Errors as those of [`write`](Tree::write).
+    /// Errors are those of [`write`](Tree::write).
     pub fn truncate(
         &mut self,
         alloc: Global,
@@ -100,9 +103,9 @@ impl<D: BlockDevice> Tree<D> {
         truncated
     }
 
-    /// Commits a writer's contents: the file has them then, and no block is in flight any more.
+    /// Commits a writer's contents. The file has them then, and no block is in flight any more.
     ///
-    /// Errors as those of [`write`](Tree::write).
+    /// Errors are those of [`write`](Tree::write).
     pub fn store(&mut self, alloc: Global, path: &Path<'_>, contents: Contents) -> Result<(), Error>
         requires { CanStoreAt self.old path.now contents }
         ensures stored { OnOk result (IsStoredAt self.old path.now (bytes_held (kept_of self.old) contents) self.new) }

@@ -12,7 +12,7 @@ IsBase disk block_size head size = (size ≡ 0) ⊎ IsList disk block_size head 
 abbrev pub list_blocks : Blocks → ℕ → ℕ → ℕ → List ℕ
 list_blocks disk block_size head size = blocks_back disk (blocks_for block_size size) head
 
--- the base stands apart from what the list in hand writes
+-- the base is apart from the blocks that the list in hand writes
 pub record IsBeside (map : BlockSets) (pending : List ℕ) (disk : Blocks) (block_size head size : ℕ) : Type 0 where
   pub base : IsBase disk block_size head size
   pub apart : All (IsApart map pending) (list_blocks disk block_size head size)

@@ -1,4 +1,5 @@
--- What a call leaves alone on the device: `g` is what the device shows, `old` and `new` are the device before and after.
+-- What a call leaves alone on the device: `g` is what a contract sees of the device, `old` and `new` are the device before and
+-- after.
 use Rattle.std.specs.Prelude.{ℕ, ◌≡◌, List}
 use Rattle.lfs_device.specs.declared.device.BlockDevice.{Ghosts}
 use Rattle.lfs_model.specs.BlockSets.{BlockSets}
@@ -6,7 +7,8 @@ use Rattle.lfs_model.specs.History.{AtWorst, LeavesOnly}
 use Rattle.lfs_writer.specs.Apart.{Spares, SparesPages}
 use Rattle.lfs_writer.specs.Hand.{SparesUsed, SparesUsedPages}
 
--- No block that stands apart changes, what was unprogrammed in it still is, and a loss of power on the way leaves it as it was.
+-- No block that is apart changes, and its bytes that were unprogrammed still are. A loss of power during the call leaves it as it
+-- was.
 pub record LeavesApart {D : Type 0} (g : Ghosts D) (map : BlockSets) (pending : List ℕ) (old new : D) : Type 0 where
   pub spared : Spares map pending (g.blocks old) (g.blocks new)
   pub pages : SparesPages map pending (g.history old) (g.history new)

@@ -1,4 +1,4 @@
--- Contents that are finished, and what a commit of them wants.
+-- Contents that are finished, and what a commit of them takes.
 use Rattle.std.specs.Prelude.{ℕ, ◌≡◌, ◌+◌, nat_eq, List}
 use Rattle.std.specs.List.{AllByRecursion, IsDistinct}
 use Rattle.lfs_model.specs.BlockSets.{IsInFlight}
@@ -9,8 +9,8 @@ use Rattle.lfs_model.specs.Shown.{file_blocks}
 use Rattle.lfs_model.specs.Steps.{count}
 use Rattle.lfs_thread.specs.Kept.{Kept}
 
--- The struct says these contents, as a list that stands on the disk or inline. `come` are its blocks that the one before hasn't;
--- they are in flight. `gone` are those that only that one has.
+-- The struct gives these contents, inline or as a list that is on the disk. `come` are the blocks that the list before hasn't;
+-- they are in flight. `gone` are the blocks that only the list before has.
 pub record CanCome (t : Kept) (contents : List ℕ) (was now : Struct) : Type 0 where
   pub stores : Stores t.disk contents now
   pub list : IsListIfCtz t.disk now

@@ -1,4 +1,4 @@
--- The contents of an open writer: their form, their bytes, and what map and disk say of them.
+-- The contents of an open writer: their form, their bytes, and what map and disk have of them.
 use Rattle.std.specs.Prelude.{ℕ, ◌≡◌, ◌≢◌, ◌≤◌, ◌<◌, ◌+◌, ◌*◌, ◌^◌, true, min, max, ◌==◌, nat_lt, if◌then◌else◌, List, length}
 use Rattle.lfs_model.specs.Blocks.{Blocks}
 use Rattle.lfs_model.specs.BlockSets.{BlockSets, IsInFlight, used_count}
@@ -12,7 +12,7 @@ use Rattle.lfs_writer.specs.Written.{IsGoing, bytes_over}
 use Rattle.lfs_writer.specs.declared.contents.Contents.{Contents}
 use Rattle.lfs_writer.specs.declared.contents.Contents.TheVariants.{InMemory, Finished, InHand}
 
--- what stands in the extender's buffer alone
+-- the bytes in the extender's buffer alone
 abbrev pub held_bytes : Growing → List ℕ
 held_bytes list = list.rest
 
@@ -36,7 +36,7 @@ pub record IsResting (now : Geometry) (list : Growing) : Type 0 where
   pub geometry : now ≡ list.geometry
   pub held : IsHeld list
 
--- all bytes stand in memory, and no block is in flight
+-- all bytes are in memory, and no block is in flight
 pub record IsQuiet (map : BlockSets) (disk : Blocks) (now : Geometry) (list : Growing) : Type 0 where
   pub idle : IsIdle map disk
   pub resting : IsResting now list
@@ -46,7 +46,7 @@ Stands map disk now (InMemory list) = IsQuiet map disk now list
 Stands map disk now (Finished stored) = IsListStored map disk now.block_size stored
 Stands map disk now (InHand hand) = IsGoing map disk now hand
 
--- they stand so, with these bytes in that form
+-- the contents are in that form, with these bytes
 pub record HasContents (map : BlockSets) (disk : Blocks) (now : Geometry) (contents : Contents) (bytes : List ℕ) (shape : Form) : Type 0 where
   pub stands : Stands map disk now contents
   pub has : bytes_in disk now.block_size contents ≡ bytes
@@ -58,7 +58,7 @@ IsLarge limit (form.InMemory size) = size ≤ limit
 IsLarge limit (form.Finished size flying) = flying ≡ true → limit < size
 IsLarge limit (form.InHand stop base flying) = limit < max stop base
 
--- how many blocks a write past the limit may want in flight
+-- how many blocks in flight a write past the limit may take
 abbrev pub write_room : ℕ → ℕ → ℕ → Form → ℕ
 write_room block_size place count (form.InMemory size) = blocks_for block_size (place + count)
 write_room block_size place count (form.Finished size flying) = blocks_for block_size (place + count) + (if flying then blocks_for block_size size else 0)
@@ -66,7 +66,7 @@ write_room block_size place count (form.InHand stop base flying) =
     if stop == min place (max stop base) then blocks_for block_size (place + count) + (if flying then blocks_for block_size base else 0)
     else 2 * blocks_for block_size (max (max stop base) (place + count))
 
--- the form once the list in hand is ended, and the room that this wants
+-- the form after the list in hand is ended, and the room that this takes
 abbrev pub finished : Form → Form
 finished (form.InMemory size) = form.InMemory size
 finished (form.Finished size flying) = form.Finished size flying
@@ -86,13 +86,14 @@ truncate_room block_size size (form.InHand stop base flying) =
     then (if stop == max stop base then blocks_for block_size size + (if flying then blocks_for block_size base else 0) else 2 * blocks_for block_size size)
     else (if flying then blocks_for block_size base else 0) + blocks_for block_size base
 
--- a truncation to a size wants blocks: it fills a list up, or ends the one in hand
+-- a truncation to a size takes blocks: it fills a list up, or ends the one in hand
 abbrev pub NeedsRoom : ℕ → ℕ → Form → Type 0
 NeedsRoom limit size (form.InMemory old) = limit < size
 NeedsRoom limit size (form.Finished old flying) = (limit < size) × (old < size)
 NeedsRoom limit size (form.InHand stop base flying) = size ≢ max stop base
 
--- so many bytes, at least one, may be written at a place: past the limit there is room for what the form of the contents wants
+-- So many bytes, at least one, may be written at a place. Past the limit there is room for the blocks that the form of the
+-- contents takes.
 pub record FitsWrite (map : BlockSets) (block_size : ℕ) (shape : Form) (limit place count : ℕ) : Type 0 where
   pub large : IsLarge limit shape
   pub short : limit < block_size
@@ -100,14 +101,14 @@ pub record FitsWrite (map : BlockSets) (block_size : ℕ) (shape : Form) (limit 
   pub small : place + count < 2 ^ 31
   pub room : limit < max (form_size shape) (place + count) → used_count map + write_room block_size place count shape ≤ length map
 
--- they may be cut or filled up to a size: where it changes there is room for what the form wants
+-- The contents may be cut or filled up to a size. Where the size changes there is room for the blocks that the form takes.
 pub record FitsTruncation (map : BlockSets) (block_size : ℕ) (shape : Form) (limit size : ℕ) : Type 0 where
   pub large : IsLarge limit shape
   pub short : limit < block_size
   pub small : size < 2 ^ 31
   pub room : NeedsRoom limit size shape → used_count map + truncate_room block_size size shape ≤ length map
 
--- contents stand on a device of this geometry, and may be written there; may be truncated; or may be finished
+-- contents are on a device of this geometry, and may be written there; may be truncated; or may be finished
 pub record CanWriteContents (map : BlockSets) (disk : Blocks) (now : Geometry) (contents : Contents) (limit place count : ℕ) : Type 0 where
   pub stands : Stands map disk now contents
   pub fits : FitsWrite map now.block_size (form_of contents) limit place count

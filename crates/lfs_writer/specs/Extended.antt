@@ -6,7 +6,7 @@ use Rattle.lfs_model.specs.SkipLists.{blocks_for}
 use Rattle.lfs_ctz.specs.Growing.{IsGrowing, blocks_of_list, content_of, is_held, kept_of, end_of, Growing}
 use Rattle.lfs_writer.specs.Apart.{Grows, IsMarked}
 
--- its blocks are its own, as many as its bytes need, and it can be ended
+-- the list's blocks are its own, as many as its bytes need, and it can be ended
 pub record IsOwn (disk : Blocks) (list : Growing) : Type 0 where
   pub own : blocks_of_list disk list ≡ kept_of disk list
   pub many : length (kept_of disk list) ≡ blocks_for list.geometry.block_size (end_of list)

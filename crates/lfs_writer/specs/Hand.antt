@@ -1,4 +1,4 @@
--- Lists that hold the contents of a file that is written, and what the map says of them.
+-- Lists that hold the contents of a file that is written, and what the map has of them.
 use Rattle.std.specs.Prelude.{ℕ, ◌≡◌, ◌≢◌, ◌≤◌, ◌++◌, ◌⊎◌, All, Contains, true, false, List, length, take, drop}
 use Rattle.lfs_model.specs.Blocks.{Blocks, block_in}
 use Rattle.lfs_model.specs.BlockSets.{BlockSets, IsFree, IsInFlight, IsUsed, used_count}
@@ -9,15 +9,15 @@ use Rattle.lfs_writer.specs.Apart.{IsApart, IsMarked}
 use Rattle.lfs_writer.specs.Based.{IsBase, list_blocks}
 use Rattle.lfs_writer.specs.declared.stored.Stored.{Stored}
 
--- A finished list has all contents. Where it is in flight, some of its blocks may be, and no others are.
+-- A finished list has all contents. Where it is in flight, some of its blocks may be, and no other blocks are.
 pub record IsListStored (map : BlockSets) (disk : Blocks) (block_size : ℕ) (s : Stored) : Type 0 where
   pub base : IsBase disk block_size s.head s.size
   pub count : length map ≡ length disk
   pub marked : All (λ b. ¬ (IsFree map b)) (list_blocks disk block_size s.head s.size)
   pub flying : (b : ℕ) → IsInFlight map b → (s.in_flight ≡ true) × Contains (list_blocks disk block_size s.head s.size) b
 
--- A list in hand has the first bytes, its base the others. They share the first blocks; the other blocks in hand are
--- none of the base's, and not used. No other block is in flight.
+-- A list in hand has the first bytes, its base the others. Both share the first blocks; the other blocks in hand are none of the
+-- base's, and not used. No other block is in flight.
 pub record IsListBegun (map : BlockSets) (disk : Blocks) (block_size : ℕ) (g : Growing) (base : Stored) (shared : ℕ) : Type 0 where
   pub growing : IsGrowing disk g
   pub marked : IsMarked map disk g
@@ -29,7 +29,7 @@ pub record IsListBegun (map : BlockSets) (disk : Blocks) (block_size : ℕ) (g :
   pub taken : (b : ℕ) → Contains (kept_of disk g) b → IsUsed map b → Contains (list_blocks disk block_size base.head base.size) b
   pub flying : (b : ℕ) → IsInFlight map b → Contains (kept_of disk g) b ⊎ ((base.in_flight ≡ true) × Contains (list_blocks disk block_size base.head base.size) b)
 
--- All its blocks are its own, as many as its bytes need, and it can be ended.
+-- All blocks of the list are its own, as many as its bytes need, and it can be ended.
 pub record IsHand (map : BlockSets) (disk : Blocks) (block_size : ℕ) (g : Growing) (base : Stored) (shared : ℕ) : Type 0 where
   pub begun : IsListBegun map disk block_size g base shared
   pub own : blocks_of_list disk g ≡ kept_of disk g
@@ -49,7 +49,7 @@ pub record SparesUsed (map : BlockSets) (old new : Blocks) : Type 0 where
   pub sizes : (b : ℕ) → length (block_in new b) ≡ length (block_in old b)
   pub same : (b : ℕ) → IsUsed map b → block_in new b ≡ block_in old b
 
--- what was unprogrammed in used blocks still is
+-- bytes of used blocks that were unprogrammed still are
 pub record SparesUsedPages (map : BlockSets) (old new : List Event) : Type 0 where
   pub stays : (b k : ℕ) → IsUsed map b → unprogrammed old b k ≡ true → unprogrammed new b k ≡ true
 

@@ -11,7 +11,7 @@ use Rattle.lfs_writer.specs.declared.stored.Stored.{Stored}
 abbrev pub blocks_in_list : Kept → Stored → List ℕ
 blocks_in_list t s = list_blocks t.disk.blocks t.disk.block_size s.head s.size
 
--- both lists stand on the disk, or have no block; no block of theirs is a pair's, and those that both have are used
+-- Both lists are on the disk, or have no block. No block of theirs is a pair's, and those that both have are used.
 pub record CanSettle (t : Kept) (before stored : Stored) : Type 0 where
   pub was : IsBase t.disk.blocks t.disk.block_size before.head before.size
   pub list : IsBase t.disk.blocks t.disk.block_size stored.head stored.size

@@ -7,6 +7,6 @@ pub record IsSharedCount (xs ys : List ℕ) (n : ℕ) : Type 0 where
   pub same : take n xs ≡ take n ys
   pub most : n < length xs → n < length ys → slice_index xs n ≢ slice_index ys n
 
--- how many they have apart behind those
+-- how many blocks each list has after those
 abbrev pub apart_count : List ℕ → List ℕ → ℕ → ℕ
 apart_count xs ys n = length (drop n xs) + length (drop n ys)

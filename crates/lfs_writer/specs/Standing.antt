@@ -14,13 +14,13 @@ use Rattle.lfs_writer.specs.Hand.{KeepsUsed, SparesUsed, SparesUsedPages}
 use Rattle.lfs_writer.specs.Owned.{blocks_held}
 use Rattle.lfs_writer.specs.declared.contents.Contents.{Contents}
 
--- the contents stand on the disk, and the map has their blocks
+-- the contents are on the disk, and the map has their blocks
 pub record StandsIn (t : Kept) (contents : Contents) : Type 0 where
   pub geometry : Geometry
   pub divided : IsDividedAs geometry t.disk
   pub stands : Stands t.map t.disk.blocks geometry contents
 
--- they stand so, with these bytes in that form
+-- the contents are in that form, with these bytes
 pub record HoldsContents (t : Kept) (contents : Contents) (bytes : List ℕ) (shape : Form) : Type 0 where
   pub geometry : Geometry
   pub divided : IsDividedAs geometry t.disk
@@ -31,8 +31,8 @@ pub record CanWrite (t : Kept) (contents : Contents) (limit place count : ℕ) :
   pub stands : StandsIn t contents
   pub fits : FitsWrite t.map t.disk.block_size (form_of contents) limit place count
 
--- The pairs are the same. No used block changes, what was unprogrammed in it still is, it stays used, and a loss of power on
--- the way leaves it as it was.
+-- The pairs are the same. No used block changes, its bytes that were unprogrammed still are, and it stays used. A loss of power
+-- during the call leaves it as it was.
 pub record LeavesPairsAndUsed (old new : Kept) : Type 0 where
   pub pairs : new.pairs ≡ old.pairs
   pub shape : HasShape old.disk new.disk
@@ -41,13 +41,13 @@ pub record LeavesPairsAndUsed (old new : Kept) : Type 0 where
   pub at_worst : LeavesOnly AtWorst old.history new.history (SparesUsed old.map old.disk.blocks)
   pub map : KeepsUsed old.map new.map
 
--- `Io` comes with a fault of the device, and any other answer with none
+-- `Io` comes with a fault of the device, and any other result with none
 pub record ReportsWork {X : Type 0} (old new : Kept) (result : Result X Error) : Type 0 where
   pub errors : IfErr result (λ e. (e ≡ Io) ⊎ (e ≡ NoMemory))
   pub fault : IsErrOf result Io → faults old.history < faults new.history
   pub no_fault : ¬ IsErrOf result Io → faults new.history ≡ faults old.history
 
--- they may be cut or filled up to that size
+-- the contents may be cut or filled up to that size
 pub record CanTruncate (t : Kept) (contents : Contents) (limit size : ℕ) : Type 0 where
   pub stands : StandsIn t contents
   pub fits : FitsTruncation t.map t.disk.block_size (form_of contents) limit size

@@ -28,19 +28,19 @@ pub record IsGoing (map : BlockSets) (disk : Blocks) (now : Geometry) (hand : Ha
   pub list : IsHand map disk hand.list.geometry.block_size hand.list hand.base hand.shared
   pub some : 1 ≤ end_of hand.list
 
--- it is begun, ends there, and the contents are these
+-- the list is begun, ends there, and the contents are these
 pub record IsAt (map : BlockSets) (disk : Blocks) (now : Geometry) (hand : Hand) (place : ℕ) (contents : List ℕ) : Type 0 where
   pub begun : HasBegun map disk now hand
   pub size : end_of hand.list ≡ place
   pub bytes : bytes_over disk hand ≡ contents
 
--- it has bytes, ends there, and the contents are these
+-- the list has bytes, ends there, and the contents are these
 pub record HasWritten (map : BlockSets) (disk : Blocks) (now : Geometry) (hand : Hand) (place : ℕ) (contents : List ℕ) : Type 0 where
   pub going : IsGoing map disk now hand
   pub size : end_of hand.list ≡ place
   pub bytes : bytes_over disk hand ≡ contents
 
--- the base is the same where the list goes on at its end; elsewhere the base has all contents, and is in flight
+-- the base is the same where the list continues at its end; elsewhere the base has all contents, and is in flight
 pub record IsOver (old : Hand) (place : ℕ) (new : Hand) : Type 0 where
   pub same : end_of old.list ≡ place → new.base ≡ old.base
   pub size : end_of old.list ≢ place → new.base.size ≡ length_in old

@@ -1,4 +1,4 @@
-// The rest of a base, copied behind what was written.
+// Copies of the bytes of a base that follow those in hand.
 
 ghost use Rattle.std.specs.Prelude.{◌≡◌, ◌≤◌, ◌<◌, ◌+◌, ◌-◌, ◌*◌, ◌^◌, ◌++◌, ℕ, length, max, min, take, drop, slice_range, IfOk, IsErrOf, OnOk};
 ghost use Rattle.lfs_model.specs.BlockSets.{in_flight_count, used_count};
@@ -18,11 +18,12 @@ use lfs_ctz::{Extender, place, read_at};
 use lfs_device::{BlockDevice, Error};
 use std::alloc::Global;
 
-/// Appends to a list in hand what another list has behind the bytes in hand.
+/// Appends to a list in hand the bytes that another list has after those in hand.
 ///
-/// The other list, where there is one, stands in blocks that the list in hand doesn't change.
-/// After an error, which is `Error::Io` where the device failed or `Error::NoMemory`, the list in
-/// hand can only be dropped.
+/// The caller's condition is that the list in hand changes no block of the other list.
+///
+/// Errors: `Io` where the device failed. `NoMemory` where memory isn't granted. After either the
+/// list in hand can only be dropped.
 pub(crate) fn copy_rest<D: BlockDevice>(
     alloc: Global,
     dev: &mut D,
@@ -53,7 +54,7 @@ pub(crate) fn copy_rest<D: BlockDevice>(
     Ok(())
 }
 
-// Appends to a list in hand what another list has behind the bytes in hand, a block at a time.
+// Appends to a list in hand the bytes that another list has after those in hand, a block at a time.
 fn copy_pieces<D: BlockDevice>(
     alloc: Global,
     dev: &mut D,
@@ -85,7 +86,7 @@ fn copy_pieces<D: BlockDevice>(
     Ok(())
 }
 
-// Reads what a list has from a position on, as far as the block goes in which that position is.
+// Reads a list from a position on, up to the end of the block with that position.
 fn read_piece<D: BlockDevice>(
     dev: &mut D,
     head: u32,
@@ -101,7 +102,8 @@ fn read_piece<D: BlockDevice>(
         IfOk result (λ n. take n buf.new ≡ slice_range (bytes_of (D.blocks dev.old) (D.geometry dev.old).block_size head size) pos (pos + n)) }
     ensures corrupt { IsErrOf result Error.Corrupt → ¬ IsList (D.blocks dev.old) (D.geometry dev.old).block_size head size }
     ensures reading { ReadsList D.BlockDevice dev.old dev.new result }
-    // Steps to the block by the logarithm of the list's length, and one read of it.
+    // The number of steps to the block is at most the logarithm of the list's length. The block
+    // itself takes one read.
     ensures few { (m : ℕ) → blocks_for (D.geometry dev.old).block_size size ≤ 2 ^ m → OnOk result (reads (D.history dev.new) ≤ reads (D.history dev.old) + 2 * m + 1) }
 {
     let (_, off) = place(dev.geometry().block_size, pos);

@@ -1,4 +1,4 @@
-// Contents that are finished for a commit, or given up.
+// Contents that are finished for a commit, or dropped.
 
 ghost use Rattle.std.specs.Prelude.{ℕ, OnOk, IfOk};
 ghost use Rattle.lfs_model.specs.BlockSets.{IsInFlight};
@@ -17,8 +17,11 @@ use std::alloc::Global;
 
 /// Ends the list in hand, where there is one. The contents stay.
 ///
-/// There are as many free blocks as the rest of its base takes. The contents are gone after an
-/// error: `Error::Io` where the device failed, `Error::NoMemory` where there is no memory.
+/// The caller's condition is that there are as many free blocks as the remaining bytes of the
+/// list's base take.
+///
+/// Errors: `Io` where the device failed. `NoMemory` where memory isn't granted. After either the
+/// contents are dropped.
 pub fn finish<D: BlockDevice>(
     alloc: Global,
     dev: &mut D,
@@ -43,7 +46,7 @@ pub fn finish<D: BlockDevice>(
     }
 }
 
-/// Gives up what is in flight. It reads no block: no other file has blocks in flight.
+/// Releases all blocks in flight. No other file has blocks in flight, so no block is read.
 pub fn abandon(map: &mut BlockMap)
     ensures none { (b : ℕ) → ¬ (IsInFlight map.new b) }
     ensures map { KeepsUsed map.old map.new }

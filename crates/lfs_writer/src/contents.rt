@@ -28,18 +28,20 @@ use std::alloc::Global;
 /// Where the contents of an open writer are.
 #[derive(Drop)]
 pub enum Contents {
-    /// In the buffer of an extender and in no block, up to the limit of what is kept in a file's
-    /// entry.
+    /// The contents are in the buffer of an extender and in no block. They are at most as long as
+    /// the limit of inline contents.
     InMemory(Extender),
-    /// In a finished list.
+    /// The contents are in a finished list.
     Finished(Stored),
-    /// In a list in hand, and behind it in its base.
+    /// The first bytes are in a list in hand, and the bytes after them in its base.
     InHand(Hand),
 }
 
-/// Contents in memory: what a file's entry holds, or no bytes for a new file.
+/// Makes contents in memory: the inline bytes of a file, or no bytes for a new file.
 ///
-/// There are fewer than a block has. `Error::NoMemory` comes where there is no memory for a block.
+/// The caller's condition is that there are fewer bytes than a block has.
+///
+/// Errors: `NoMemory` where memory for a block isn't granted.
 pub fn in_memory(alloc: Global, geometry: Geometry, bytes: &[u8]) -> Result<Contents, Error>
     requires { length bytes.now < geometry.block_size }
     ensures holds { IfOk result (λ c. (map : BlockSets) (disk : Blocks) → IsIdle map disk → HasContents map disk geometry c bytes.now (form.InMemory (length bytes.now))) }
@@ -50,7 +52,7 @@ pub fn in_memory(alloc: Global, geometry: Geometry, bytes: &[u8]) -> Result<Cont
     Ok(Contents::InMemory(list))
 }
 
-// A write to contents in memory.
+// Writes bytes to contents in memory.
 fn write_held<D: BlockDevice>(
     alloc: Global,
     dev: &mut D,
@@ -83,7 +85,7 @@ fn write_held<D: BlockDevice>(
     Ok(Contents::InHand(hand))
 }
 
-// Bytes at a place over a finished list, as a list in hand over it.
+// Begins a list in hand over a finished list, with bytes at a place.
 fn write_over<D: BlockDevice>(
     alloc: Global,
     dev: &mut D,
@@ -109,7 +111,7 @@ fn write_over<D: BlockDevice>(
     Ok(hand)
 }
 
-// A write over a finished list. One within the limit has no blocks in flight.
+// Writes bytes over a finished list. Contents within the limit have no blocks in flight.
 fn write_stored<D: BlockDevice>(
     alloc: Global,
     dev: &mut D,
@@ -142,7 +144,7 @@ fn write_stored<D: BlockDevice>(
     Ok(Contents::InHand(hand))
 }
 
-// A write to contents in hand.
+// Writes bytes to contents in hand.
 fn write_hand<D: BlockDevice>(
     alloc: Global,
     dev: &mut D,
@@ -170,9 +172,11 @@ fn write_hand<D: BlockDevice>(
 
 /// Writes bytes, at least one, at a place; zeros fill a gap before it.
 ///
-/// Contents of at most `limit` bytes are kept in memory. Past it there are as many free blocks as
-/// the form of the contents may want. The contents are gone after an error: `Error::Io` where the
-/// device failed, `Error::NoMemory` where there is no memory for a block.
+/// Contents of at most `limit` bytes are kept in memory. The caller's condition is that longer
+/// contents find as many free blocks as their form may take.
+///
+/// Errors: `Io` where the device failed. `NoMemory` where memory for a block isn't granted. After
+/// either the contents are dropped.
 pub fn write_contents<D: BlockDevice>(
     alloc: Global,
     dev: &mut D,

@@ -1,4 +1,4 @@
-// Lists in hand that grow by blocks of the map.
+// Extensions of lists in hand, in blocks of the map.
 
 ghost use Rattle.std.specs.Prelude.{◌≡◌, ◌≤◌, ◌<◌, ◌+◌, ◌++◌, ◌^◌, ℕ, length, OnOk};
 ghost use Rattle.lfs_model.specs.BlockSets.{in_flight_count, used_count};
@@ -16,11 +16,13 @@ use lfs_ctz::Extender;
 use lfs_device::{BlockDevice, Error};
 use std::alloc::Global;
 
-/// Appends bytes to a list, in blocks that it takes from the map.
+/// Appends bytes to a list, in blocks that the call takes from the map.
 ///
-/// There is at least one byte, there are as many free blocks as it takes, and the map has the
-/// list's blocks. After an error, which is `Error::Io` where the device failed or
-/// `Error::NoMemory`, the list can only be dropped.
+/// The caller's conditions: there is at least one byte, there are as many free blocks as the bytes
+/// take, and the map has the list's blocks.
+///
+/// Errors: `Io` where the device failed. `NoMemory` where memory isn't granted. After either the
+/// list can only be dropped.
 pub(crate) fn extend<D: BlockDevice>(
     alloc: Global,
     dev: &mut D,
@@ -37,7 +39,7 @@ pub(crate) fn extend<D: BlockDevice>(
         ≤ length map.old + length (kept_of (D.blocks dev.old) list.old) }
     ensures extended { OnOk result (IsExtended map.old (D.blocks dev.old) list.old
         (content_of (D.blocks dev.old) list.old ++ bytes.now) (end_of list.old + length bytes.now) map.new (D.blocks dev.new) list.new) }
-    // No block that was used or in flight changes, but the list's one that waited for more bytes.
+    // No block that was used or in flight changes, except the list's pending one.
     ensures map { Keeps map.old map.new }
     ensures device { LeavesApart D.BlockDevice map.old (pending_of list.old) dev.old dev.new }
     ensures reports { ReportsMemory D.BlockDevice dev.old dev.new result }

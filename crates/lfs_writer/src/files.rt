@@ -16,9 +16,10 @@ use std::alloc::Global;
 /// Writes bytes, at least one, at a place of the contents of an open writer; zeros fill a gap
 /// before it. The pairs of the thread stay as they are.
 ///
-/// Contents of at most `limit` bytes are kept in memory. The contents are gone after an error:
-/// `Io` where the device failed, `NoMemory` where there is no memory for a block. The thread works
-/// on.
+/// Contents of at most `limit` bytes are kept in memory.
+///
+/// Errors: `Io` where the device failed. `NoMemory` where memory for a block isn't
+/// granted. After either the contents are dropped. The thread works on.
 pub fn write_file<D: BlockDevice>(
     alloc: Global,
     thread: &mut Thread<D>,
@@ -41,12 +42,13 @@ pub fn write_file<D: BlockDevice>(
     })
 }
 
-/// Cuts the contents of an open writer to a size, or fills them up to it with zeros. The pairs of
-/// the thread stay as they are.
+/// Cuts the contents of an open writer to a size in bytes, or fills them up to it with zeros. The
+/// pairs of the thread stay as they are.
 ///
-/// Contents of at most `limit` bytes are kept in memory. The contents are gone after an error:
-/// `Io` where the device failed, `NoMemory` where there is no memory for a block. The thread works
-/// on.
+/// Contents of at most `limit` bytes are kept in memory.
+///
+/// Errors: `Io` where the device failed. `NoMemory` where memory for a block isn't
+/// granted. After either the contents are dropped. The thread works on.
 pub fn truncate_file<D: BlockDevice>(
     alloc: Global,
     thread: &mut Thread<D>,
@@ -69,8 +71,8 @@ pub fn truncate_file<D: BlockDevice>(
 /// Ends the list in hand of an open writer, where there is one. The contents stay, and so do the
 /// pairs of the thread.
 ///
-/// The contents are gone after an error: `Io` where the device failed, `NoMemory` where there is no
-/// memory for a block. The thread works on.
+/// Errors: `Io` where the device failed. `NoMemory` where memory for a block isn't
+/// granted. After either the contents are dropped. The thread works on.
 pub fn finish_file<D: BlockDevice>(
     alloc: Global,
     thread: &mut Thread<D>,
@@ -87,7 +89,7 @@ pub fn finish_file<D: BlockDevice>(
     thread.beside(|device, map| finish(alloc, device, map, contents))
 }
 
-// Settles a list in the map of a thread, which works on; after an error the map is of no use.
+// Settles a list in the map of a thread, which works on. After an error the map is of no use.
 fn settle_beside<D: BlockDevice>(
     thread: &mut Thread<D>,
     before: Stored,
@@ -104,12 +106,12 @@ fn settle_beside<D: BlockDevice>(
     thread.beside(|device, map| settle_list(device, map, before, stored))
 }
 
-/// Settles a finished list once a commit names it: its blocks are used, and those that only the
-/// list before it had are free. Either list may have no bytes, and then has no block. Nothing is
-/// written.
+/// Settles a finished list after a commit that names it. Its blocks are used, and those that only
+/// the list before it had are free. Either list may have no bytes, and then has no block. Nothing
+/// is written.
 ///
-/// After an error, which is `Io` where the device failed, the thread has failed, since its map is of
-/// no use any more.
+/// Errors: `Io` where the device failed. The thread has failed then, since its map is of no use any
+/// more.
 pub fn settle_file<D: BlockDevice>(
     thread: &mut Thread<D>,
     before: Stored,

@@ -1,5 +1,6 @@
-// Laws of the forms of contents, for the session above: what it says of a writer and what it holds
-// back for one cover where the contents stand. And what the map has once a list is settled.
+// Laws of the forms of contents, for the session above: each form fits the session's writer, and
+// the blocks that the session holds back are enough. Another law gives the map after a list is
+// settled.
 
 ghost use Rattle.std.specs.Prelude.{◌≡◌, ◌≤◌, ◌<◌, ◌+◌, ◌-◌, ℕ, false, max, Contains, List, ◌∷◌, length};
 ghost use Rattle.lfs_model.specs.BlockSets.{AreUsed, BlockSets};
@@ -13,7 +14,7 @@ ghost use Rattle.lfs_writer.specs.Contents.{IsLarge, NeedsRoom, end_room, trunca
 ghost use Rattle.lfs_writer.specs.Form.{Form, InMemory, Finished, IsWriterForm, form_blocks, form_size, synced, truncated, written};
 ghost use Rattle.lfs_writer.specs.Settled.{IsMapSettled};
 
-/// Each call of a writer leaves the contents in a form that fits what the session says of it.
+/// Each call of a writer leaves the contents in a form that fits the session's writer.
 pub fn forms_keep_step()
     ensures opened_inline { (block_size : ℕ) (path : Path) (flags : Flags) (bytes : List ℕ) → length (opened_writer path flags bytes).contents ≤ inline_limit block_size
         → IsWriterForm block_size (InMemory (length (opened_writer path flags bytes).contents)) (opened_writer path flags bytes) }
@@ -25,7 +26,7 @@ pub fn forms_keep_step()
     ensures synced { (block_size : ℕ) (form : Form) (w : Writer) → IsWriterForm block_size form w → IsWriterForm block_size (synced form) (after_sync w) }
 {}
 
-/// The blocks that the session holds back for a writer are room for each call.
+/// The blocks that the session holds back for a writer are enough for each call.
 pub fn held_blocks_are_room()
     ensures covers { (block_size : ℕ) (form : Form) (w : Writer) → IsWriterForm block_size form w → form_blocks block_size form ≤ held_by block_size w - 2 }
     ensures large { (block_size : ℕ) (form : Form) (w : Writer) → IsWriterForm block_size form w → IsLarge (inline_limit block_size) form }
@@ -36,8 +37,9 @@ pub fn held_blocks_are_room()
     ensures end { (block_size : ℕ) (form : Form) (w : Writer) (used all : ℕ) → IsWriterForm block_size form w → used + held_by block_size w ≤ all → used + end_room block_size form ≤ all }
 {}
 
-/// A map in which a list was settled has exactly the used blocks of the image that names it, where
-/// it had those of the image before: with the blocks that are gone, and without those that came.
+/// A map in which a list was settled has exactly the used blocks of the image that names the list.
+/// Before, it had those of the old image: the blocks that are gone are free now, and the new ones
+/// are used.
 pub fn settled_map_is_exact()
     ensures { (sets later : BlockSets) (owned used before now gone come : List ℕ) → AreUsed sets owned → ((b : ℕ) → count b owned ≤ 1) → ((b : ℕ) → count b owned + count b come ≡ count b used + count b gone)
         → ((b : ℕ) → count b now + count b gone ≡ count b come + count b before) → ((b : ℕ) → Contains now b → Contains used b) → IsMapSettled sets later before now → AreUsed later used }

@@ -1,8 +1,8 @@
-//! The contents of a file that is open for writing, streamed into blocks of the device, also of the device
-//! of a thread of metadata pairs.
+//! The contents of a file that is open for writing, streamed into blocks of a device. The device
+//! may be that of a thread of metadata pairs.
 //!
-//! The contents are in memory while they are short, in a finished list, or in a list in hand over
-//! a finished one. The only buffer of contents is the one block of an extender.
+//! Short contents are in memory. Longer ones are in a finished list, or in a list in hand over a
+//! finished one. The only buffer of contents is the one block of an extender.
 #![tactic(auto)]
 
 mod block_copies;

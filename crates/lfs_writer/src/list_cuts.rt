@@ -1,4 +1,4 @@
-// Finished lists that are cut.
+// Cuts of finished lists.
 
 ghost use Rattle.std.specs.Prelude.{◌≡◌, ◌≤◌, take, OnOk, IfOk};
 ghost use Rattle.lfs_device.specs.Calls.{ReadsOnly};
@@ -13,11 +13,13 @@ use lfs_alloc::BlockMap;
 use lfs_ctz::{blocks_for, cut};
 use lfs_device::{BlockDevice, Error};
 
-/// Cuts a finished list to its first bytes, at least one. It shares their blocks; those behind them
-/// are in flight no more.
+/// Cuts a finished list to its first bytes, at least one. Both lists share their blocks. Later
+/// blocks are no longer in flight.
 ///
-/// There are at least so many bytes. It takes no memory, and writes nothing. `Error::Io` comes
-/// where the device failed.
+/// The caller's condition is that the list has at least so many bytes. The call takes no memory,
+/// and writes nothing.
+///
+/// Errors: `Io` where the device failed.
 pub(crate) fn cut_list<D: BlockDevice>(
     dev: &mut D,
     map: &mut BlockMap,

@@ -1,4 +1,4 @@
-// Lists in hand that are ended.
+// Ends of lists in hand.
 
 ghost use Rattle.std.specs.Prelude.{◌≡◌, ◌≤◌, ◌+◌, if◌then◌else◌, [], drop, length, true, OnOk, IfOk};
 ghost use Rattle.lfs_device.specs.Calls.{ReadsOnly};
@@ -22,7 +22,7 @@ use lfs_ctz::blocks_for;
 use lfs_device::{BlockDevice, Error};
 use std::alloc::Global;
 
-// Takes the blocks of a base from an index on out of flight, where it may have some there.
+// Releases the blocks of a base from an index on, where some may be in flight.
 pub(crate) fn release_base<D: BlockDevice>(
     dev: &mut D,
     map: &mut BlockMap,
@@ -46,11 +46,13 @@ pub(crate) fn release_base<D: BlockDevice>(
     Ok(())
 }
 
-/// Ends a list in hand: copies what its base still has, writes its last block, and takes the
-/// base's own blocks out of flight. The contents stay.
+/// Ends a list in hand: copies the remaining bytes of its base, writes its last block, and releases
+/// the base's own blocks. The contents stay.
 ///
-/// There are as many free blocks as the rest of the base takes. `Error::NoMemory` comes where there
-/// is no memory, `Error::Io` where the device failed.
+/// The caller's condition is that there are as many free blocks as the remaining bytes of the base
+/// take.
+///
+/// Errors: `NoMemory` where memory isn't granted. `Io` where the device failed.
 pub(crate) fn end_hand<D: BlockDevice>(
     alloc: Global,
     dev: &mut D,

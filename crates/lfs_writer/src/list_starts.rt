@@ -16,8 +16,9 @@ use std::alloc::Global;
 
 /// Begins a list with the first `keep` bytes of a finished one, over it. The contents stay.
 ///
-/// There are at least so many bytes. `Error::NoMemory` comes where there is no memory for a block,
-/// `Error::Io` where the device failed.
+/// The caller's condition is that the list has at least so many bytes.
+///
+/// Errors: `NoMemory` where memory for a block isn't granted. `Io` where the device failed.
 pub(crate) fn begin_over<D: BlockDevice>(
     alloc: Global,
     dev: &mut D,

@@ -25,8 +25,9 @@ use std::alloc::Global;
 /// Loads the first bytes of a finished list into the buffer of an extender, for contents that are
 /// kept in memory.
 ///
-/// There are at least so many, and fewer than a block has. `Error::NoMemory` comes where there is
-/// no memory for a block, `Error::Io` where the device failed.
+/// The caller's condition is that the list has at least so many bytes, and that a block has more.
+///
+/// Errors: `NoMemory` where memory for a block isn't granted. `Io` where the device failed.
 pub fn load<D: BlockDevice>(
     alloc: Global,
     dev: &mut D,
@@ -53,7 +54,7 @@ pub fn load<D: BlockDevice>(
     Ok(list)
 }
 
-/// Bytes that stand in memory alone as the beginning of a list, over no base.
+/// Makes bytes in memory alone the beginning of a list, over no base.
 pub(crate) fn over_none(list: Extender) -> Hand
     ensures begun { (map : BlockSets) (disk : Blocks) (now : Geometry) → IsQuiet map disk now list → IsAt map disk now result (length (held_bytes list)) (held_bytes list) }
     ensures base { (result.base.size ≡ 0) × (result.base.in_flight ≡ false) }
@@ -70,11 +71,12 @@ pub(crate) fn over_none(list: Extender) -> Hand
     }
 }
 
-/// Writes bytes, at least one, at a place of contents that were in memory and end before them: a
-/// list in hand, over no base, has them all.
+/// Writes bytes, at least one, at a place of contents that were in memory and end before them. A
+/// list in hand, over no base, then has all contents.
 ///
-/// There are as many free blocks as they take. `Error::NoMemory` comes where there is no memory,
-/// `Error::Io` where the device failed.
+/// The caller's condition is that there are as many free blocks as the bytes take.
+///
+/// Errors: `NoMemory` where memory isn't granted. `Io` where the device failed.
 pub(crate) fn write_out<D: BlockDevice>(
     alloc: Global,
     dev: &mut D,

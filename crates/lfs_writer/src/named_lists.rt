@@ -16,7 +16,7 @@ use lfs_alloc::BlockMap;
 use lfs_ctz::{blocks_for, head_before};
 use lfs_device::{BlockDevice, Error};
 
-// Makes a block used, whatever it was.
+// Makes a block used, whatever its state.
 fn use_one(map: &mut BlockMap, block: u32)
     requires { block < length map.old }
     ensures { Puts Used map.old map.new (block ∷ []) }
@@ -68,12 +68,14 @@ fn put_blocks<D: BlockDevice>(
     Ok(())
 }
 
-/// Settles a finished list once a commit names it: its blocks are used, and those that only the
-/// list before it had are free. Blocks that both lists have are used before.
+/// Settles a finished list after a commit that names it. Its blocks are used, and those that only
+/// the list before it had are free. Blocks that both lists have are used before.
 ///
-/// Either list may have no bytes, and then has no block. The blocks that they share at their
-/// beginnings aren't read, and each other one at most twice. After `Error::Io`, which comes where the
-/// device failed, the map is of no use any more for these blocks: the image is to be read anew.
+/// Either list may have no bytes, and then has no block. The blocks that both share at their
+/// beginnings aren't read, and each other one at most twice.
+///
+/// Errors: `Io` where the device failed. The map is of no use for these blocks then, and the image
+/// has to be read anew.
 pub fn settle_list<D: BlockDevice>(
     dev: &mut D,
     map: &mut BlockMap,

@@ -31,7 +31,7 @@ use lfs_ctz::Extender;
 use lfs_device::{BlockDevice, Error};
 use std::alloc::Global;
 
-// Fills contents that were in memory up with zeros, in a list in hand over no base.
+// Fills contents that were in memory with zeros up to a size, in a list in hand over no base.
 fn fill_out<D: BlockDevice>(
     alloc: Global,
     dev: &mut D,
@@ -86,7 +86,8 @@ fn truncate_held<D: BlockDevice>(
     Ok(Contents::InMemory(list))
 }
 
-// The first bytes of a finished list, filled up with zeros, whose blocks in flight are given up.
+// Cuts a finished list to its first bytes, which come into memory and are filled up with zeros.
+// Blocks in flight are released.
 fn take_back<D: BlockDevice>(
     alloc: Global,
     dev: &mut D,
@@ -108,7 +109,7 @@ fn take_back<D: BlockDevice>(
     Ok(list)
 }
 
-// Fills a finished list up with zeros, in a list in hand over it.
+// Fills a finished list with zeros up to a size, in a list in hand over it.
 fn fill_over<D: BlockDevice>(
     alloc: Global,
     dev: &mut D,
@@ -168,7 +169,7 @@ fn truncate_stored<D: BlockDevice>(
     Ok(Contents::Finished(cut))
 }
 
-// Fills contents in hand up with zeros.
+// Fills contents in hand with zeros up to a size.
 fn lengthen_hand<D: BlockDevice>(
     alloc: Global,
     dev: &mut D,
@@ -256,11 +257,13 @@ fn truncate_hand<D: BlockDevice>(
     Ok(cut)
 }
 
-/// Cuts contents to a size, or fills them up to it with zeros.
+/// Cuts contents to a size in bytes, or fills them up to it with zeros.
 ///
-/// Contents of at most `limit` bytes are kept in memory. Where the size changes there are as many
-/// free blocks as the form of the contents may want. The contents are gone after an error:
-/// `Error::Io` where the device failed, `Error::NoMemory` where there is no memory for a block.
+/// Contents of at most `limit` bytes are kept in memory. The caller's condition is that a change of
+/// the size finds as many free blocks as the form of the contents may take.
+///
+/// Errors: `Io` where the device failed. `NoMemory` where memory for a block isn't granted. After
+/// either the contents are dropped.
 pub fn truncate_contents<D: BlockDevice>(
     alloc: Global,
     dev: &mut D,

@@ -1,4 +1,4 @@
-// Lists in hand that turn to another place.
+// Lists in hand that continue at another place.
 
 ghost use Rattle.std.specs.Prelude.{◌≡◌, ◌≢◌, ◌≤◌, ◌<◌, ◌+◌, ◌*◌, ◌^◌, length, max, min, OnOk, IfOk};
 ghost use Rattle.lfs_model.specs.BlockSets.{used_count};
@@ -18,11 +18,13 @@ use lfs_alloc::BlockMap;
 use lfs_device::{BlockDevice, Error};
 use std::alloc::Global;
 
-/// A list in hand that ends at a place within the contents: this one, where it ends there, else
-/// another one over it. The contents stay.
+/// Returns a list in hand that ends at a place within the contents. This is the given list, where
+/// it ends there, else another one over it. The contents stay.
 ///
-/// Where it has to be ended there are as many free blocks as the rest of its base takes.
-/// `Error::NoMemory` comes where there is no memory, `Error::Io` where the device failed.
+/// The caller's condition is room where the list has to be ended: as many free blocks as the
+/// remaining bytes of its base take.
+///
+/// Errors: `NoMemory` where memory isn't granted. `Io` where the device failed.
 pub(crate) fn turn_to<D: BlockDevice>(
     alloc: Global,
     dev: &mut D,
@@ -51,8 +53,10 @@ pub(crate) fn turn_to<D: BlockDevice>(
 /// Writes bytes, at least one, at a place; zeros fill a gap between the contents' end and the
 /// place.
 ///
-/// There is room for the list in hand, and for a second one where it isn't gone on with.
-/// `Error::NoMemory` comes where there is no memory, `Error::Io` where the device failed.
+/// The caller's condition is that there is room for the list in hand, and for a second one where
+/// the write doesn't continue it.
+///
+/// Errors: `NoMemory` where memory isn't granted. `Io` where the device failed.
 pub(crate) fn write_turned<D: BlockDevice>(
     alloc: Global,
     dev: &mut D,

@@ -1,4 +1,4 @@
-// Blocks in flight that are given back.
+// Blocks in flight that are released.
 
 ghost use Rattle.std.specs.Prelude.{◌≡◌, ◌≤◌, ◌<◌, ◌∷◌, [], length, drop, OnOk};
 ghost use Rattle.lfs_device.specs.Calls.{ReadsOnly};
@@ -11,7 +11,7 @@ use lfs_alloc::BlockMap;
 use lfs_ctz::head_before;
 use lfs_device::{BlockDevice, Error};
 
-// Takes a block out of flight. A used one stays used.
+// Releases a block in flight. A used block stays used.
 pub(crate) fn release_one(map: &mut BlockMap, block: u32)
     requires { block < length map.old }
     ensures { Releases map.old map.new (block ∷ []) }
@@ -21,10 +21,11 @@ pub(crate) fn release_one(map: &mut BlockMap, block: u32)
     }
 }
 
-/// Takes the blocks of a list from an index on out of flight, the last one first. Used ones stay
-/// used.
+/// Releases the blocks of a list from an index on, the last one first. Used blocks stay used.
 ///
-/// The list has so many blocks, up to the head. `Error::Io` comes where the device failed.
+/// The list has so many blocks, up to the head.
+///
+/// Errors: `Io` where the device failed.
 pub(crate) fn release_from<D: BlockDevice>(
     dev: &mut D,
     map: &mut BlockMap,

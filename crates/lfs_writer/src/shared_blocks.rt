@@ -10,7 +10,7 @@ ghost use Rattle.lfs_writer.specs.Shared.{IsSharedCount, apart_count};
 use lfs_ctz::head_before;
 use lfs_device::{BlockDevice, Error};
 
-// The last one of the first `index` blocks of a list.
+// Returns the last one of the first `index` blocks of a list.
 fn back_to<D: BlockDevice>(dev: &mut D, head: u32, count: u32, index: u32) -> Result<u32, Error>
     requires chain { AreListBlocks (D.blocks dev.old) count head }
     requires within { index ≤ count }
@@ -28,9 +28,12 @@ fn back_to<D: BlockDevice>(dev: &mut D, head: u32, count: u32, index: u32) -> Re
     Ok(block)
 }
 
-/// How many blocks two lists share at their beginnings. Each list has so many blocks, up to its head.
+/// Returns how many blocks two lists share at their beginnings. Each list has so many blocks, up to
+/// its head.
 ///
-/// One read for each block that they don't share. `Error::Io` comes where the device failed.
+/// The call takes one read for each block that the lists don't share.
+///
+/// Errors: `Io` where the device failed.
 pub(crate) fn shared_count<D: BlockDevice>(
     dev: &mut D,
     head: u32,

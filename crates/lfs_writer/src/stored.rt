@@ -2,7 +2,7 @@
 
 /// A finished list: its last block and its size, and whether blocks of it may be in flight.
 ///
-/// One of no bytes has no block.
+/// A list of no bytes has no block.
 #[derive(Clone, Copy, Debug, PartialEq, Eq)]
 pub struct Stored {
     pub head: u32,

@@ -22,7 +22,7 @@ use std::alloc::Global;
 
 /// A list in hand, which has the first bytes, over a base, which has the others.
 ///
-/// They share their first `shared` blocks. A base of no bytes is none.
+/// Both share their first `shared` blocks. A base of no bytes is none.
 #[derive(Drop)]
 pub struct Hand {
     pub list: Extender,
@@ -32,8 +32,10 @@ pub struct Hand {
 
 /// Writes bytes, at least one, at the end of those in hand.
 ///
-/// There are as many free blocks as they take. After an error, which is `Error::Io` where the
-/// device failed or `Error::NoMemory`, the list in hand can only be dropped.
+/// The caller's condition is that there are as many free blocks as the bytes take.
+///
+/// Errors: `Io` where the device failed. `NoMemory` where memory isn't granted. After either the
+/// list in hand can only be dropped.
 pub(crate) fn write_on<D: BlockDevice>(
     alloc: Global,
     dev: &mut D,
@@ -57,11 +59,13 @@ pub(crate) fn write_on<D: BlockDevice>(
     Ok(())
 }
 
-/// Writes bytes, at least one, at a place where the list in hand ends, or behind the contents with
+/// Writes bytes, at least one, at a place where the list in hand ends, or after the contents with
 /// zeros between.
 ///
-/// There are as many free blocks as they take. After an error, which is `Error::Io` where the
-/// device failed or `Error::NoMemory`, the list in hand can only be dropped.
+/// The caller's condition is that there are as many free blocks as the bytes take.
+///
+/// Errors: `Io` where the device failed. `NoMemory` where memory isn't granted. After either the
+/// list in hand can only be dropped.
 pub(crate) fn write_from<D: BlockDevice>(
     alloc: Global,
     dev: &mut D,

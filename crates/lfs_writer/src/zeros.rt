@@ -19,8 +19,10 @@ use std::alloc::Global;
 
 /// Writes so many zeros at the end of the bytes in hand.
 ///
-/// There are as many free blocks as they take. After an error, which is `Error::Io` where the
-/// device failed or `Error::NoMemory`, the list in hand can only be dropped.
+/// The caller's condition is that there are as many free blocks as the zeros take.
+///
+/// Errors: `Io` where the device failed. `NoMemory` where memory isn't granted. After either the
+/// list in hand can only be dropped.
 pub(crate) fn write_zeros<D: BlockDevice>(
     alloc: Global,
     dev: &mut D,

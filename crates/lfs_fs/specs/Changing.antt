@@ -1,4 +1,4 @@
--- What calls of a writer ask of the tree, and what comes of them.
+-- What calls of a writer need of the tree, and what they do.
 use Rattle.std.specs.Prelude.{ℕ, ◌≡◌, ◌+◌, ◌^◌, ◌≤◌, ◌<◌, Bool, true, false, List, length, Option, Some, None, is_some}
 use Rattle.lfs_model.specs.TreeEdits.{is_file}
 use Rattle.lfs_model.specs.BlockSets.{in_flight_count}
@@ -17,7 +17,7 @@ use Rattle.lfs_fs.specs.Held.{IsWritten}
 use Rattle.lfs_fs.specs.declared.files.Unsaved.{Unsaved}
 use Rattle.lfs_fs.specs.declared.files.Writer.{Writer}
 
--- a file stands there, whose contents were changed so, or not
+-- a file is there, whose contents were changed so, or not
 pub record HasContents (t : TreeState) (path : Path) (unsaved : Option Unsaved) : Type 0 where
   pub works : t.failed ≡ false
   pub writable : t.writable ≡ true
@@ -30,7 +30,7 @@ abbrev pub IsFormOf : ℕ → Option Unsaved → ℕ → Form → Type 0
 IsFormOf block_size None size shape = IsOpenedForm block_size size shape
 IsFormOf block_size (Some u) size shape = shape ≡ form_of u.contents
 
--- The writer may be changed: the tree works, and no block is in flight but for the writer.
+-- The writer may be changed: the tree works, and no block is in flight but the writer's.
 pub record CanChange (t : TreeState) (w : Writer) : Type 0 where
   pub works : t.failed ≡ false
   pub written : IsWritten t w
@@ -77,7 +77,7 @@ pub record CanBegin (t : TreeState) (path : Path) (size : ℕ) (truncates : Bool
   pub sound : IsSound t
   pub idle : in_flight_count t.map ≡ 0
   pub there : size_of (tree_view t path) ≡ Some size
-  -- room for two blocks, where something is to be written anew
+  -- there is room for two blocks, where something is to be written anew
   pub room : truncates ≡ true → 1 ≤ size → length (around_of t).used + 2 ≤ block_count t.disk
 
 -- the writer is this one, and stays open

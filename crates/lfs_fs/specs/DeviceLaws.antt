@@ -1,4 +1,4 @@
--- What a session has of its device.
+-- What a session knows of its device.
 use Rattle.std.specs.Prelude.{◌≡◌, false}
 use Rattle.lfs_model.specs.History.{IsNewest}
 use Rattle.lfs_model.specs.Conformance.{AllConform}
@@ -6,12 +6,12 @@ use Rattle.lfs_tree.specs.TreeState.{TreeState}
 use Rattle.lfs_fs.specs.FileView.{OpenFiles}
 use Rattle.lfs_fs.specs.Held.{IsReady}
 
--- The newest call left the disk as it is, and each that didn't fail was carried out.
+-- The newest call left the disk as it is, and each call that didn't fail conforms.
 pub record MeetsDeviceLaws (t : TreeState) : Type 0 where
   pub newest : IsNewest t.history t.disk.blocks
   pub conforms : AllConform t.history
 
--- What a session that works keeps between its calls: it is ready for the next one, over a device that told of all its calls.
+-- What a session that works keeps between its calls: it is ready for the next one, and its device meets the laws of its calls.
 pub record IsBetweenCalls (t : TreeState) (files : OpenFiles) : Type 0 where
   pub ready : t.failed ≡ false → IsReady t files
   pub reported : t.failed ≡ false → MeetsDeviceLaws t

@@ -1,4 +1,4 @@
--- How a session's call ends: what an answer and an error tell of the session and of its device.
+-- How a session's call ends: what a reply and an error mean for the session and its device.
 use Rattle.std.specs.Prelude.{◌≡◌, true, false, Some, Result, Ok, is_err}
 use Rattle.lfs_device.specs.declared.error.Error.{Error}
 use Rattle.lfs_model.specs.Frame.{comes_at_once, takes_nothing}
@@ -9,8 +9,8 @@ use Rattle.lfs_model.specs.Session.{Session}
 use Rattle.lfs_model.specs.State.{Healthy, is_remount}
 use Rattle.lfs_fs.specs.Held.{Held, system_state_of, refused_by}
 
--- A session that has failed answers `Failed` to all but a remount. No fault of the device is behind an answer, a refusal among them.
--- What takes nothing is answered, and a refusal that comes at once leaves all as it is.
+-- A session that has failed replies `Failed` to all but a remount. A reply, a refusal among them, comes without a fault of the
+-- device. An operation that takes nothing gets a reply. A refusal that comes at once leaves all as it is.
 pub record EndsWell (old : Held) (op : Operation) (r : Result Reply Error) (new : Held) : Type 0 where
   pub failed : old.tree.failed ≡ true → is_remount op ≡ false → r ≡ Ok (ops.Refused Failed)
   pub no_fault : is_err r ≡ false → faults new.tree.history ≡ faults old.tree.history

@@ -15,7 +15,7 @@ use Rattle.lfs_fs.specs.declared.files.Unsaved.{Unsaved}
 use Rattle.lfs_fs.specs.declared.files.OpenFile.{OpenFile}
 use Rattle.lfs_fs.specs.declared.files.OpenFile.TheVariants as file
 
--- the open files by number, as they are kept
+-- the open files by number, as the code has them
 abbrev pub OpenFiles : Type 0
 OpenFiles = List (Option OpenFile)
 
@@ -112,7 +112,7 @@ moved_entry position (file.Writing w) = file.Writing (record w { position = posi
 abbrev pub held_for : ℕ → Bool → ℕ → ℕ
 held_for block_size turned size = 2 + (if turned then 2 else 1) * ctz_blocks block_size size
 
--- how many are held for a writer, by its size
+-- how many blocks are held for a writer, by its size
 abbrev pub held_by_size : ℕ → Writer → ℕ
 held_by_size block_size w = if is_none w.unsaved then 0 else held_for block_size (turned_in w.unsaved) w.size
 

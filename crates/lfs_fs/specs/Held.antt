@@ -1,4 +1,4 @@
--- What contracts see of a session, and how its calls answer.
+-- What contracts see of a session, and what its calls return.
 use Rattle.std.specs.Prelude.{ℕ, ◌+◌, ◌≤◌, nat_le, length, is_none, is_some, ◌≡◌, ◌≢◌, ◌<◌, ◌⊎◌, Bool, true, false, if◌then◌else◌, List, [], Option, Some, None, Result, Ok, Err}
 use Rattle.lfs_device.specs.declared.error.Error.{Error}
 use Rattle.lfs_device.specs.declared.error.Error.TheVariants.{Io, NoMemory, Corrupt}
@@ -44,8 +44,8 @@ held_with tree files = record { tree = tree; files = files }
 abbrev pub held_of : TreeState → OpenFiles → Held
 held_of tree files = held_with tree (files_view tree files)
 
--- Contents that were changed are those of the file's writer, in a form that fits what is said of it. They can be saved, and there
--- is room for what the writer holds.
+-- Changed contents are those of the file's writer, in a form that fits the writer. They can be saved, and there is room for the
+-- blocks that the writer holds.
 pub record IsChanged (t : TreeState) (w : Writer) (u : Unsaved) : Type 0 where
   pub over : IsOver t w.path u.contents
   pub kept : IsWriterForm t.disk.block_size (form_of u.contents) (writer_view t w)
@@ -56,7 +56,7 @@ abbrev pub IsUnsavedIn : TreeState → Writer → Option Unsaved → Type 0
 IsUnsavedIn t w None = Unit {0}
 IsUnsavedIn t w (Some u) = IsChanged t w u
 
--- The image of a file that is open for writing is at rest, and the file is in the tree.
+-- The image under a file that is open for writing has nothing to recover, and the file is in the tree.
 pub record IsWritten (t : TreeState) (w : Writer) : Type 0 where
   pub writable : t.writable ≡ true
   pub settled : gstate_of t.pairs ≡ no_gstate
@@ -64,7 +64,7 @@ pub record IsWritten (t : TreeState) (w : Writer) : Type 0 where
   pub size : length (bytes_of t w.path w.unsaved) ≡ w.size
   pub changed : IsUnsavedIn t w w.unsaved
 
--- What a reader keeps are the contents of the entry at its path, and no writer is at that path.
+-- A reader's contents are those of the entry at its path, and no writer is at that path.
 pub record IsRead (ps : List Pair) (written : List Path) (r : Reader) : Type 0 where
   pub contents : AreContentsAt ps r.path r.contents
   pub apart : list_any (same_path r.path) written ≡ false
@@ -73,8 +73,8 @@ pub record IsRead (ps : List Pair) (written : List Path) (r : Reader) : Type 0 w
 abbrev pub AreRead : List Pair → OpenFiles → Type 0
 AreRead ps files = AllByRecursion (IsRead ps (written_paths files)) (readers_in files)
 
--- What a session keeps of a tree that works: it is the disk's, whose device has had a call, and blocks are in flight only where
--- a writer changed something.
+-- What a session keeps of a tree that works: the tree is the disk's, whose device has had a call. Blocks are in flight only where
+-- a writer has changes.
 pub record IsReady (t : TreeState) (files : OpenFiles) : Type 0 where
   pub sound : IsSound t
   pub called : t.history ≢ []
@@ -93,14 +93,14 @@ system_state_of h = record {
   state = if h.tree.failed then HasFailed else Healthy (session_of h);
 }
 
--- The session fails in an operation by that error. Only a remount answers `Corrupt`, and then the disk isn't accepted.
+-- The session fails in an operation by that error. Only a remount fails with `Corrupt`, and then the disk isn't accepted.
 pub record FailsBy (e : Error) (from : SystemState) (op : Operation) (to : SystemState) : Type 0 where
   pub fails : Fails from op to
   pub errors : (e ≡ Io) ⊎ ((e ≡ NoMemory) ⊎ ((e ≡ Corrupt) × (is_remount op ≡ true) × Shows from.disk None))
   pub fault : e ≡ Io → faults from.calls < faults to.calls
   pub no_fault : e ≢ Io → faults to.calls ≡ faults from.calls
 
--- The call is an operation's turn with that reply. Where an error takes the reply's place, the session has failed by it.
+-- The call is a session step with that reply. Where an error takes the reply's place, the session has failed by it.
 abbrev pub Answers : Held → Operation → Result Reply Error → Held → Type 0
 Answers old op (Ok reply) new = IsSessionStep (system_state_of old) op reply (system_state_of new)
 Answers old op (Err e) new = FailsBy e (system_state_of old) op (system_state_of new)
@@ -115,7 +115,7 @@ pub record IsEndedBy (e : Error) (from : SystemState) (operations : List Operati
 abbrev pub refused_by : Held → Operation → Option Refusal
 refused_by h op = if h.tree.failed then Some Failed else refusal_of (around_of h.tree) (session_of h) op
 
--- no check refuses it of those that ask nothing
+-- no check refuses the operation, of those that make no call
 abbrev pub ComesLate : Held → Operation → Type 0
 ComesLate h op = (r : Refusal) → refused_by h op ≡ Some r → comes_at_once op r ≡ false
 
@@ -124,7 +124,7 @@ abbrev pub EndsChecks : Bool → Held → Operation → Error → TreeState → 
 EndsChecks true h op e tree = IsAsked h.tree tree × (refused_by h op ≡ Some (refusal_in e)) × (comes_at_once op (refusal_in e) ≡ true → tree ≡ h.tree)
 EndsChecks false h op e tree = IsBrokenAsking h.tree tree × (h.tree.failed ≡ false) × IsError h.tree tree e × ComesLate h op
 
--- An operation's checks by reads alone: it passes, and then the value has P; or it is refused; or a read failed.
+-- An operation's checks by reads alone. The operation passes, and then the value has P; or it is refused; or a read failed.
 abbrev pub Checks : {A : Type 0} → Held → Operation → (A → Type 0) → Result A Error → TreeState → Type 0
 Checks h op P (Ok a) tree = IsAsked h.tree tree × (refused_by h op ≡ None) × P a
 Checks h op P (Err e) tree = EndsChecks (is_refusal e) h op e tree
@@ -146,7 +146,7 @@ pub record IsReadableAs (t : TreeState) (files : Files) (bytes : List ℕ) (kept
   pub readable : IsReadable (tree_view t) files bytes
   pub contents : AreContentsAt t.pairs (as_path bytes) kept
 
--- what is found where a file may be opened for writing
+-- a file that may be opened for writing
 pub record IsOpening (t : Tree) (bytes : List ℕ) (found : Opening) : Type 0 where
   pub path : found.path ≡ as_path bytes
   pub size : size_of (t found.path) ≡ found.size

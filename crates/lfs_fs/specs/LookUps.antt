@@ -18,10 +18,10 @@ AddsFew old op new = reads new.history ≤ reads old.history + sum_by (pairs_of_
 abbrev pub AddsNone : TreeState → Operation → TreeState → Type 0
 AddsNone old op new = HasCached old (searched op) → reads new.history ≡ reads old.history
 
--- the same, of the calls that came
+-- the same, of the calls since then
 abbrev pub ReadsNoneIn : TreeState → Operation → TreeState → Type 0
 ReadsNoneIn old op new = HasCached old (searched op) → (calls : List Event) → new.history ≡ calls ++ old.history → reads calls ≡ 0
 
--- at most eight directories of one pair each are cached once they were searched
+-- at most eight directories of one pair each are cached after a search
 abbrev pub LeavesCachedBeneath : {A : Type 0} → TreeState → Operation → Result A Error → TreeState → Type 0
 LeavesCachedBeneath old op result new = AreSmall old.pairs (searched op) → OnOk result (HasCached new (searched op))

@@ -6,14 +6,14 @@ use Rattle.lfs_model.specs.Refusals.{as_path}
 use Rattle.lfs_model.specs.Tree.{Path}
 use Rattle.lfs_fs.specs.declared.rename_checks.Renaming.{Renaming}
 
--- the second bytes begin with the first, and end there or go on with a slash
+-- the second bytes begin with the first, and end there or continue with a slash
 abbrev pub goes_on : List ℕ → List ℕ → Bool
 goes_on [] [] = true
 goes_on [] (b ∷ ys) = b == slash
 goes_on (a ∷ xs) [] = false
 goes_on (a ∷ xs) (b ∷ ys) = (a == b) && goes_on xs ys
 
--- a file that is open there is in the way of a rename from the one path to the other
+-- an open file at that path prevents a rename from the one path to the other
 abbrev pub is_in_the_way : Path → Path → Path → Bool
 is_in_the_way from to p = is_some (rest_after from p) || same_path to p
 

@@ -1,13 +1,13 @@
--- An attribute that comes in place of another one.
+-- An attribute that replaces another one.
 use Rattle.std.specs.Prelude.{ℕ, ◌+◌, ◌≤◌, ◌<◌, ◌^◌, Option, Vec, length}
 use Rattle.std.specs.Option.{option_map_or}
 use Rattle.std.specs.declared.alloc.Global.{Global}
 
--- how many bytes of its pair it takes
+-- how many bytes of its pair an attribute takes
 abbrev pub replaced_size : Option (Vec ℕ Global) → ℕ
 replaced_size replaced = option_map_or (λ v. 4 + length v.items) replaced 0
 
--- it is one of those that take so many bytes
+-- the attribute is one of those that take so many bytes
 pub record CanReplace (size : ℕ) (replaced : Option (Vec ℕ Global)) (len : ℕ) : Type 0 where
   pub small : size < 2 ^ 32
   pub short : len < 2 ^ 63

@@ -1,4 +1,5 @@
--- What a session's call promises: how it answers and ends, what a loss of power leaves, which blocks it leaves alone, how many reads it takes.
+-- What a session's call promises: how it replies and ends, what a loss of power leaves, which blocks it leaves alone, and how
+-- many reads it takes.
 use Rattle.std.specs.Prelude.{ℕ, ◌≡◌, true, false, List, Result, Ok, is_err}
 use Rattle.lfs_device.specs.declared.error.Error.{Error}
 use Rattle.lfs_model.specs.Frame.{LeavesAlone, is_kept, looks_up, searched}
@@ -18,17 +19,17 @@ use Rattle.lfs_fs.specs.Ending.{EndsWell}
 use Rattle.lfs_fs.specs.Held.{Answers, Held, system_state_of}
 use Rattle.lfs_fs.specs.LookUps.{ReadsNoneIn}
 
--- where nothing was to be recovered, it left alone what it isn't about
+-- where nothing was to recover, the operation left alone what it isn't about
 abbrev pub LeavesOthers : SystemState → Operation → SystemState → Type 0
 LeavesOthers from op to = (s : Session) → from.state ≡ Healthy s → (ps qs : List Pair) → IsAccepted from.disk ps → IsAccepted to.disk qs → gstate_of ps ≡ no_gstate
     → LeavesAlone from.disk ps s op to.disk qs
 
--- behind an accepted stat the directories that it searched are cached, if they are small
+-- after an accepted stat the directories that it searched are cached, if they are small
 abbrev pub LeavesCached : Operation → Result Reply Error → Held → Type 0
 LeavesCached op r new = (path : List ℕ) (reply : Reply) → op ≡ ops.Stat path → r ≡ Ok reply → is_refusal reply ≡ false → (s : Session) → (system_state_of new).state ≡ Healthy s → (ps : List Pair) → IsAccepted new.tree.disk ps
     → AreSmall ps (searched op) → HasCached new.tree (searched op)
 
--- How a call asks the device: not at all where what is kept tells the answer, seldom in a look-up.
+-- How often a call reads: never where the session has the reply, seldom in a look-up.
 pub record AsksSeldom (old : Held) (op : Operation) (r : Result Reply Error) (new : Held) : Type 0 where
   pub asked : is_kept op ≡ true → new ≡ old
   pub few : AsksFew (system_state_of old) op (system_state_of new)

@@ -27,6 +27,6 @@ pub record AreLeft (old new : TreeState) (files : OpenFiles) : Type 0 where
   pub ready : IsReady new files
   pub same : files_view old files ≡ files_view new files
 
--- what the tree carries out leaves them
+-- an operation that the tree applies leaves them
 abbrev pub FilesStay : Type 0
 FilesStay = (old new : TreeState) (op : Operation) (files : OpenFiles) → IsReady old files → SparesFiles old op files → KeepsWriters old new (writers_in files) → IsAppliedOn old op new → AreLeft old new files

@@ -1,4 +1,4 @@
-// Checks in order: the first that refuses decides.
+// Checks in order: the first that fails decides.
 
 ghost use Rattle.std.specs.Prelude.{◌≡◌, ◌&&◌};
 ghost use Rattle.lfs_model.specs.Session.{first_of};
@@ -7,7 +7,7 @@ ghost use Rattle.lfs_fs.specs.Replies.{passed_with};
 use lfs_device::Error;
 use lfs_lookup::Refusal;
 
-// The first check that refuses.
+// Returns the refusal of the first check that fails.
 fn first_of(checks: &[Option<Refusal>]) -> Option<Refusal>
     ensures { result ≡ first_of checks.now }
 {
@@ -19,7 +19,7 @@ fn first_of(checks: &[Option<Refusal>]) -> Option<Refusal>
     None
 }
 
-// The value, unless a check refuses.
+// Returns the value, unless a check fails.
 pub(crate) fn passed<T: Drop>(checks: &[Option<Refusal>], value: T) -> Result<T, Error>
     ensures { result ≡ passed_with (first_of checks.now) value }
 {
@@ -29,7 +29,7 @@ pub(crate) fn passed<T: Drop>(checks: &[Option<Refusal>], value: T) -> Result<T,
     }
 }
 
-// Whether both hold.
+// Returns whether both hold.
 pub(crate) fn both(first: bool, second: bool) -> bool
     ensures { result ≡ (first && second) }
 {

@@ -28,7 +28,7 @@ use lfs_tag::Superblock;
 use lfs_tree::Tree;
 use std::alloc::Global;
 
-// Whether a new entry with a name of that length takes too much of its pair.
+// Returns whether a new entry with a name of that length takes too much of its pair.
 fn is_overcharged<D: BlockDevice>(tree: &Tree<D>, name_len: usize) -> bool
     requires { name_len < 2 ^ 63 }
     ensures { (name : List ℕ) → length name ≡ name_len → result ≡ is_overcharged (around_of tree.now) name [] }
@@ -36,8 +36,8 @@ fn is_overcharged<D: BlockDevice>(tree: &Tree<D>, name_len: usize) -> bool
     is_overcharged_with(tree, name_len, 0)
 }
 
-// Whether an entry with a name of that length, whose attributes take so many bytes, takes too much
-// of its pair.
+// Returns whether an entry takes too much of its pair, by the length of its name and the size of
+// its attributes.
 pub(crate) fn is_overcharged_with<D: BlockDevice>(
     tree: &Tree<D>,
     name_len: usize,
@@ -51,7 +51,7 @@ pub(crate) fn is_overcharged_with<D: BlockDevice>(
     u64::from(geometry.entry_limit()) < entry.saturating_add(attributes_len as u64)
 }
 
-// Whether fewer blocks than that are free.
+// Returns whether fewer blocks than that are free.
 pub(crate) fn lacks<D: BlockDevice>(tree: &Tree<D>, files: &Files, need: u32) -> bool
     requires works { tree.now.failed ≡ false }
     requires small { need < 16 }
@@ -61,7 +61,7 @@ pub(crate) fn lacks<D: BlockDevice>(tree: &Tree<D>, files: &Files, need: u32) ->
     (tree.geometry().block_count as u64) < tree.used_count() as u64 + held + need as u64
 }
 
-/// A file's size, or None for a directory.
+/// Returns a file's size in bytes, or None for a directory, where no check refuses the path.
 pub fn check_stat<D: BlockDevice>(
     alloc: Global,
     tree: &mut Tree<D>,
@@ -87,7 +87,7 @@ pub fn check_stat<D: BlockDevice>(
     passed(&checks, found.node.size())
 }
 
-/// The path at which a directory may be made.
+/// Returns the path at which a directory may be made, where no check refuses it.
 pub fn check_mkdir<'a, D: BlockDevice>(
     alloc: Global,
     tree: &mut Tree<D>,
@@ -120,7 +120,7 @@ pub fn check_mkdir<'a, D: BlockDevice>(
     passed(&checks, path)
 }
 
-/// Whether the open file of that number may stand at the position.
+/// Checks whether the open file of that number may have the position.
 pub fn check_seek<D: BlockDevice>(
     tree: &Tree<D>,
     files: &Files,
@@ -141,7 +141,7 @@ pub fn check_seek<D: BlockDevice>(
     Ok(())
 }
 
-/// The contents of a file that may be opened for reading.
+/// Returns the contents of a file that may be opened for reading, where no check refuses it.
 pub fn check_open_reader<D: BlockDevice>(
     alloc: Global,
     tree: &mut Tree<D>,
@@ -173,7 +173,7 @@ pub fn check_open_reader<D: BlockDevice>(
     passed(&checks, contents.unwrap_or(none))
 }
 
-/// What is found where a file may be opened for writing.
+/// A file that may be opened for writing.
 #[derive(Drop)]
 pub struct Opening<'a> {
     pub path: Path<'a>,
@@ -181,7 +181,7 @@ pub struct Opening<'a> {
     pub size: Option<u32>,
 }
 
-// Whether there is no room to write a file of that size anew.
+// Returns whether there is no room to write a file of that size anew.
 fn overfills_anew<D: BlockDevice>(tree: &Tree<D>, size: Option<u32>) -> bool
     requires { tree.now.failed ≡ false }
     ensures { result ≡ nat_lt (block_count tree.now.disk) (length (around_of tree.now).used + (if nat_lt 0 (unwrap_or size 0) then 2 else 0)) }
@@ -190,7 +190,7 @@ fn overfills_anew<D: BlockDevice>(tree: &Tree<D>, size: Option<u32>) -> bool
     (tree.geometry().block_count as u64) < tree.used_count() as u64 + need
 }
 
-/// Whether a file may be opened for writing.
+/// Checks whether a file may be opened for writing.
 pub fn check_open_writer<'a, D: BlockDevice>(
     alloc: Global,
     tree: &mut Tree<D>,
@@ -243,7 +243,7 @@ pub fn check_open_writer<'a, D: BlockDevice>(
     passed(&checks, Opening { path, size })
 }
 
-// The path of these bytes, if it is well formed and isn't the root's.
+// Returns the path of these bytes, if it is well formed and isn't the root's.
 pub(crate) fn parse_entry<'a>(bytes: &'a [u8]) -> Option<Path<'a>>
     ensures { result ≡ entry_path bytes.now }
 {
@@ -254,7 +254,7 @@ pub(crate) fn parse_entry<'a>(bytes: &'a [u8]) -> Option<Path<'a>>
     }
 }
 
-/// What stands in a directory, in name order.
+/// Returns the entries of a directory, in name order, where no check refuses the path.
 pub fn check_list<D: BlockDevice>(
     alloc: Global,
     tree: &mut Tree<D>,
@@ -281,7 +281,7 @@ pub fn check_list<D: BlockDevice>(
     passed(&checks, listing.items)
 }
 
-/// An attribute's bytes.
+/// Returns an attribute's bytes, where no check refuses the path.
 pub fn check_get_attr<D: BlockDevice>(
     alloc: Global,
     tree: &mut Tree<D>,
@@ -308,7 +308,7 @@ pub fn check_get_attr<D: BlockDevice>(
     passed(&checks, found.bytes.unwrap_or(Vec::new(alloc)))
 }
 
-/// The path of an entry that has the attribute.
+/// Returns the path of an entry that has the attribute, where no check refuses it.
 pub fn check_remove_attr<'a, D: BlockDevice>(
     alloc: Global,
     tree: &mut Tree<D>,
@@ -336,7 +336,8 @@ pub fn check_remove_attr<'a, D: BlockDevice>(
     passed(&checks, path)
 }
 
-/// The path of a file, or of a directory without entries, that isn't open.
+/// Returns the path of a file, or of a directory without entries, that isn't open, where no check
+/// refuses it.
 pub fn check_remove<'a, D: BlockDevice>(
     alloc: Global,
     tree: &mut Tree<D>,
@@ -364,7 +365,7 @@ pub fn check_remove<'a, D: BlockDevice>(
     passed(&checks, path)
 }
 
-// How many bytes attributes take that took so many, with one of that length in place of another.
+// Returns how many bytes attributes take after one of them was replaced by another of that length.
 fn size_with(taken: usize, replaced: &Option<Vec<u8>>, len: usize) -> usize
     requires { CanReplace taken replaced.now len }
     ensures { result + replaced_size replaced.now ≡ taken + (4 + len) }
@@ -376,7 +377,7 @@ fn size_with(taken: usize, replaced: &Option<Vec<u8>>, len: usize) -> usize
     taken + (4 + len) - gone
 }
 
-/// The path of an entry that takes the attribute.
+/// Returns the path of an entry that takes the attribute, where no check refuses it.
 pub fn check_set_attr<'a, D: BlockDevice>(
     alloc: Global,
     tree: &mut Tree<D>,
@@ -413,7 +414,7 @@ pub fn check_set_attr<'a, D: BlockDevice>(
     passed(&checks, path)
 }
 
-// Whether there is no room for what a writer would hold.
+// Returns whether there is no room for the blocks that a writer would hold.
 fn overfills<D: BlockDevice>(tree: &Tree<D>, has_turned: bool, size: u32) -> bool
     requires { tree.now.failed ≡ false }
     ensures { result ≡ nat_lt (block_count tree.now.disk) (length (around_of tree.now).used + held_for tree.now.disk.block_size has_turned size) }
@@ -422,7 +423,7 @@ fn overfills<D: BlockDevice>(tree: &Tree<D>, has_turned: bool, size: u32) -> boo
     (tree.geometry().block_count as u64) < tree.used_count() as u64 + held
 }
 
-/// Whether the bytes may be written by the writer of that number.
+/// Checks whether the writer of that number may write the bytes.
 pub fn check_write<D: BlockDevice>(
     tree: &Tree<D>,
     files: &Files,
@@ -452,7 +453,7 @@ pub fn check_write<D: BlockDevice>(
     Ok(())
 }
 
-/// Whether the writer of that number may have so many bytes.
+/// Checks whether the writer of that number may have so many bytes.
 pub fn check_truncate<D: BlockDevice>(
     tree: &Tree<D>,
     files: &Files,
@@ -477,7 +478,7 @@ pub fn check_truncate<D: BlockDevice>(
     Ok(())
 }
 
-/// Whether a file is open under the number.
+/// Checks whether a file is open under the number.
 pub fn check_open<D: BlockDevice>(tree: &Tree<D>, files: &Files, fd: u32) -> Result<(), Error>
     ensures { ChecksKept (held_of tree.now files.now) (ops.Close fd) (λ _. is_some (entry_of files.now fd) ≡ true) result }
 {
@@ -490,7 +491,7 @@ pub fn check_open<D: BlockDevice>(tree: &Tree<D>, files: &Files, fd: u32) -> Res
     Ok(())
 }
 
-/// Whether a file is open under the number, for a sync.
+/// Checks whether a file is open under the number, for a sync.
 pub fn check_sync<D: BlockDevice>(tree: &Tree<D>, files: &Files, fd: u32) -> Result<(), Error>
     ensures { ChecksKept (held_of tree.now files.now) (ops.Sync fd) (λ _. is_some (entry_of files.now fd) ≡ true) result }
 {

@@ -1,11 +1,12 @@
-// What a device tells of its calls.
+// What a session knows of its device.
 
 ghost use Rattle.lfs_fs.specs.DeviceLaws.{MeetsDeviceLaws};
 
 use lfs_device::BlockDevice;
 use lfs_tree::Tree;
 
-// Nothing is done. The tree's device tells what its newest call left.
+// Shows a proof that the tree's device meets the laws of its calls. The call does nothing at run
+// time.
 pub(crate) fn device_meets_laws<D: BlockDevice>(tree: &Tree<D>)
     ensures { MeetsDeviceLaws tree.now }
 {

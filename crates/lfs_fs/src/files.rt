@@ -25,7 +25,7 @@ use std::marker::Model;
 pub struct Reader {
     pub path: OwnedPath,
     pub position: u32,
-    /// Those that the file's entry has for as long as it is open.
+    /// The contents of the file's entry, which stay as long as the file is open.
     pub contents: FileContents,
 }
 
@@ -34,11 +34,11 @@ pub struct Reader {
 pub struct Writer {
     pub path: OwnedPath,
     pub position: u32,
-    /// How many bytes its contents have.
+    /// The length of the contents in bytes.
     pub size: u32,
-    /// Whether it writes at its end only.
+    /// Whether the writer writes at the end only.
     pub appends: bool,
-    /// What isn't in the tree yet. None where the contents are those of the file.
+    /// The changes that aren't in the tree yet. None where the contents are those of the file.
     pub unsaved: Option<Unsaved>,
 }
 
@@ -46,9 +46,10 @@ pub struct Writer {
 #[derive(Drop)]
 pub struct Unsaved {
     pub contents: Contents,
-    /// Whether a change began elsewhere than where the last one ended.
+    /// Whether a change began elsewhere than at the end of the last one. The writer is then
+    /// nonsequential.
     pub has_turned: bool,
-    /// Where the last change ended.
+    /// Where the last change ended, in bytes from the beginning.
     pub last_end: Option<u32>,
 }
 
@@ -59,7 +60,7 @@ pub enum OpenFile {
 }
 
 impl Writer {
-    /// Where it writes next.
+    /// Returns where the next write begins.
     pub fn place(&self) -> u32
         ensures { result ≡ (if self.now.appends then self.now.size else self.now.position) }
     {
@@ -70,7 +71,7 @@ impl Writer {
         }
     }
 
-    /// Whether a change from there on begins elsewhere than where the last one ended, or one did before.
+    /// Returns whether the writer is nonsequential after a change that begins there.
     pub fn has_turned_at(&self, begin: u32) -> bool
         ensures { result ≡ (turned_in self.now.unsaved || turns (end_in self.now.unsaved) begin) }
     {
@@ -80,8 +81,7 @@ impl Writer {
         }
     }
 
-    /// Whether a change began elsewhere than where the last one ended, once its contents get another
-    /// size.
+    /// Returns whether the writer is nonsequential after its contents get another size.
     pub fn has_turned_by_size(&self) -> bool
         ensures { result ≡ (turned_in self.now.unsaved || is_some (end_in self.now.unsaved)) }
     {
@@ -91,7 +91,7 @@ impl Writer {
         }
     }
 
-    /// Where the last change ended, once its contents get that size.
+    /// Returns where the last change ends after the contents get that size.
     pub fn end_by_size(&self, new_size: u32) -> Option<u32>
         ensures { result ≡ (if nat_lt self.now.size new_size then Some new_size else end_in self.now.unsaved) }
     {
@@ -101,7 +101,7 @@ impl Writer {
         }
     }
 
-    // How many blocks are held for it.
+    // Returns how many blocks are held for the writer.
     fn held(&self, geometry: Geometry) -> u64
         ensures held { result ≡ held_by_size geometry.block_size self.now }
         ensures few { result < 2 ^ 34 }
@@ -132,7 +132,7 @@ fn is_elsewhere(last_end: Option<u32>, begin: u32) -> bool
     }
 }
 
-/// The open files by number: readers, 16 at most, and a writer at most.
+/// The open files by number: at most 16 readers, and at most one writer.
 #[derive(Drop)]
 pub struct Files {
     entries: Vec<Option<OpenFile>>,
@@ -158,7 +158,7 @@ impl Files {
         }
     }
 
-    // How many blocks the open writer holds.
+    // Returns how many blocks the open writer holds.
     pub(crate) fn held(&self, geometry: Geometry) -> u64
         ensures held { result ≡ held_by_all geometry.block_size self.now }
         ensures few { result < 2 ^ 34 }
@@ -166,8 +166,7 @@ impl Files {
         held_among(&self.entries, geometry)
     }
 
-    // Whether a writer of that path is in the way of a reader, or there are as many readers as may
-    // be.
+    // Returns whether a writer of that path prevents a reader, or whether 16 readers are open.
     pub(crate) fn is_busy_for_reading(&self, path: &[u8]) -> bool
         requires { is_some (path_of path.now) ≡ true }
         ensures { result ≡ (list_any (λ w. same_path (as_path path.now) w.path) (writers_in self.now) || nat_le 16 (length (readers_in self.now))) }
@@ -177,6 +176,8 @@ impl Files {
 
     /// Opens a reader at the path, at the beginning of its contents, under the least number that is
     /// free.
+    ///
+    /// Errors: `NoMemory` where memory for the file isn't granted.
     pub fn add_reader(
         &mut self,
         alloc: Global,
@@ -200,7 +201,7 @@ impl Files {
         Ok(number as u32)
     }
 
-    /// The reader of that number.
+    /// Borrows the reader of that number.
     pub fn reader(&self, fd: u32) -> Option<&Reader>
         ensures { option_map (λ r. r.now) result ≡ reader_in (entry_of self.now fd) }
     {
@@ -210,7 +211,7 @@ impl Files {
         }
     }
 
-    // The writer of that number.
+    // Borrows the writer of that number.
     pub(crate) fn writer(&self, fd: u32) -> Option<&Writer>
         ensures { option_map (λ w. w.now) result ≡ writer_in (entry_of self.now fd) }
     {
@@ -220,14 +221,14 @@ impl Files {
         }
     }
 
-    // Whether a file is open for writing.
+    // Returns whether a file is open for writing.
     pub(crate) fn is_writing(&self) -> bool
         ensures { result ≡ nat_lt 0 (length (writers_in self.now)) }
     {
         is_writing(&self.entries)
     }
 
-    // Whether another writer, or a file that is open at that path, is in the way of a writer.
+    // Returns whether another writer, or an open file at that path, prevents a writer.
     pub(crate) fn is_busy_for_writing(&self, path: &[u8]) -> bool
         requires { is_some (path_of path.now) ≡ true }
         ensures { (t : TreeState) → result ≡ (nat_lt 0 (length (writers_in self.now)) || is_open_at (same_path (as_path path.now)) (files_view t self.now)) }
@@ -235,7 +236,7 @@ impl Files {
         self.is_writing() || self.is_open_at(path)
     }
 
-    /// Makes room for one more open file, and says under which number: the least that is free.
+    /// Makes room for one more open file. Returns its number: the least that is free.
     pub fn make_room(&mut self) -> Result<u32, Error>
         requires { writers_in self.old ≡ [] }
         ensures number { IfOk result (λ fd. fd ≡ free_entry self.old) }
@@ -248,7 +249,7 @@ impl Files {
         Ok(number as u32)
     }
 
-    /// Takes an open file out, and leaves its number free.
+    /// Takes an open file out of the table. Its number is free afterwards.
     pub fn take(&mut self, fd: u32) -> Option<OpenFile>
         requires { is_some (entry_of self.old fd) ≡ true }
         ensures file { result ≡ entry_of self.old fd }
@@ -276,7 +277,7 @@ impl Files {
         }
     }
 
-    /// Whether the file of that number has changes that aren't in the tree.
+    /// Returns whether the file of that number has changes that aren't in the tree.
     pub fn is_unsaved_at(&self, fd: u32) -> bool
         ensures { result ≡ is_unsaved_entry (entry_of self.now fd) }
     {
@@ -286,7 +287,7 @@ impl Files {
         }
     }
 
-    /// Whether a writer has that number, and contents of that size.
+    /// Returns whether a writer has that number, and contents of that size.
     pub fn has_size(&self, fd: u32, size: u32) -> bool
         ensures { (w : _) → writer_in (entry_of self.now fd) ≡ Some w → result ≡ (size == w.size) }
     {
@@ -296,7 +297,7 @@ impl Files {
         }
     }
 
-    // Whether a file is open at the path of these bytes.
+    // Returns whether a file is open at the path of these bytes.
     pub(crate) fn is_open_at(&self, path: &[u8]) -> bool
         requires { is_some (path_of path.now) ≡ true }
         ensures { (t : TreeState) → result ≡ is_open_at (same_path (as_path path.now)) (files_view t self.now) }
@@ -304,7 +305,8 @@ impl Files {
         is_open_among(&self.entries, path)
     }
 
-    // Whether a file is open at the first path, an entry's, or beneath it, or at the second.
+    // Returns whether an open file prevents a rename: one at the first path, which is an entry's,
+    // or beneath it, or one at the second path.
     pub(crate) fn is_in_the_way(&self, from: &[u8], to: &[u8]) -> bool
         requires entry { bad_entry (path_of from.now) ≡ false }
         requires given { is_some (path_of to.now) ≡ true }
@@ -374,7 +376,7 @@ fn close_in(entries: &mut Vec<Option<OpenFile>>, index: usize)
     entries[index] = None;
 }
 
-// How many blocks the writer holds, of which there is one at most.
+// Returns how many blocks the writer holds, of which there is one at most.
 fn held_among(entries: &[Option<OpenFile>], geometry: Geometry) -> u64
     requires { length (writers_in entries.now) ≤ 1 }
     ensures held { result ≡ held_by_all geometry.block_size entries.now }
@@ -388,7 +390,7 @@ fn held_among(entries: &[Option<OpenFile>], geometry: Geometry) -> u64
     0
 }
 
-// How many blocks are held for contents of so many bytes that were changed.
+// Returns how many blocks are held for changed contents of so many bytes.
 pub(crate) fn held_for(geometry: Geometry, has_turned: bool, size: u32) -> u64
     ensures held { result ≡ held_for geometry.block_size has_turned size }
     ensures few { result < 2 ^ 34 }
@@ -424,7 +426,7 @@ fn is_writing(entries: &[Option<OpenFile>]) -> bool
     false
 }
 
-// Whether a writer is open at the path of these bytes.
+// Returns whether a writer is open at the path of these bytes.
 fn is_written_among(entries: &[Option<OpenFile>], path: &[u8]) -> bool
     requires { is_some (path_of path.now) ≡ true }
     ensures { result ≡ list_any (λ w. same_path (as_path path.now) w.path) (writers_in entries.now) }
@@ -470,7 +472,7 @@ fn is_file_at(entry: &Option<OpenFile>, path: &[u8]) -> bool
     }
 }
 
-// How many readers are open.
+// Returns how many readers are open.
 fn reader_count(entries: &[Option<OpenFile>]) -> usize
     ensures { result ≡ length (readers_in entries.now) }
 {
@@ -489,7 +491,7 @@ fn is_reader(entry: &Option<OpenFile>) -> bool
     matches!(entry, Some(OpenFile::Reading(_)))
 }
 
-// The least number that isn't open.
+// Returns the least number that isn't open.
 fn free_number(entries: &[Option<OpenFile>]) -> usize
     ensures { result ≡ free_entry entries.now }
 {
@@ -503,7 +505,7 @@ fn free_number(entries: &[Option<OpenFile>]) -> usize
     number
 }
 
-// Puts an entry under a number, the next one at most.
+// Puts an entry under a number, which is the next one at most.
 fn put(
     entries: &mut Vec<Option<OpenFile>>,
     number: usize,
@@ -526,7 +528,8 @@ fn put(
     }
 }
 
-// Whether a file is open at the first path, an entry's, or beneath it, or at the second.
+// Returns whether an open file prevents a rename: one at the first path, which is an entry's, or
+// beneath it, or one at the second path.
 fn is_in_the_way_among(entries: &[Option<OpenFile>], from: &[u8], to: &[u8]) -> bool
     requires entry { bad_entry (path_of from.now) ≡ false }
     requires given { is_some (path_of to.now) ≡ true }

@@ -1,4 +1,4 @@
-// The global state, as it is answered.
+// The global state, as a caller gets it.
 
 ghost use Rattle.std.specs.Prelude.{◌≡◌};
 ghost use Rattle.lfs_tag.specs.FieldsView.{move_view};
@@ -10,9 +10,10 @@ use lfs_tag::kinds::DELETE;
 /// The global state (DESIGN.md of littlefs, "The move problem").
 #[derive(Clone, Copy, Debug, PartialEq, Eq)]
 pub struct Gstate {
-    /// A pair of the thread may be reached from no directory.
+    /// Whether a pair of the thread may be an orphan: no directory leads to it.
     pub sync: bool,
-    /// The pair and the id of a slot that counts as deleted, since a move isn't ended.
+    /// The pair and the id of a slot that counts as deleted, since a move isn't ended. None where
+    /// no move is set.
     pub moving: Option<([u32; 2], u16)>,
 }
 

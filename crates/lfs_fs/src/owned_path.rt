@@ -1,4 +1,4 @@
-// Paths that are kept.
+// Paths of open files.
 
 ghost use Rattle.std.specs.Prelude.{◌≡◌, false, true, IfOk, IfErr, is_some};
 ghost use Rattle.lfs_model.specs.Operations.{path_of};
@@ -12,7 +12,7 @@ use lfs_lookup::Path;
 use std::alloc::Global;
 use std::marker::Model;
 
-/// The bytes of a path that is well formed. To a contract it is the names in it.
+/// The bytes of a well-formed path. A contract sees the names in it.
 #[derive(Drop)]
 pub struct OwnedPath {
     bytes: Vec<u8>,
@@ -32,7 +32,9 @@ impl Model for OwnedPath {
 }
 
 impl OwnedPath {
-    /// The path of these bytes, which are well formed.
+    /// Copies the bytes of a path, which are well formed.
+    ///
+    /// Errors: `AllocError` where memory for them isn't granted.
     pub fn of(alloc: Global, bytes: &[u8]) -> Result<OwnedPath, Error>
         requires { is_some (path_of bytes.now) ≡ true }
         ensures path { IfOk result (λ path. path ≡ as_path bytes.now) }
@@ -44,14 +46,14 @@ impl OwnedPath {
         }
     }
 
-    /// The path, lent.
+    /// Borrows the path.
     pub fn lend(&self) -> Path<'_>
         ensures { result ≡ self.now }
     {
         Path::parse(self.bytes.as_slice()).unwrap()
     }
 
-    // Whether it is the path of these bytes.
+    // Returns whether this is the path of these bytes.
     pub(crate) fn is_at(&self, bytes: &[u8]) -> bool
         requires { is_some (path_of bytes.now) ≡ true }
         ensures { result ≡ same_path (as_path bytes.now) self.now }
@@ -59,7 +61,7 @@ impl OwnedPath {
         is_same(self.bytes.as_slice(), bytes)
     }
 
-    // Whether it is the path of these bytes, an entry's, or lies beneath it.
+    // Returns whether this is the path of these bytes, which are an entry's, or is beneath it.
     pub(crate) fn is_within(&self, bytes: &[u8]) -> bool
         requires { bad_entry (path_of bytes.now) ≡ false }
         ensures { result ≡ is_some (rest_after (as_path bytes.now) self.now) }

@@ -1,4 +1,4 @@
-// What an open reader gives.
+// The bytes that an open reader returns.
 
 ghost use Rattle.std.specs.Prelude.{◌≡◌, ◌+◌, ◌<◌, ◌^◌, List, drop, false, take, IfErr, IfOk, OnErr, OnOk, vec_len};
 ghost use Rattle.lfs_model.specs.Tree.{Path};
@@ -11,7 +11,7 @@ use lfs_device::{BlockDevice, Error};
 use lfs_tree::Tree;
 use std::alloc::Global;
 
-// The bytes of a reader's file from its position on, so many at most. Nothing is looked up.
+// Returns the bytes of a reader's file from its position on, at most `count`. Nothing is looked up.
 pub(crate) fn read_from<D: BlockDevice>(
     alloc: Global,
     tree: &mut Tree<D>,

@@ -20,7 +20,7 @@ use lfs_tag::Superblock;
 use lfs_tree::Tree;
 use std::alloc::Global;
 
-// Whether the other bytes begin with these, and end there or go on with a slash.
+// Returns whether the other bytes begin with these, and end there or continue with a slash.
 fn goes_on(bytes: &[u8], other: &[u8]) -> bool
     ensures { result ≡ goes_on bytes.now other.now }
 {
@@ -30,7 +30,8 @@ fn goes_on(bytes: &[u8], other: &[u8]) -> bool
     other.len() == bytes.len() || other[bytes.len()] == b'/'
 }
 
-// Whether the path of the other bytes is that of these, an entry's, or lies beneath it.
+// Returns whether the path of the other bytes is that of these, which are an entry's, or is beneath
+// it.
 pub(crate) fn is_within(bytes: &[u8], other: &[u8]) -> bool
     requires entry { bad_entry (path_of bytes.now) ≡ false }
     requires given { is_some (path_of other.now) ≡ true }
@@ -39,7 +40,7 @@ pub(crate) fn is_within(bytes: &[u8], other: &[u8]) -> bool
     goes_on(bytes, other)
 }
 
-// Whether the bytes are of the same path.
+// Returns whether the bytes are of the same path.
 fn is_same_path(bytes: &[u8], other: &[u8]) -> bool
     requires given { is_some (path_of bytes.now) ≡ true }
     requires other { is_some (path_of other.now) ≡ true }
@@ -48,7 +49,7 @@ fn is_same_path(bytes: &[u8], other: &[u8]) -> bool
     is_same(other, bytes)
 }
 
-// Whether the path of the other bytes lies beneath that of these, an entry's.
+// Returns whether the path of the other bytes is beneath that of these, which are an entry's.
 fn is_beneath(bytes: &[u8], other: &[u8]) -> bool
     requires entry { bad_entry (path_of bytes.now) ≡ false }
     requires given { is_some (path_of other.now) ≡ true }
@@ -57,7 +58,7 @@ fn is_beneath(bytes: &[u8], other: &[u8]) -> bool
     is_within(bytes, other) && !is_same_path(bytes, other)
 }
 
-// A check of what stands at the new path, which a rename to the same path passes.
+// Checks the entry at the new path. A rename to the same path passes.
 fn refuse_replacing(is_same: bool, is_bad: bool, error: Error) -> Option<Refusal>
     requires { is_refusal error ≡ true }
     ensures { result ≡ refuse_if (not is_same && is_bad) (refusal_in error) }
@@ -74,7 +75,7 @@ pub struct Renaming<'a> {
     pub is_same: bool,
 }
 
-/// The paths of a rename.
+/// The two paths of a rename.
 pub fn check_rename<'a, D: BlockDevice>(
     alloc: Global,
     tree: &mut Tree<D>,

@@ -13,10 +13,11 @@ use crate::gstate::Gstate;
 use lfs_device::Error;
 use lfs_lookup::ListItem;
 
-/// An operation of a session, by the name of the call that it makes, with what the call takes.
+/// An operation of a session. Its name is that of the call, and its fields are the call's
+/// arguments.
 #[derive(Clone, Copy)]
 pub enum Op<'a> {
-    /// A path, and how it is opened.
+    /// A path, and how the file is opened.
     Open(&'a [u8], OpenFlags),
     /// An open file's number, and how many bytes at most.
     Read(u32, u32),
@@ -46,22 +47,22 @@ pub enum Op<'a> {
     SetAttr(&'a [u8], u8, &'a [u8]),
     /// A path, and the attribute's type.
     RemoveAttr(&'a [u8], u8),
-    /// The global state is asked for.
+    /// Returns the global state.
     Gstate,
     /// A block's number.
     IsUsed(u32),
-    /// How many blocks are used.
+    /// Returns how many blocks are used.
     UsedCount,
-    /// What a loss of power left is ended.
+    /// Ends what a loss of power left.
     Recover,
-    /// The device is read anew.
+    /// Reads the device anew.
     Remount,
 }
 
-/// What an operation answers.
+/// The reply to an operation.
 #[derive(Drop)]
 pub enum Reply {
-    /// It was carried out, and there is nothing to tell.
+    /// The operation was applied, and returns nothing.
     Done,
     /// The number under which a file was opened.
     Fd(u32),
@@ -69,7 +70,7 @@ pub enum Reply {
     Bytes(Vec<u8>),
     /// How many bytes were written, or how many blocks are used.
     Count(u32),
-    /// What stands in a directory.
+    /// The entries of a directory.
     Items(Vec<ListItem>),
     /// A file's size in bytes, or None for a directory.
     Stat(Option<u32>),
@@ -77,11 +78,12 @@ pub enum Reply {
     Gstate(Gstate),
     /// Whether a block is used.
     Yes(bool),
-    /// It was refused, and nothing has changed. Never `Io`, `NoMemory` or `Corrupt`.
+    /// The operation was refused, and nothing has changed. The error is never `Io`, `NoMemory` or
+    /// `Corrupt`.
     Refused(Error),
 }
 
-// Whether it isn't one of the errors that make a session fail.
+// Returns whether the error isn't one that makes a session fail.
 fn is_refusal(error: Error) -> bool
     ensures { result ≡ is_refusal error }
 {

@@ -53,13 +53,13 @@ use std::marker::Model;
 
 /// A session: a tree of files on a device, and the open files.
 ///
-/// Paths are bytes, `/` alone or names with a `/` in front of each. A call is refused, and then
-/// nothing is written and nothing has changed, or it fails: `Io` where a call of the device failed,
-/// and `NoMemory` where memory isn't granted. A session that has failed answers `Failed` to each
-/// call but [`remount`](Session::remount).
+/// Paths are bytes: `/` alone, or names with a `/` before each. A call may be refused, or fail.
+/// After a refusal nothing is written and nothing has changed. A call fails with `Io` where a call
+/// of the device failed, and with `NoMemory` where memory isn't granted. A session that has failed
+/// returns `Failed` from each call but [`remount`](Session::remount).
 ///
 /// Each call names its refusals in the order in which they are checked. `ReadOnly`, `BadFile`,
-/// `Invalid` and `Failed` come without a call of the device, and so do all of
+/// `Invalid` and `Failed` come without a call of the device. So do all refusals of
 /// [`write`](Session::write) and [`truncate`](Session::truncate).
 #[derive(Drop)]
 pub struct Session<D: BlockDevice> {
@@ -79,39 +79,39 @@ impl<D: BlockDevice> Model for Session<D> {
 }
 
 impl<D: BlockDevice> Session<D> {
-    /// A file's size in bytes, or None for a directory. No more reads are made than the directories
-    /// above it have pairs.
+    /// Returns a file's size in bytes, or None for a directory. The call reads no more pairs than
+    /// the directories above it have.
     ///
     /// # Errors
     ///
     /// `Invalid` where the path isn't well formed; `NoEnt` or `NotDir` where a parent is missing or
-    /// is a file; `NoEnt` where nothing stands there.
+    /// is a file; `NoEnt` where no entry is there.
     pub fn stat(&mut self, alloc: Global, path: &[u8]) -> Result<Option<u32>, Error>
         ensures { IsCall self.old (ops.Stat path.now) (reply_in ops.StatIs result) self.new }
     {
         check_stat(alloc, &mut self.tree, &self.files, path)
     }
 
-    /// What stands in a directory, in name order. No more reads are made than it and the
-    /// directories above it have pairs.
+    /// Returns the entries of a directory, in name order. The call reads no more pairs than the
+    /// directory and those above it have.
     ///
     /// # Errors
     ///
     /// `Invalid` where the path isn't well formed; `NoEnt` or `NotDir` where a parent is missing or
-    /// is a file; `NoEnt` where nothing stands there; `NotDir` where a file does.
+    /// is a file; `NoEnt` where no entry is there; `NotDir` where a file is there.
     pub fn list(&mut self, alloc: Global, path: &[u8]) -> Result<Vec<ListItem>, Error>
         ensures { IsCall self.old (ops.ListAll path.now) (reply_in (λ items. ops.Items (map list_item_view items.items)) result) self.new }
     {
         check_list(alloc, &mut self.tree, &self.files, path)
     }
 
-    /// The bytes of an entry's attribute. No more reads are made than the directories above it have
-    /// pairs.
+    /// Returns the bytes of an entry's attribute, of a type from 0 to 255. The call reads no more
+    /// pairs than the directories above the entry have.
     ///
     /// # Errors
     ///
     /// `Invalid` where the path isn't well formed or is the root's; `NoEnt` or `NotDir` where a
-    /// parent is missing or is a file; `NoEnt` where nothing stands there; `NoAttr` where the entry
+    /// parent is missing or is a file; `NoEnt` where no entry is there; `NoAttr` where the entry
     /// has none of that type.
     pub fn get_attr(&mut self, alloc: Global, path: &[u8], kind: u8) -> Result<Vec<u8>, Error>
         ensures { IsCall self.old (ops.GetAttr path.now kind) (reply_in (λ v. ops.Bytes v.items) result) self.new }
@@ -119,7 +119,8 @@ impl<D: BlockDevice> Session<D> {
         check_get_attr(alloc, &mut self.tree, &self.files, path, kind)
     }
 
-    /// The global state. Without a call of the device, and never refused.
+    /// Returns the global state. The call makes no call of the device, and is never refused but in
+    /// a failed session.
     pub fn gstate(&self) -> Result<Gstate, Error>
         ensures { IsCall self.now ops.AskGstate (reply_in gstate_reply result) self.now }
     {
@@ -129,7 +130,7 @@ impl<D: BlockDevice> Session<D> {
         Ok(gstate_of(&self.tree.gstate()))
     }
 
-    /// Whether the image uses a block. Without a call of the device.
+    /// Returns whether the image uses a block. The call makes no call of the device.
     ///
     /// # Errors
     ///
@@ -146,7 +147,8 @@ impl<D: BlockDevice> Session<D> {
         Ok(self.tree.is_used(block))
     }
 
-    /// How many blocks the image uses. Without a call of the device, and never refused.
+    /// Returns how many blocks the image uses. The call makes no call of the device, and is never
+    /// refused but in a failed session.
     pub fn used_count(&self) -> Result<u32, Error>
         ensures { IsCall self.now ops.UsedCount (reply_in ops.Count result) self.now }
     {
@@ -156,16 +158,14 @@ impl<D: BlockDevice> Session<D> {
         Ok(self.tree.used_count())
     }
 
-    /// Makes an empty directory. What a loss of power left in the image is ended first, as by
-    /// [`recover`](Session::recover).
+    /// Makes an empty directory. A recovery comes first, as by [`recover`](Session::recover).
     ///
     /// # Errors
     ///
-    /// `ReadOnly` where the image isn't one of those that this library writes; `Invalid` where the
-    /// path isn't well formed; `NoEnt` or `NotDir` where a parent is missing or is a file;
-    /// `NameTooLong` where the name has more than 255 bytes; `Exist` where something stands there;
-    /// `EntryFull` where the name takes too much of a metadata pair; `NoSpace` where fewer than
-    /// four blocks are free.
+    /// `ReadOnly` where the image isn't in the writing profile; `Invalid` where the path isn't well
+    /// formed; `NoEnt` or `NotDir` where a parent is missing or is a file; `NameTooLong` where the
+    /// name has more than 255 bytes; `Exist` where an entry is there; `EntryFull` where the name
+    /// takes too much of a metadata pair; `NoSpace` where fewer than four blocks are free.
     pub fn mkdir(&mut self, alloc: Global, path: &[u8]) -> Result<(), Error>
         ensures { IsCall self.old (ops.Mkdir path.now) (reply_in (λ _. ops.Done) result) self.new }
     {
@@ -176,14 +176,14 @@ impl<D: BlockDevice> Session<D> {
         answer
     }
 
-    /// Takes a file, or a directory without entries. What a loss of power left is ended first.
+    /// Removes a file, or a directory without entries. A recovery comes first.
     ///
     /// # Errors
     ///
-    /// `ReadOnly` where the image isn't one of those that this library writes; `Invalid` where the
-    /// path isn't well formed or is the root's; `NoEnt` or `NotDir` where a parent is missing or is
-    /// a file; `NoEnt` where nothing stands there; `NotEmpty` where a directory has entries; `Busy`
-    /// where the file is open.
+    /// `ReadOnly` where the image isn't in the writing profile; `Invalid` where the path isn't well
+    /// formed or is the root's; `NoEnt` or `NotDir` where a parent is missing or is a file; `NoEnt`
+    /// where no entry is there; `NotEmpty` where a directory has entries; `Busy` where the file is
+    /// open.
     pub fn remove(&mut self, alloc: Global, path: &[u8]) -> Result<(), Error>
         ensures { IsCall self.old (ops.Remove path.now) (reply_in (λ _. ops.Done) result) self.new }
     {
@@ -194,20 +194,20 @@ impl<D: BlockDevice> Session<D> {
         answer
     }
 
-    /// Gives an entry another path, in place of a file, or of a directory without entries, at it,
-    /// if there is one. What is beneath a directory goes with it, and what a loss of power left is
-    /// ended first. A path to itself: nothing is done.
+    /// Gives an entry another path. A file or a directory without entries at that path is replaced.
+    /// The entries beneath a directory move with it. A recovery comes first. Nothing is done where
+    /// both paths are the same.
     ///
     /// # Errors
     ///
-    /// `ReadOnly` where the image isn't one of those that this library writes; `Invalid` where a
-    /// path isn't well formed or is the root's, or the new one lies beneath the old one; `NoEnt` or
-    /// `NotDir` where a parent is missing or is a file, of the old path first; `NameTooLong` where
-    /// the new name has more than 255 bytes; `NoEnt` where nothing stands at the old path; `NotDir`
-    /// for a directory in place of a file, `IsDir` for a file in place of a directory, `NotEmpty`
-    /// where the directory in its place has entries; `Busy` where a file at the old path, beneath
-    /// it or at the new path is open; `EntryFull` where the new name and the attributes take too
-    /// much of a metadata pair; `NoSpace` where fewer than two blocks are free.
+    /// `ReadOnly` where the image isn't in the writing profile; `Invalid` where a path isn't well
+    /// formed or is the root's, or the new one is beneath the old one; `NoEnt` or `NotDir` where a
+    /// parent is missing or is a file, of the old path first; `NameTooLong` where the new name has
+    /// more than 255 bytes; `NoEnt` where no entry is at the old path; `NotDir` for a directory in
+    /// place of a file, `IsDir` for a file in place of a directory, `NotEmpty` where the directory
+    /// in its place has entries; `Busy` where a file at the old path, beneath it or at the new path
+    /// is open; `EntryFull` where the new name and the attributes take too much of a metadata pair;
+    /// `NoSpace` where fewer than two blocks are free.
     pub fn rename(&mut self, alloc: Global, from: &[u8], to: &[u8]) -> Result<(), Error>
         ensures { IsCall self.old (ops.Rename from.now to.now) (reply_in (λ _. ops.Done) result) self.new }
     {
@@ -221,16 +221,16 @@ impl<D: BlockDevice> Session<D> {
         answer
     }
 
-    /// Gives an entry an attribute, in place of the one of that type that it has, if it has one.
-    /// What a loss of power left is ended first.
+    /// Sets an attribute of an entry, in place of the one of that type, if the entry has one. The
+    /// type is from 0 to 255, and the value has at most 1,022 bytes. A recovery comes first.
     ///
     /// # Errors
     ///
-    /// `ReadOnly` where the image isn't one of those that this library writes; `Invalid` where the
-    /// path isn't well formed or is the root's; `NoEnt` or `NotDir` where a parent is missing or is
-    /// a file; `NoEnt` where nothing stands there; `TooBig` where the value has more than 1,022
-    /// bytes; `EntryFull` where the name and the attributes take too much of a metadata pair;
-    /// `NoSpace` where fewer than two blocks are free.
+    /// `ReadOnly` where the image isn't in the writing profile; `Invalid` where the path isn't well
+    /// formed or is the root's; `NoEnt` or `NotDir` where a parent is missing or is a file; `NoEnt`
+    /// where no entry is there; `TooBig` where the value has more than 1,022 bytes; `EntryFull`
+    /// where the name and the attributes take too much of a metadata pair; `NoSpace` where fewer
+    /// than two blocks are free.
     pub fn set_attr(
         &mut self,
         alloc: Global,
@@ -247,13 +247,13 @@ impl<D: BlockDevice> Session<D> {
         answer
     }
 
-    /// Takes an attribute from an entry. What a loss of power left is ended first.
+    /// Removes an attribute of an entry. A recovery comes first.
     ///
     /// # Errors
     ///
-    /// `ReadOnly` where the image isn't one of those that this library writes; `Invalid` where the
-    /// path isn't well formed or is the root's; `NoEnt` or `NotDir` where a parent is missing or is
-    /// a file; `NoEnt` where nothing stands there; `NoAttr` where the entry has none of that type.
+    /// `ReadOnly` where the image isn't in the writing profile; `Invalid` where the path isn't well
+    /// formed or is the root's; `NoEnt` or `NotDir` where a parent is missing or is a file; `NoEnt`
+    /// where no entry is there; `NoAttr` where the entry has none of that type.
     pub fn remove_attr(&mut self, alloc: Global, path: &[u8], kind: u8) -> Result<(), Error>
         ensures { IsCall self.old (ops.RemoveAttr path.now kind) (reply_in (λ _. ops.Done) result) self.new }
     {
@@ -265,11 +265,11 @@ impl<D: BlockDevice> Session<D> {
     }
 
     /// Ends what a loss of power left in the image: a set move, and directories that no path leads
-    /// to. The tree stays; nothing is written where nothing is left.
+    /// to. The tree stays. Nothing is written where nothing is left.
     ///
     /// # Errors
     ///
-    /// `ReadOnly` where the image isn't one of those that this library writes.
+    /// `ReadOnly` where the image isn't in the writing profile.
     pub fn recover(&mut self, alloc: Global) -> Result<(), Error>
         ensures { IsCall self.old ops.Recover (reply_in (λ _. ops.Done) result) self.new }
     {
@@ -328,23 +328,22 @@ impl<D: BlockDevice> Session<D> {
         Ok(number)
     }
 
-    /// Opens a file, for reading or for writing, and answers the least number that isn't open. One
-    /// file at most is open for writing, and 16 for reading. Where it is opened for writing, what a
-    /// loss of power left in the image is ended first; a file that is created is in the tree at
-    /// once.
+    /// Opens a file, for reading or for writing. Returns the file's number, which is the least that
+    /// isn't open. At most one file is open for writing, and 16 for reading. Where the file is
+    /// opened for writing, a recovery comes first. A file that is created is in the tree at once.
     ///
     /// # Errors
     ///
-    /// `ReadOnly` where it is opened for writing and the image isn't one of those that this library
-    /// writes; `Invalid` where the path isn't well formed or the flags don't go together; `NoEnt`
-    /// or `NotDir` where a parent is missing or is a file; of a file to create `NameTooLong` where
-    /// its name has more than 255 bytes; `NoEnt` where nothing stands there and none is created;
-    /// `Exist` where something does, with [`EXCLUSIVE`](OpenFlags::EXCLUSIVE); `IsDir` for a
-    /// directory; `Busy`, for writing where a file is open for writing or this one is open at all,
-    /// for reading where this one is open for writing or 16 are open for reading; of a file to
-    /// create `EntryFull` where its name takes too much of a metadata pair, and `NoSpace` where
-    /// fewer than two blocks are free, or with [`TRUNCATE`](OpenFlags::TRUNCATE) too few for the
-    /// file anew.
+    /// `ReadOnly` where the file is opened for writing and the image isn't in the writing profile;
+    /// `Invalid` where the path isn't well formed or the flags aren't allowed together; `NoEnt` or
+    /// `NotDir` where a parent is missing or is a file; of a file to create `NameTooLong` where its
+    /// name has more than 255 bytes; `NoEnt` where no entry is there and none is created; `Exist`
+    /// where an entry is there, with [`EXCLUSIVE`](OpenFlags::EXCLUSIVE); `IsDir` for a directory;
+    /// `Busy` for writing where a file is open for writing, or this one is open at all; `Busy` for
+    /// reading where this file is open for writing, or 16 files are open for reading; of a file to
+    /// create `EntryFull` where its name takes too much of a metadata pair; `NoSpace` where fewer
+    /// than two blocks are free for a file to create, or with [`TRUNCATE`](OpenFlags::TRUNCATE) too
+    /// few for the file anew.
     pub fn open(&mut self, alloc: Global, path: &[u8], flags: OpenFlags) -> Result<u32, Error>
         ensures { IsCall self.old (ops.Open path.now (flags_view flags)) (reply_in ops.Opened result) self.new }
     {
@@ -356,8 +355,8 @@ impl<D: BlockDevice> Session<D> {
     }
 
     /// Writes bytes at the position of a file that is open for writing, or at its end where it
-    /// appends, and says how many; zeros fill a gap. The position is behind them then. They are in
-    /// the tree once the file is synced or closed.
+    /// appends. Returns the number of bytes. Zeros fill a gap before them, and the position is
+    /// after them then. They are in the tree after a sync or a close of the file.
     ///
     /// # Errors
     ///
@@ -381,8 +380,8 @@ impl<D: BlockDevice> Session<D> {
         Ok(bytes.len() as u32)
     }
 
-    /// Gives a file that is open for writing that many bytes: it is cut, or zeros fill it up. The
-    /// position stays.
+    /// Gives a file that is open for writing that many bytes: the file is cut, or zeros fill it up.
+    /// The position stays.
     ///
     /// # Errors
     ///
@@ -405,8 +404,7 @@ impl<D: BlockDevice> Session<D> {
         Ok(())
     }
 
-    /// Brings what was written to an open file into the tree. Nothing is to be done for other
-    /// files.
+    /// Commits the changes of an open file to the tree. Other files stay as they are.
     ///
     /// # Errors
     ///
@@ -428,8 +426,8 @@ impl<D: BlockDevice> Session<D> {
         Ok(())
     }
 
-    /// The bytes of an open file from its position on, so many at most; fewer where the file ends,
-    /// and none behind its end. The position moves on by as many.
+    /// Returns the bytes of an open file from its position on, at most `count`. There are fewer
+    /// where the file ends, and none after its end. The position advances by as many.
     ///
     /// # Errors
     ///
@@ -449,7 +447,8 @@ impl<D: BlockDevice> Session<D> {
         Ok(bytes)
     }
 
-    /// Sets the position of an open file, from its beginning, also behind its end.
+    /// Sets the position of an open file, in bytes from its beginning. The position may be after
+    /// the file's end.
     ///
     /// # Errors
     ///
@@ -463,8 +462,7 @@ impl<D: BlockDevice> Session<D> {
         Ok(())
     }
 
-    /// Closes an open file, and brings what was written to it into the tree. Its number is free
-    /// then.
+    /// Closes an open file, and commits its changes to the tree. Its number is free then.
     ///
     /// # Errors
     ///
@@ -490,8 +488,7 @@ impl<D: BlockDevice> Session<D> {
     ///
     /// # Errors
     ///
-    /// `Corrupt` where no image is accepted there; then, and after `Io` and `NoMemory`, the session
-    /// has failed.
+    /// `Corrupt` where the device has no accepted image. After any error the session has failed.
     pub fn remount(&mut self, alloc: Global) -> Result<(), Error>
         ensures { IsCall self.old ops.Remount (reply_in (λ _. ops.Done) result) self.new }
     {
@@ -501,7 +498,7 @@ impl<D: BlockDevice> Session<D> {
         answer
     }
 
-    /// The device, as the last call left it.
+    /// Borrows the device, as the last call left it.
     pub fn device(&self) -> &D
         ensures disk { ordered self.now.tree.disk.order (disk_on D.BlockDevice result.now) ≡ self.now.tree.disk }
         ensures history { D.history result.now ≡ self.now.tree.history }
@@ -509,7 +506,7 @@ impl<D: BlockDevice> Session<D> {
         self.tree.device().inner()
     }
 
-    /// Ends the session. Nothing is written.
+    /// Ends the session, and returns the device. Nothing is written.
     pub fn unmount(self) -> D
         ensures disk { ordered self.tree.disk.order (disk_on D.BlockDevice result) ≡ self.tree.disk }
         ensures history { D.history result ≡ self.tree.history }
@@ -517,15 +514,15 @@ impl<D: BlockDevice> Session<D> {
         self.tree.into_device().into_inner()
     }
 
-    /// The order in which the image's directories have their names. What is listed doesn't depend on
-    /// it: there the shorter name always comes first.
+    /// Returns the order in which the image's directories have their names. A list doesn't depend
+    /// on it: there the shorter name always comes first.
     pub fn order(&self) -> NameOrder
         ensures { result ≡ self.now.tree.disk.order }
     {
         self.tree.device().order()
     }
 
-    // One operation. A refusal is a reply; an error leaves a failed session.
+    // Performs one operation. A refusal is a reply; after an error the session has failed.
     fn perform(&mut self, alloc: Global, op: Op<'_>) -> Result<Reply, Error>
         ensures call { IsCall self.old (op_view op.entry) (performed result) self.new }
         ensures named { IfOk result IsNamed }
@@ -561,12 +558,12 @@ impl<D: BlockDevice> Session<D> {
         self.tree.fail();
     }
 
-    /// Carries out operations in turn, a reply for each; a refusal is a reply, too.
+    /// Performs operations in order. Returns a reply for each; a refusal is a reply, too.
     ///
     /// # Errors
     ///
-    /// `Io`, `NoMemory` and, from a remount, `Corrupt`: the operations before it were carried out,
-    /// and the session has failed.
+    /// `Io`, `NoMemory` and, from a remount, `Corrupt`. The operations before it were applied, and
+    /// the session has failed.
     pub fn run(&mut self, alloc: Global, ops: &[Op<'_>]) -> Result<Vec<Reply>, Error>
         ensures performed { IfOk result (λ replies. ArePerformed None (system_state_of self.old) (map op_view ops.now) (map reply_view replies.items) (system_state_of self.new)) }
         ensures named { IfOk result (λ replies. All IsNamed replies.items) }
@@ -591,13 +588,14 @@ impl<D: BlockDevice> Session<D> {
     }
 }
 
-/// A session over the image of a device, in the order of names that it has. Where both orders fit,
-/// the longer names come first, as littlefs's own code has them. Only reads are made.
+/// Begins a session over the image of a device, in the order of names that the image has. Where
+/// both orders fit, the longer names come first, as littlefs's own code has them. Only reads are
+/// made.
 ///
 /// # Errors
 ///
-/// `Corrupt` exactly where no image is accepted there in either order. `Io` where a read failed, and
-/// `NoMemory` where memory isn't granted. The device comes back with an error.
+/// `Corrupt` exactly where the device has no accepted image in either order. `Io` where a read
+/// failed. `NoMemory` where memory isn't granted. An error comes with the device.
 pub fn mount<D: BlockDevice>(alloc: Global, device: D) -> Result<Session<D>, (D, Error)>
     ensures begun { IfOk result (λ s. IsFreshSession (ordered s.tree.disk.order (disk_on D.BlockDevice device)) (D.history device) s) }
     ensures state { IfOk result (λ s. IsMounted (ordered s.tree.disk.order (disk_on D.BlockDevice device)) (system_state_of s)) }
@@ -623,7 +621,7 @@ pub fn mount<D: BlockDevice>(alloc: Global, device: D) -> Result<Session<D>, (D,
 ///
 /// # Errors
 ///
-/// Those of [`format_ordered`].
+/// Errors are those of [`format_ordered`].
 pub fn format<D: BlockDevice>(alloc: Global, device: D) -> Result<Session<D>, (D, Error)>
     ensures formatted { IfOk result (λ s. IsFormatted (kept_of s.tree)) }
     ensures state { IfOk result (λ s. (system_state_of s).state ≡ Healthy (mounted empty_tree)) }
@@ -634,14 +632,14 @@ pub fn format<D: BlockDevice>(alloc: Global, device: D) -> Result<Session<D>, (D
     format_ordered(alloc, device, NameOrder::LongerFirst)
 }
 
-/// Makes an empty file system on a device (SPEC.md of littlefs, "Superblock"), whose directories
-/// will have their names in that order, and begins a session over it. The blocks 0 and 1 are erased,
-/// and no other is written. The order isn't stored: a mount finds it by the names.
+/// Makes an empty file system on a device, and begins a session over it (SPEC.md of littlefs,
+/// "0x0ff LFS_TYPE_SUPERBLOCK"). Its directories have their names in that order. The blocks 0 and 1
+/// are erased, and no other is written. The order isn't stored: a mount finds it by the names.
 ///
 /// # Errors
 ///
-/// `Io` where a call of the device failed; the two blocks may hold anything then. `NoMemory` where
-/// memory isn't granted; nothing is written then. The device comes back with an error.
+/// `Io` where a call of the device failed; the two blocks may hold any bytes then. `NoMemory` where
+/// memory isn't granted; nothing is written then. An error comes with the device.
 pub fn format_ordered<D: BlockDevice>(
     alloc: Global,
     device: D,

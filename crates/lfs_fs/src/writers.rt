@@ -1,4 +1,4 @@
-// What calls of a writer do.
+// The calls of a writer.
 
 ghost use Rattle.std.specs.Prelude.{ℕ, List, [], true, ◌≡◌, length, IfErr, IfOk, OnErr, OnOk};
 ghost use Rattle.lfs_model.specs.Writers.{opened_writer, after_sync, after_truncate, after_write};
@@ -26,7 +26,7 @@ use lfs_tree::{Tree, carried_takes_few, contents_stay};
 use lfs_writer::{Contents, forms_keep_step, held_blocks_are_room};
 use std::alloc::Global;
 
-// The contents of a writer: those that were changed, or else those of the file.
+// Returns the contents of a writer: the changed ones, or else those of the file.
 fn contents_of<D: BlockDevice>(
     alloc: Global,
     tree: &mut Tree<D>,
@@ -47,7 +47,7 @@ fn contents_of<D: BlockDevice>(
     }
 }
 
-// The writer once it wrote bytes, at least one.
+// Returns the writer after it wrote bytes, at least one.
 pub(crate) fn write_by<D: BlockDevice>(
     alloc: Global,
     tree: &mut Tree<D>,
@@ -88,7 +88,7 @@ pub(crate) fn write_by<D: BlockDevice>(
     })
 }
 
-// The writer once its contents, of another size, have that size.
+// Returns the writer after its contents got another size.
 pub(crate) fn truncate_by<D: BlockDevice>(
     alloc: Global,
     tree: &mut Tree<D>,
@@ -128,7 +128,7 @@ pub(crate) fn truncate_by<D: BlockDevice>(
     })
 }
 
-// The writer once what it changed is in the tree.
+// Returns the writer after its changes were committed to the tree.
 pub(crate) fn save<D: BlockDevice>(
     alloc: Global,
     tree: &mut Tree<D>,
@@ -162,7 +162,7 @@ pub(crate) fn save<D: BlockDevice>(
     })
 }
 
-// A writer of a file that is there, from its beginning on. What is left to recover is ended first.
+// Opens a writer of a file that is there, at its beginning. A recovery comes first.
 pub(crate) fn begin_there<D: BlockDevice>(
     alloc: Global,
     tree: &mut Tree<D>,
@@ -205,7 +205,7 @@ pub(crate) fn begin_there<D: BlockDevice>(
     })
 }
 
-// A writer of an empty file, which is made.
+// Opens a writer of an empty file, which is made.
 pub(crate) fn begin_new<D: BlockDevice>(
     alloc: Global,
     tree: &mut Tree<D>,

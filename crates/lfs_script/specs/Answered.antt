@@ -1,4 +1,4 @@
--- What a session's operation is answered in a script.
+-- The answer to a session's operation in a script.
 use Rattle.std.specs.Prelude.{[], ◌∷◌}
 use Rattle.lfs_model.specs.Operations.{Operation}
 use Rattle.lfs_model.specs.Run.{SystemState, AreSessionSteps}
@@ -7,7 +7,8 @@ use Rattle.lfs_fs.specs.OpView.{IsNamed, reply_view}
 use Rattle.lfs_script_lines.specs.declared.answer.Answer.{Answer}
 use Rattle.lfs_script_lines.specs.declared.answer.Answer.TheVariants.{Reply, Error}
 
--- It is a turn of the definitions with that reply, which names the refusal that it is; or the session has failed in it by that error.
+-- The answer is a session step with that reply, which names the refusal that it is. Or the session has failed in the operation by
+-- that error.
 abbrev pub IsAnswered : SystemState → Operation → Answer → SystemState → Type 0
 IsAnswered from op (Reply r) to = AreSessionSteps from (op ∷ []) (reply_view r ∷ []) to × IsNamed r
 IsAnswered from op (Error e) to = IsEndedBy e from (op ∷ []) to

@@ -33,18 +33,18 @@ calls_in hand.Nothing = None
 calls_in (hand.Device d) = Some (history_of d.inner)
 calls_in (hand.Session s) = Some s.tree.history
 
--- what `calls` answers
+-- the answer to `calls`
 abbrev pub calls_answer : Option (List Event) → Answer
 calls_answer None = answer.Nothing
 calls_answer (Some history) = answer.Calls (counted history)
 
--- A session stays one. Without one nothing is done.
+-- A session stays one. Without a session nothing is done.
 abbrev pub IsCompared : Hand → Answer → Hand → Type 0
 IsCompared (hand.Session s) given (hand.Session t) = Unit {0}
 IsCompared (hand.Session s) given _ = ⊥
 IsCompared from given to = (given ≡ answer.Nothing) × (to ≡ from)
 
--- The session ends, and its device stays in hand. Without one nothing is done.
+-- The session ends, and its device stays in hand. Without a session nothing is done.
 abbrev pub IsUnmounted : Hand → Answer → Hand → Type 0
 IsUnmounted (hand.Session s) given (hand.Device d) = (given ≡ answer.Reply Done) × IsLeftBy s (inner_of d.inner) (history_of d.inner)
 IsUnmounted (hand.Session s) given _ = ⊥

@@ -1,4 +1,4 @@
--- What an operation is answered by what is in hand.
+-- The answer to an operation, by the device and the session in hand.
 use Rattle.std.specs.Prelude.{◌≡◌}
 use Rattle.lfs_fs.specs.Held.{system_state_of}
 use Rattle.lfs_script_lines.specs.declared.answer.Answer.{Answer}
@@ -9,7 +9,7 @@ use Rattle.lfs_script.specs.OperationView.{operation_view}
 use Rattle.lfs_script.specs.declared.hand.Hand.{Hand}
 use Rattle.lfs_script.specs.declared.hand.Hand.TheVariants as hand
 
--- The session answers it; without one nothing is done.
+-- The session answers the operation; without a session nothing is done.
 abbrev pub IsPerformed : Hand → Operation → Answer → Hand → Type 0
 IsPerformed (hand.Session s) op given (hand.Session t) = IsAnswered (system_state_of s) (operation_view op) given (system_state_of t)
 IsPerformed (hand.Session s) op given _ = ⊥

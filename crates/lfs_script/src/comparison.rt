@@ -1,4 +1,4 @@
-// Sessions, compared with others on bytes like those of their devices.
+// Comparisons of sessions with others on bytes like those of their devices.
 
 ghost use Rattle.std.specs.Prelude.{◌≡◌, ◌<◌, ◌≤◌, ◌++◌, ◌∷◌, length, IfOk};
 
@@ -9,7 +9,7 @@ use lfs_lookup::ListItem;
 use lfs_script_lines::{Answer, Difference, Scope};
 use std::alloc::{AllocError, Global};
 
-// A session on a device that holds these bytes.
+// Begins a session on a device that holds these bytes.
 fn mounted(alloc: Global, geometry: Geometry, bytes: Vec<u8>) -> Result<Session<Device>, Error> {
     let device = RamDevice::from_bytes(geometry, bytes)?;
     match mount(alloc, with_fault(device, NO_FAULT)) {
@@ -18,7 +18,8 @@ fn mounted(alloc: Global, geometry: Geometry, bytes: Vec<u8>) -> Result<Session<
     }
 }
 
-// The first block that one session uses and the other doesn't, or that they count otherwise.
+// Returns the first block that one session uses and the other doesn't, or a difference of their
+// counts.
 fn different_block(
     session: &Session<Device>,
     other: &Session<Device>,
@@ -42,7 +43,7 @@ fn are_same(item: &ListItem, other: &ListItem) -> bool {
     item.name.as_slice() == other.name.as_slice() && item.size == other.size
 }
 
-// The first place where two listings differ.
+// Returns the first place where two listings differ.
 fn different_place(items: &[ListItem], others: &[ListItem]) -> Option<usize> {
     for (place, (item, other)) in items.iter().zip(others).enumerate() {
         if !are_same(item, other) {
@@ -56,7 +57,7 @@ fn different_place(items: &[ListItem], others: &[ListItem]) -> Option<usize> {
     }
 }
 
-// The name of the first entry in which two listings differ.
+// Returns the name of the first entry in which two listings differ.
 fn different_name<'a>(items: &'a [ListItem], others: &'a [ListItem]) -> Option<&'a [u8]> {
     let place = different_place(items, others)?;
     match items.get(place) {
@@ -65,7 +66,7 @@ fn different_name<'a>(items: &'a [ListItem], others: &'a [ListItem]) -> Option<&
     }
 }
 
-// The path of a name in a directory. The root's own path is one byte.
+// Returns the path of a name in a directory. The root's own path is one byte.
 fn path_below(alloc: Global, directory: &[u8], name: &[u8]) -> Result<Vec<u8>, AllocError>
     ensures root { length directory.now ≤ 1 → IfOk result (λ path. path.items ≡ 0x2f ∷ name.now) }
     ensures deeper { 1 < length directory.now → IfOk result (λ path. path.items ≡ directory.now ++ 0x2f ∷ name.now) }
@@ -79,7 +80,8 @@ fn path_below(alloc: Global, directory: &[u8], name: &[u8]) -> Result<Vec<u8>, A
     Ok(path)
 }
 
-// What a file holds. None where it can't be opened beside the files that are open.
+// Returns the bytes of a file. Returns None where the file can't be opened beside the files that
+// are open.
 fn bytes_of(
     alloc: Global,
     session: &mut Session<Device>,
@@ -96,7 +98,7 @@ fn bytes_of(
     }
 }
 
-// Whether a file holds the same in both.
+// Returns whether a file holds the same bytes in both.
 fn hold_same(
     alloc: Global,
     session: &mut Session<Device>,
@@ -112,7 +114,7 @@ fn hold_same(
     Ok(bytes.as_slice() == others.as_slice())
 }
 
-// An attribute. None where there is none.
+// Returns an attribute, if there is one.
 fn attribute_of(
     alloc: Global,
     session: &mut Session<Device>,
@@ -126,7 +128,7 @@ fn attribute_of(
     }
 }
 
-// Whether an attribute is the same in both.
+// Returns whether an attribute is the same in both.
 fn is_same_attribute(
     alloc: Global,
     session: &mut Session<Device>,
@@ -142,7 +144,7 @@ fn is_same_attribute(
     }
 }
 
-// The first type, from one to another, of which the attributes differ.
+// Returns the first type, from one to another, of which the attributes differ.
 fn different_kind(
     alloc: Global,
     session: &mut Session<Device>,
@@ -159,7 +161,7 @@ fn different_kind(
     Ok(None)
 }
 
-// What differs of an entry that both list with this size.
+// Returns what differs of an entry that both list with this size.
 fn difference_at(
     alloc: Global,
     session: &mut Session<Device>,
@@ -182,7 +184,7 @@ fn difference_at(
     Ok(None)
 }
 
-// What differs first of a directory's entries. Those that are directories wait then.
+// Returns what differs first of a directory's entries. Its directories are compared later.
 fn difference_in(
     alloc: Global,
     session: &mut Session<Device>,
@@ -209,7 +211,7 @@ fn difference_in(
     Ok(None)
 }
 
-// What differs first of all entries.
+// Returns what differs first of all entries.
 fn different_entry(
     alloc: Global,
     session: &mut Session<Device>,
@@ -230,7 +232,7 @@ fn different_entry(
     Ok(None)
 }
 
-// What differs first, where the other session is on these bytes.
+// Returns what differs first, where the other session is on these bytes.
 fn difference(
     alloc: Global,
     session: &mut Session<Device>,
@@ -250,11 +252,10 @@ fn difference(
     different_entry(alloc, session, &mut other, scope)
 }
 
-/// Compares what a session answers with what one on a device with these bytes does. The session is
-/// only asked.
+/// Compares a session with one on a device with these bytes. The session is only queried.
 ///
-/// The answer is the session's refusal where it has failed before. It is an error where the bytes
-/// are no device's or don't mount, and where one of the sessions fails.
+/// The answer is the session's refusal where the session has failed before. It is an error where
+/// the bytes are no device's or don't mount, and where one of the sessions fails.
 pub fn compare_with(
     alloc: Global,
     session: &mut Session<Device>,
@@ -269,7 +270,7 @@ pub fn compare_with(
     }
 }
 
-/// Compares what a session answers with what one on a copy of its device does.
+/// Compares a session with one on a copy of its device.
 pub fn compare(alloc: Global, session: &mut Session<Device>, scope: Scope) -> Answer {
     match Vec::from_slice(alloc, session.device().inner().inner().bytes()) {
         Ok(bytes) => compare_with(alloc, session, scope, bytes),

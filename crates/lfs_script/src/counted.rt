@@ -5,7 +5,7 @@ ghost use Rattle.lfs_model.specs.History.{faults};
 
 use lfs_device::{BlockDevice, Error, Geometry};
 
-/// A device, with the count of its calls that failed. It saturates.
+/// A device with the count of its calls that failed. The count saturates.
 #[derive(Drop)]
 pub struct Counted<D: BlockDevice> {
     inner: D,
@@ -21,7 +21,7 @@ impl<D: BlockDevice> Counted<D> {
         Counted { inner, failed: 0 }
     }
 
-    /// The device below.
+    /// Borrows the device below.
     pub fn inner(&self) -> &D
         ensures { result.now ≡ self.now.inner }
     {
@@ -34,7 +34,7 @@ impl<D: BlockDevice> Counted<D> {
         self.inner
     }
 
-    /// How many of its calls failed.
+    /// Returns how many of the calls failed.
     pub fn failed_calls(&self) -> u64
         ensures { result ≡ min (faults (D.history self.now.inner)) (2 ^ 64 - 1) }
     {

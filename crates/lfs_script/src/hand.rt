@@ -9,10 +9,10 @@ use lfs_device::{Extent, Fault, FaultDevice, RamDevice, Which};
 use lfs_fs::Session;
 use lfs_script_lines::Calls;
 
-/// A device in memory, one of whose calls may be told to fail.
+/// A device in memory, one of whose calls may fail.
 pub type Device = Counted<FaultDevice<RamDevice>>;
 
-/// A fault that never comes.
+/// Returns a fault that never comes.
 pub const NO_FAULT: Fault = Fault {
     which: Which::Any,
     nth: 0,
@@ -20,7 +20,7 @@ pub const NO_FAULT: Fault = Fault {
     extent: Extent::Nothing,
 };
 
-/// The device with its calls counted from now on, of which one may be told to fail.
+/// Counts the calls of the device from now on. One of them may fail.
 pub fn with_fault(device: RamDevice, fault: Fault) -> Device
     ensures fault { fault_of result.inner ≡ fault }
     ensures device { inner_of result.inner ≡ device }
@@ -35,7 +35,7 @@ pub fn with_fault(device: RamDevice, fault: Fault) -> Device
     Counted::new(device)
 }
 
-/// What there is to work with.
+/// The device that a script works with, and its session.
 #[derive(Drop)]
 pub enum Hand {
     Nothing,
@@ -44,7 +44,7 @@ pub enum Hand {
 }
 
 impl Hand {
-    /// The device in hand. A session's is as the last call left it.
+    /// Borrows the device in hand. A session's is as the last call left it.
     pub fn device(&self) -> Option<&Device>
         ensures none { (result ≡ None) ↔ (self.now ≡ Hand.Nothing) }
         ensures device { IfSome result (λ found. (d : _) → self.now ≡ Hand.Device d → found.now ≡ d) }
@@ -57,7 +57,7 @@ impl Hand {
         }
     }
 
-    /// The device in hand, whose session has ended. Nothing is written.
+    /// Returns the device in hand, and ends the session. Nothing is written.
     pub fn into_device(self) -> Option<Device>
         ensures none { (result ≡ None) ↔ (self ≡ Hand.Nothing) }
         ensures device { IfSome result (λ found. (d : _) → self ≡ Hand.Device d → found ≡ d) }
@@ -71,7 +71,7 @@ impl Hand {
     }
 }
 
-/// How many calls a device had. Each count saturates.
+/// Returns how many calls a device had. Each count saturates.
 pub fn calls_of(device: &Device) -> Calls
     ensures { result ≡ counted (history_of device.now.inner) }
 {

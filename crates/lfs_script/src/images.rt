@@ -10,7 +10,7 @@ use std::alloc::Global;
 use std::rt::Files;
 use std::{fs, io, str};
 
-/// A device that holds 0xff in every byte.
+/// Makes a device that holds 0xff in every byte.
 ///
 /// # Errors
 /// - `Invalid` where there are no devices of such blocks.
@@ -29,7 +29,7 @@ pub fn blank(
     RamDevice::blank(alloc, Geometry::new(block_size, page, block_count)?)
 }
 
-/// A device that holds these bytes. It takes no memory.
+/// Makes a device that holds these bytes. The call takes no memory.
 ///
 /// # Errors
 /// - `Invalid` exactly where they aren't the blocks of a device.
@@ -51,7 +51,7 @@ pub fn device_of(bytes: Vec<u8>, block_size: u32, page: u32) -> Result<RamDevice
     }
 }
 
-/// The bytes of a file. None where they can't be had.
+/// Returns the bytes of a file. Returns None where the file can't be read.
 pub fn read_file<R: Files + AllocGlobal>(rt: &R, path: &[u8]) -> Option<Vec<u8>> {
     match str::from_utf8(path) {
         Ok(path) => fs::read(rt, path).ok(),
@@ -59,7 +59,7 @@ pub fn read_file<R: Files + AllocGlobal>(rt: &R, path: &[u8]) -> Option<Vec<u8>>
     }
 }
 
-/// Writes bytes to a file. Whether they are there.
+/// Writes bytes to a file. Returns whether this succeeded.
 pub fn write_file<R: Files>(rt: &R, path: &[u8], bytes: &[u8]) -> bool {
     match str::from_utf8(path) {
         Ok(path) => fs::write(rt, path, bytes).is_ok(),

@@ -1,5 +1,5 @@
-//! lfs_script: carries out the operations that standard input lists, one a line, on a littlefs file
-//! system in memory, and prints what each answers.
+//! lfs_script: performs the operations of standard input, one a line, on a littlefs file system in
+//! memory, and prints the answer to each.
 #![tactic(auto)]
 
 mod comparison;
@@ -14,7 +14,7 @@ use running::{End, run};
 use std::io::BufReader;
 use std::process::ExitCode;
 
-// Shows why a script ended before its end, and gives the status. A failed write is ignored.
+// Shows why a script ended before its last line, and returns the status. A failed write is ignored.
 fn report(rt: &HostRuntime, end: End) -> ExitCode {
     let (shown, status) = match end {
         End::Done => return ExitCode::SUCCESS,

@@ -1,4 +1,4 @@
-// What a session answers to a script's operations.
+// The answers of a session to a script's operations.
 
 ghost use Rattle.std.specs.Prelude.{◌≡◌};
 ghost use Rattle.lfs_fs.specs.Held.{system_state_of};
@@ -11,7 +11,7 @@ use lfs_fs::{Op, Session};
 use lfs_script_lines::{Answer, Operation};
 use std::alloc::Global;
 
-// The session's own operation.
+// Returns the session's operation.
 fn op_of(operation: &Operation) -> Op<'_>
     ensures { op_view result ≡ operation_view operation.now }
 {
@@ -39,7 +39,7 @@ fn op_of(operation: &Operation) -> Op<'_>
     }
 }
 
-// Carries out an operation of the session's own.
+// Performs an operation of the session.
 fn perform_op<D: BlockDevice>(alloc: Global, session: &mut Session<D>, op: Op<'_>) -> Answer
     ensures { IsAnswered (system_state_of session.old) (op_view op.entry) result (system_state_of session.new) }
 {
@@ -52,7 +52,7 @@ fn perform_op<D: BlockDevice>(alloc: Global, session: &mut Session<D>, op: Op<'_
     }
 }
 
-/// Carries out an operation.
+/// Performs an operation.
 ///
 /// The answer is the session's reply, a refusal among them, or the error by which the session failed.
 pub fn perform<D: BlockDevice>(

@@ -1,4 +1,4 @@
-// Scripts, read and carried out line by line.
+// Scripts, read and performed line by line.
 
 use crate::script::Script;
 use lfs_script_lines::{LineError, push_answer, read_line};
@@ -21,7 +21,7 @@ pub enum End {
     Output,
 }
 
-// Prints what a line answers, if it is a command.
+// Prints the answer to a line, if it is a command.
 fn answer_line<R: Files + AllocGlobal, W: Write>(
     rt: &R,
     script: &mut Script<'_, R>,
@@ -43,7 +43,7 @@ fn answer_line<R: Files + AllocGlobal, W: Write>(
     out.write_all(&text).map_err(|_| End::Output)
 }
 
-// A line without its end.
+// Returns a line without its end.
 fn without_end(line: &[u8]) -> &[u8] {
     match line.split_last() {
         Some((b'\n', rest)) => rest,
@@ -51,7 +51,7 @@ fn without_end(line: &[u8]) -> &[u8] {
     }
 }
 
-/// Carries out the lines that a reader has, and prints their answers.
+/// Performs the lines of a reader, and prints their answers.
 pub fn run<R: Files + AllocGlobal, I: BufRead, W: Write>(
     rt: &R,
     input: &mut I,

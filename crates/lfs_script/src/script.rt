@@ -1,4 +1,4 @@
-// What a script's commands do to the device in hand.
+// The commands of a script on the device in hand.
 
 ghost use Rattle.std.specs.Prelude.{◌≡◌, IfErr, IfOk};
 ghost use Rattle.lfs_script.specs.InHand.{IsCompared, IsUnmounted, calls_answer, calls_in};
@@ -26,7 +26,7 @@ fn compare_with_file<R: Files + AllocGlobal>(
     }
 }
 
-/// A script on its way.
+/// The state of a script.
 #[derive(Drop)]
 pub struct Script<'a, R: Files> {
     rt: &'a R,
@@ -34,7 +34,7 @@ pub struct Script<'a, R: Files> {
 }
 
 impl<'a, R: Files + AllocGlobal> Script<'a, R> {
-    /// A script at its beginning.
+    /// Begins a script.
     pub fn new(rt: &'a R) -> Script<'a, R> {
         Script {
             rt,
@@ -42,7 +42,7 @@ impl<'a, R: Files + AllocGlobal> Script<'a, R> {
         }
     }
 
-    // Takes a session in hand, or the device that came back.
+    // Takes a session in hand, or the device of an error.
     fn begin(&mut self, begun: Result<Session<Device>, (Device, Error)>) -> Answer
         ensures session { IfOk begun (λ s. (result ≡ Answer.Reply Reply.Done) × (self.new.hand ≡ Hand.Session s)) }
         ensures device { IfErr begun (λ back. (result ≡ Answer.Error back.1) × (self.new.hand ≡ Hand.Device back.0)) }
@@ -161,10 +161,10 @@ impl<'a, R: Files + AllocGlobal> Script<'a, R> {
         }
     }
 
-    /// Carries out a command.
+    /// Performs a command.
     ///
-    /// An operation is the session's; it is answered `Nothing` without one, and so is a comparison. `Calls` and `Save`
-    /// leave what is in hand.
+    /// An operation is one of the session. Without a session the answer to it, and to a comparison,
+    /// is `Nothing`. `Calls` and `Save` leave the device and the session.
     pub fn carry_out(&mut self, command: &Command) -> Answer
         ensures performed { (op : _) → command.now ≡ Command.Perform op → IsPerformed self.old.hand op result self.new.hand }
         ensures unmounted { command.now ≡ Command.Unmount → IsUnmounted self.old.hand result self.new.hand }

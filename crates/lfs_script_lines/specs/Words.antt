@@ -12,7 +12,7 @@ use Rattle.lfs_script_lines.specs.declared.words.Step.TheVariants.{To, Byte, Nev
 abbrev pub AreBytes : List ℕ → Type 0
 AreBytes bytes = All (λ b. b < 256) bytes
 
--- the bytes from `!` to `~` stand for themselves, but not the backslash
+-- the bytes from `!` to `~` are written as themselves, but not the backslash
 abbrev pub is_plain : ℕ → Bool
 is_plain b = nat_le 0x21 b && (nat_le b 0x7e && not (b == 0x5c))
 
@@ -22,7 +22,7 @@ is_plain b = nat_le 0x21 b && (nat_le b 0x7e && not (b == 0x5c))
 abbrev pub shown : ℕ → List ℕ
 shown b = if is_plain b && not (b == 0x2a) then b ∷ [] else 0x5c ∷ 0x78 ∷ hex_digit (b / 16) ∷ hex_digit (b % 16) ∷ []
 
--- the word for bytes; for none it is `\e`
+-- the word for bytes; for no bytes it is `\e`
 abbrev pub written : List ℕ → List ℕ
 written [] = 0x5c ∷ 0x65 ∷ []
 written (b ∷ bytes) = flat_map shown (b ∷ bytes)
@@ -42,20 +42,20 @@ abbrev pub byte_of : Option ℕ → Option ℕ → Step
 byte_of (Some high) (Some low) = Byte (high * 16 + low)
 byte_of _ _ = Never
 
--- what comes of a byte behind such a part of a word
+-- the result of a byte after such a part of a word
 abbrev pub advance : Part → ℕ → Step
 advance Text b = if b == 0x5c then To Backslash else if is_plain b then Byte b else Never
 advance Backslash b = if b == 0x78 then To Mark else Never
 advance Mark b = To (Digit b)
 advance (Digit first) b = byte_of (hex_value first) (hex_value b)
 
--- what comes of a part, or behind a byte
+-- the result of a part, or after a byte
 abbrev pub followed : Step → (Part → Option (List ℕ)) → Option (List ℕ)
 followed (To part) rest = rest part
 followed (Byte b) rest = option_map (λ bytes. b ∷ bytes) (rest Text)
 followed Never rest = None
 
--- the bytes that text stands for, where a part of it was before
+-- the bytes of a text, where a part of it was before
 abbrev pub spelled : Part → List ℕ → Option (List ℕ)
 spelled Text [] = Some []
 spelled _ [] = None
@@ -64,13 +64,13 @@ spelled part (b ∷ word) = followed (advance part b) (λ p. spelled p word)
 abbrev pub text_bytes : List ℕ → Option (List ℕ)
 text_bytes word = spelled Text word
 
--- the bytes that a word without a repetition stands for
+-- the bytes of a word without a repetition
 abbrev pub word_bytes : List ℕ → Option (List ℕ)
 word_bytes word = if bytes_eq word (0x5c ∷ 0x65 ∷ []) then Some [] else text_bytes word
 
 -- ---- repeated
 
--- counts before a word, each behind a star and with a colon after it
+-- counts before a word, each after a star and with a colon after it
 abbrev pub starred : List ℕ → List ℕ → List ℕ
 starred [] word = word
 starred (n ∷ counts) word = (0x2a ∷ decimal n) ++ 0x3a ∷ starred counts word

@@ -1,9 +1,9 @@
-// What a command answers.
+// The answers to commands.
 
 use lfs_device::Error;
 use lfs_fs::Reply;
 
-/// How many calls a device had, failed ones among them.
+/// How many calls a device had, with those that failed.
 #[derive(Clone, Copy, Debug, PartialEq, Eq)]
 pub struct Calls {
     pub reads: u64,
@@ -13,14 +13,14 @@ pub struct Calls {
     pub faults: u64,
 }
 
-/// What two sessions differ in. Paths are bytes.
+/// A difference of two sessions. Paths are bytes.
 #[derive(Drop)]
 pub enum Difference {
-    /// What stands at a path: nothing, a file of a size, or a directory.
+    /// The entry at a path: nothing, a file of a size, or a directory.
     Entry(Vec<u8>),
-    /// What the file at a path holds.
+    /// The bytes of the file at a path.
     Bytes(Vec<u8>),
-    /// An attribute of what stands at a path.
+    /// An attribute of the entry at a path.
     Attribute(Vec<u8>, u8),
     /// The global state.
     Gstate,
@@ -30,10 +30,10 @@ pub enum Difference {
     UsedCount,
 }
 
-/// What a command of a script answers.
+/// The answer to a command of a script.
 #[derive(Drop)]
 pub enum Answer {
-    /// A session's reply. It is `Done`, too, where a command that isn't an operation was carried out.
+    /// A session's reply. It is `Done`, too, after a command that isn't an operation.
     Reply(Reply),
     /// The file system failed.
     Error(Error),

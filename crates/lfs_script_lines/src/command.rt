@@ -1,20 +1,21 @@
-// What a line asks for.
+// The commands of lines.
 
 use lfs_device::{Erased, Fault, NameOrder};
 use lfs_fs::OpenFlags;
 
-/// What of two sessions is compared.
+/// How much of two sessions is compared.
 #[derive(Clone, Copy)]
 pub enum Scope {
-    /// All that they answer.
+    /// All that they reply.
     Whole,
     /// All but the attributes of other types than this one.
     Kind(u8),
-    /// All but attributes and what files hold.
+    /// All but attributes and the bytes of files.
     Entries,
 }
 
-/// What a line of a script asks for. Sizes are in bytes, and nothing is checked against a device yet.
+/// The command of a line of a script. Sizes are in bytes, and nothing is checked against a device
+/// yet.
 #[derive(Drop)]
 pub enum Command {
     /// A blank device, made an empty file system.
@@ -38,7 +39,7 @@ pub enum Command {
     },
     /// The end of the session.
     Unmount,
-    /// A session over the device in hand, one of whose calls is to fail.
+    /// A session over the device in hand, one of whose calls will fail.
     Mount(Fault),
     /// The device's bytes, into the file at a path.
     Save(Vec<u8>),

@@ -1,4 +1,4 @@
-//! Scripts: operations on a file system as text, one a line, and what they answer.
+//! Scripts: operations on a file system as text, one a line, and the answers to them.
 #![tactic(auto)]
 
 mod answer;

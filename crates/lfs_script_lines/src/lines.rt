@@ -11,7 +11,7 @@ use lfs_device::{Erased, Extent, Fault, NameOrder, Which};
 use lfs_fs::OpenFlags;
 use std::alloc::{AllocError, AllocFailed, Global};
 
-/// Why a line is no command.
+/// The cause for which a line is no command.
 #[derive(Clone, Copy, Debug, PartialEq, Eq)]
 pub enum LineError {
     /// It isn't one of a script's commands, or has other words than that command.
@@ -64,7 +64,7 @@ fn hex_byte(word: &[u8]) -> Result<u8, LineError> {
     }
 }
 
-// The command of a line that is one word.
+// Returns the command of a line that is one word.
 fn bare_command(name: &[u8]) -> Result<Command, LineError> {
     let operation = match name {
         b"unmount" => return Ok(Command::Unmount),
@@ -80,7 +80,7 @@ fn bare_command(name: &[u8]) -> Result<Command, LineError> {
     Ok(Command::Perform(operation))
 }
 
-// What of two sessions is compared, by the word for it.
+// Returns how much of two sessions is compared, by the word for it.
 fn scope(word: &[u8]) -> Result<Scope, LineError> {
     match word {
         b"entries" => Ok(Scope::Entries),
@@ -88,7 +88,7 @@ fn scope(word: &[u8]) -> Result<Scope, LineError> {
     }
 }
 
-// That of a line with one word behind its name.
+// Returns the command of a line with one word after its name.
 fn command_on(alloc: Global, name: &[u8], word: &[u8]) -> Result<Command, LineError> {
     let operation = match name {
         b"save" => return Ok(Command::Save(bytes(alloc, word)?)),
@@ -106,7 +106,7 @@ fn command_on(alloc: Global, name: &[u8], word: &[u8]) -> Result<Command, LineEr
     Ok(Command::Perform(operation))
 }
 
-// The operation of a line with two words behind its name.
+// Returns the operation of a line with two words after its name.
 fn operation_on(
     alloc: Global,
     name: &[u8],
@@ -126,7 +126,7 @@ fn operation_on(
     }
 }
 
-// A device none of whose calls is to fail.
+// Returns a device none of whose calls fails.
 const NO_FAULT: Fault = Fault {
     which: Which::Any,
     nth: 0,
@@ -144,7 +144,7 @@ fn which(word: &[u8]) -> Result<Which, LineError> {
     }
 }
 
-// What a failing call leaves, by the words for it.
+// Returns what a failing call leaves, by the words for it.
 fn extent(words: &[&[u8]]) -> Result<Extent, LineError> {
     match words {
         [] => Ok(Extent::Nothing),
@@ -154,7 +154,7 @@ fn extent(words: &[&[u8]]) -> Result<Extent, LineError> {
     }
 }
 
-// At which call a device is to fail, by the words for it.
+// Returns at which call a device fails, by the words for it.
 fn fault(words: &[&[u8]]) -> Result<Fault, LineError> {
     let [kind, nth, rest @ ..] = words else {
         return Err(LineError::Words);
@@ -171,7 +171,7 @@ fn fault(words: &[&[u8]]) -> Result<Fault, LineError> {
     })
 }
 
-// What a device's erases leave, by the words for it.
+// Returns what a device's erases leave, by the words for it.
 fn erased(words: &[&[u8]]) -> Result<Erased, LineError> {
     match words {
         [] => Ok(Erased::Fill(0xff)),
@@ -181,7 +181,8 @@ fn erased(words: &[&[u8]]) -> Result<Erased, LineError> {
     }
 }
 
-// A blank device, by the words for it. Without a word for the order the longer names come first.
+// Returns a blank device, by the words for it. Without a word for the order the longer names come
+// first.
 fn fresh(words: &[&[u8]]) -> Result<Command, LineError> {
     let [block_size, page, block_count, rest @ ..] = words else {
         return Err(LineError::Words);
@@ -200,7 +201,7 @@ fn fresh(words: &[&[u8]]) -> Result<Command, LineError> {
     })
 }
 
-// The command of a line with several words behind its name.
+// Returns the command of a line with several words after its name.
 fn long_command(alloc: Global, name: &[u8], words: &[&[u8]]) -> Result<Command, LineError> {
     match (name, words) {
         (b"mount", _) => Ok(Command::Mount(fault(words)?)),
@@ -221,7 +222,7 @@ fn long_command(alloc: Global, name: &[u8], words: &[&[u8]]) -> Result<Command, 
     }
 }
 
-// The words of a line.
+// Returns the words of a line.
 fn words_of<'a>(alloc: Global, line: &'a [u8]) -> Result<Vec<&'a [u8]>, LineError> {
     let mut words = Vec::new(alloc);
     for word in line.split(|byte| *byte == b' ') {
@@ -233,7 +234,7 @@ fn words_of<'a>(alloc: Global, line: &'a [u8]) -> Result<Vec<&'a [u8]>, LineErro
     Ok(words)
 }
 
-/// The command that a line is. None where it is empty or begins with `#`.
+/// Returns the command of a line. Returns None where the line is empty or begins with `#`.
 ///
 /// # Errors
 /// - `Words` where the line is no command of a script.

@@ -5,7 +5,7 @@ ghost use Rattle.std.specs.Fmt.{decimal};
 
 use std::str;
 
-// The number that a word is in a base. No sign stands before its digits.
+// Returns the number of a word in a base. No sign is before its digits.
 fn read_number(word: &[u8], base: u32) -> Option<u32>
     requires low { 2 ≤ base }
     requires high { base ≤ 36 }
@@ -20,14 +20,14 @@ fn read_number(word: &[u8], base: u32) -> Option<u32>
     }
 }
 
-// The decimal number below 2^32 that a word is. None where it is none.
+// Returns the decimal number below 2^32 of a word, if it is one.
 pub(crate) fn read_decimal(word: &[u8]) -> Option<u32>
     ensures { (n : ℕ) → n < 2 ^ 32 → word.now ≡ decimal n → result ≡ Some n }
 {
     read_number(word, 10)
 }
 
-// The hexadecimal number below 2^32 that a word is. None where it is none.
+// Returns the hexadecimal number below 2^32 of a word, if it is one.
 pub(crate) fn read_hex(word: &[u8]) -> Option<u32> {
     read_number(word, 16)
 }

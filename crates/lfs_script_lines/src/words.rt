@@ -8,7 +8,7 @@ ghost use Rattle.lfs_script_lines.specs.Words.{AreBytes, AreCounts, advance, hex
 use crate::numbers::read_decimal;
 use std::alloc::{AllocError, Global};
 
-// What stands before the next byte of a word.
+// The part of a word before its next byte.
 #[derive(Clone, Copy)]
 pub(crate) enum Part {
     Text,
@@ -18,7 +18,7 @@ pub(crate) enum Part {
     Digit(u8),
 }
 
-// What a byte of a word makes.
+// The result of a byte of a word.
 #[derive(Clone, Copy)]
 pub(crate) enum Step {
     To(Part),
@@ -26,7 +26,7 @@ pub(crate) enum Step {
     Never,
 }
 
-// Whether a byte stands for itself in a word.
+// Returns whether a byte is written as itself in a word.
 pub(crate) fn is_plain(byte: u8) -> bool
     ensures { result ≡ is_plain byte }
 {
@@ -45,7 +45,7 @@ fn hex_value(digit: u8) -> Option<u8>
     }
 }
 
-// What comes of a byte behind such a part.
+// Returns the result of a byte after such a part.
 fn advance(part: Part, byte: u8) -> Step
     ensures { result ≡ advance part byte }
 {
@@ -62,7 +62,7 @@ fn advance(part: Part, byte: u8) -> Step
     }
 }
 
-// The bytes that text with `\xNN` for some of its bytes stands for.
+// Returns the bytes of a text with `\xNN` for some of its bytes.
 fn read_text(alloc: Global, word: &[u8]) -> Result<Option<Vec<u8>>, AllocError>
     ensures { IfOk result (λ found. option_map (λ v. v.items) found ≡ text_bytes word.now) }
 {
@@ -94,14 +94,14 @@ fn read_plain(alloc: Global, word: &[u8]) -> Result<Option<Vec<u8>>, AllocError>
     }
 }
 
-// Where the first colon stands.
+// Returns where the first colon is.
 fn colon(text: &[u8]) -> Option<usize>
     ensures { result ≡ position (λ b. b == 0x3a) text.now }
 {
     text.iter().position(|byte| *byte == b':')
 }
 
-// The count behind a star, and what stands behind its colon.
+// Returns the count after a star, and the text after its colon.
 fn star(behind: &[u8]) -> Option<(u32, &[u8])>
     ensures shorter { IfSome result (λ r. length r.1.now < length behind.now) }
     ensures counted { (n : ℕ) (rest : List ℕ) → n < 2 ^ 32 → behind.now ≡ decimal n ++ 0x3a ∷ rest → IsSomeAnd result (λ r. (r.0 ≡ n) × (r.1.now ≡ rest)) }
@@ -111,7 +111,7 @@ fn star(behind: &[u8]) -> Option<(u32, &[u8])>
     Some((times, &behind[end + 1..]))
 }
 
-// How many times the rest of a word is to be taken, and that rest. The count saturates.
+// Returns how many times the remaining text of a word is taken, and that text. The count saturates.
 fn repetition(word: &[u8]) -> Option<(u64, &[u8])>
     ensures plain { slice_index word.now 0 ≢ 0x2a → IsSomeAnd result (λ r. (r.0 ≡ 1) × (r.1.now ≡ word.now)) }
     ensures starred { (counts : List ℕ) (rest : List ℕ) → AreCounts counts → slice_index rest 0 ≢ 0x2a → word.now ≡ starred counts rest
@@ -127,7 +127,7 @@ fn repetition(word: &[u8]) -> Option<(u64, &[u8])>
     Some((count, rest))
 }
 
-// The bytes so many times.
+// Returns the bytes so many times.
 fn repeated(alloc: Global, bytes: &[u8], count: u64) -> Result<Vec<u8>, AllocError>
     ensures bytes { IfOk result (λ v. v.items ≡ repeat count bytes.now) }
     ensures room { IfOk result (λ v. length v.items < 2 ^ 63) }
@@ -135,16 +135,16 @@ fn repeated(alloc: Global, bytes: &[u8], count: u64) -> Result<Vec<u8>, AllocErr
     bytes.repeat(alloc, count as usize)
 }
 
-/// The bytes that a word stands for. None where it stands for none.
+/// Returns the bytes of a word, if it has any meaning.
 ///
-/// In a word `\xNN` stands for a byte, and the bytes from 0x21 to 0x7e other than `\` for themselves.
-/// `\e` is no byte at all, and `*COUNT:WORD` the word's bytes so many times.
+/// In a word `\xNN` is any byte, and the bytes from 0x21 to 0x7e other than `\` are themselves.
+/// `\e` is no byte at all, and `*COUNT:WORD` is the word's bytes so many times.
 pub fn read_word(alloc: Global, word: &[u8]) -> Result<Option<Vec<u8>>, AllocError>
     ensures plain { slice_index word.now 0 ≢ 0x2a → IfOk result (λ found. option_map (λ v. v.items) found ≡ word_bytes word.now) }
     // Counts before it are multiplied.
     ensures starred { (counts : List ℕ) (rest : List ℕ) → AreCounts counts → slice_index rest 0 ≢ 0x2a → word.now ≡ starred counts rest
         → IfOk result (λ found. option_map (λ v. v.items) found ≡ option_map (λ bytes. repeat (times_in counts) bytes) (word_bytes rest)) }
-    // The word that bytes are written as is read as these.
+    // The word that bytes are written as is read as these bytes.
     ensures again { (bytes : List ℕ) → AreBytes bytes → word.now ≡ written bytes → IfOk result (λ found. option_map (λ v. v.items) found ≡ Some bytes) }
 {
     let Some((count, rest)) = repetition(word) else {

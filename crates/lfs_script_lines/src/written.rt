@@ -30,7 +30,7 @@ fn push_byte(text: &mut Vec<u8>, byte: u8) -> Result<(), AllocError>
     Ok(())
 }
 
-/// Adds the word for bytes: `read_word` reads them from it again.
+/// Adds the word for bytes, from which `read_word` reads them again.
 pub fn push_word(text: &mut Vec<u8>, bytes: &[u8]) -> Result<(), AllocError>
     ensures { OnOk result (text.new.items ≡ text.old.items ++ written bytes.now) }
 {

@@ -12,13 +12,13 @@ use Rattle.lfs_tool.specs.declared.writer.Writer.{Ghosts}
 abbrev pub HasLine : List (List ℕ) → Type 0
 HasLine words = Parses words × HasOneMode (rows words) × HasOrder (rows words)
 
--- a fault that a run of these words may end in: of the line as the line tells, and of the tool only where there is one
+-- a fault that a run of these words may end in: of the line as the parser decides, and of the tool only where there is a line
 abbrev pub IsFaultIn : List (List ℕ) → Fault → Type 0
 IsFaultIn words (Line e) = IsFaultOf words e
 IsFaultIn words (Tool e) = HasLine words
 
--- The fault is shown to the writer of mistakes: its status, and unless the writer failed its line, where that is the
--- tool's own, or the parser's text, either flushed. Help is no mistake.
+-- The fault is shown: the run has its status. Unless the writer failed, the fault's own line or the parser's text was written and
+-- flushed. Help is no fault.
 pub record IsShown {W : Type 0} (g : Ghosts W) (f : Fault) (code : ℕ) (old new : W) : Type 0 where
   pub status : code ≡ status_of f
   pub line : g.faults new ≡ g.faults old → IfSome (own_line f) (λ line. Appends (g.contents old) (g.contents new) line × (g.pending new ≡ 0))
@@ -30,7 +30,7 @@ abbrev pub status_for : Bool → ℕ
 status_for true = 0
 status_for false = 1
 
--- what was asked is done, as it is to end then, and no mistake is written; or a fault is shown
+-- the request is done, as it ends then, and no error is written; or a fault is shown
 abbrev pub IsAnswered : {W : Type 0} → Ghosts W → List (List ℕ) → (Bool → Type 0) → ℕ → W → W → Type 0
 IsAnswered g words ends code old new =
     (HasLine words × ((accepted : Bool) × ((code ≡ status_for accepted) × ends accepted)) × (new ≡ old))

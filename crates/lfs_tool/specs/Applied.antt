@@ -1,4 +1,4 @@
--- The operations that carry what was read over, and how they end.
+-- The operations that copy what was read, and how they end.
 use Rattle.std.specs.Prelude.{ℕ, ◌≡◌, Bool, true, false, List, [], ◌∷◌, ◌++◌, Option, Some, None, Result, Ok, Err, All}
 use Rattle.std.specs.List.{flat_map}
 use Rattle.lfs_device.specs.declared.error.Error.{Error}
@@ -17,12 +17,12 @@ use Rattle.lfs_tool_folders.specs.declared.entries.Entry.{Entry}
 
 -- ---- the operations
 
--- a folder is made before anything stands in it
+-- a folder is made before its entries
 abbrev pub node_by : Option (List ℕ) → Node
 node_by None = DirectoryNode [] []
 node_by (Some bytes) = FileNode [] bytes
 
--- what carries an entry over
+-- the operations that copy an entry
 abbrev pub operations_of : Entry → List Operation
 operations_of e = operations_for e.path.items (node_by (items_by e.bytes))
 
@@ -45,7 +45,7 @@ pub record HasNoFile (at : SystemState) : Type 0 where
 
 -- ---- how they end
 
--- The operations in turn, none of them refused.
+-- The operations in order, none of them refused.
 pub record AreAllAccepted (from : SystemState) (operations : List Operation) (to : SystemState) : Type 0 where
   pub replies : List Reply
   pub session_steps : AreSessionSteps from operations replies to
@@ -56,7 +56,7 @@ abbrev pub Ends : Bool → Error → SystemState → Operation → SystemState �
 Ends true e from op to = IsSessionStep from op (ops.Refused (refusal_in e)) to
 Ends false e from op to = FailsBy e from op to
 
--- Some of the operations are carried out, and the next one ends in that error.
+-- Some of the operations are applied, and the next one ends in that error.
 pub record AreEndedBy (e : Error) (from : SystemState) (operations : List Operation) (to : SystemState) : Type 0 where
   pub done : List Operation
   pub next : Operation
@@ -70,7 +70,7 @@ abbrev pub AppliesAll : {X : Type 0} → SystemState → List Operation → Resu
 AppliesAll from operations (Ok x) to = AreAllAccepted from operations to
 AppliesAll from operations (Err e) to = AreEndedBy e from operations to
 
--- Of the operations in turn, this is the first refusal.
+-- Of the operations in order, this is the first refusal.
 pub record IsFirstRefusal (from : SystemState) (operations : List Operation) (e : Error) : Type 0 where
   pub done : List Operation
   pub next : Operation

@@ -1,4 +1,4 @@
--- What a command line asks of an image that is made.
+-- What a command line requests of an image that is made.
 use Rattle.std.specs.Prelude.{◌≡◌, ◌/◌, ◌%◌}
 use Rattle.lfs_model.specs.Geometry.{IsGeometry}
 use Rattle.lfs_device.specs.declared.error.Error.{Error}

@@ -21,7 +21,7 @@ pub record AreRead (size : ℕ) (bytes : List ℕ) (blocks : List BlockExcerpt) 
   pub whole : length bytes ≡ size * length blocks
   pub excerpts : AreExcerpts (cut size (length blocks) bytes) (blocks_shown blocks)
 
--- behind the old blocks comes an excerpt of this one
+-- an excerpt of this block follows the old blocks
 pub record IsPushed (block : List ℕ) (old new : List BlockExcerpt) : Type 0 where
   pub kept : BlockExcerpt
   pub is : new ≡ old ++ kept ∷ []

@@ -14,7 +14,7 @@ use Rattle.lfs_tool.specs.declared.findings.Stated.{Stated}
 
 -- ---- superblocks
 
--- what a superblock's struct says isn't so
+-- a number of a superblock's struct is wrong
 abbrev pub IsMisstated : Disk → SuperblockFields → Stated → Type 0
 IsMisstated disk fields stated = IsUnlike disk.block_size (block_count disk) fields stated
 

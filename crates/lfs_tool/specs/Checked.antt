@@ -1,4 +1,4 @@
--- What a check says of an image.
+-- The result of a check of an image.
 use Rattle.std.specs.Prelude.{ℕ, ◌≡◌, ◌<◌, ◌≤◌, ◌/◌, Bool, true, false, List, length, Option, Some, None}
 use Rattle.lfs_tool.specs.Found.{IsFound}
 use Rattle.lfs_tool.specs.Stated.{IsStatedIn}

@@ -1,4 +1,4 @@
--- What a look at an image says of the device.
+-- What a check of an image does to the device.
 use Rattle.std.specs.Prelude.{◌≡◌, ◌⊎◌, Result, IfErr}
 use Rattle.lfs_model.specs.Disk.{Disk, block_count}
 use Rattle.lfs_device.specs.declared.geometry.Geometry.{Geometry}
@@ -7,7 +7,7 @@ use Rattle.lfs_device.specs.declared.error.Error.{Error}
 use Rattle.lfs_device.specs.declared.error.Error.TheVariants.{Io, NoMemory}
 use Rattle.lfs_device.specs.Calls.{ReadsOnly, ReportsFaults}
 
--- The device was only read; `Io` comes with a fault of it, and any other answer without one.
+-- The device was only read. `Io` comes with a fault of the device, and any other result without one.
 pub record Looks {D X : Type 0} (g : Ghosts D) (old new : D) (result : Result X Error) : Type 0 where
   pub device : ReadsOnly g old new
   pub errors : IfErr result (λ e. (e ≡ Io) ⊎ (e ≡ NoMemory))

@@ -10,7 +10,7 @@ use Rattle.lfs_device.specs.declared.error.Error.TheVariants.{NoMemory}
 use Rattle.lfs_tool.specs.declared.errors.Fault.{Fault}
 use Rattle.lfs_tool.specs.declared.errors.Fault.TheVariants.{Line, Tool}
 
--- where the parser's text goes
+-- which writer gets the parser's text
 pub data Shown : Type 0 where
   memory : Shown
   help : Shown

@@ -4,7 +4,7 @@ use Rattle.lfs_model.specs.Blocks.{Blocks}
 use Rattle.lfs_model.specs.Content.{has_commit}
 use Rattle.lfs_model.specs.Disk.{Disk}
 
--- no less than what pointers take in a block of a skip list: 33 of four bytes are the most that the definitions allow
+-- at least the length of the pointers of a skip list's block: 33 of four bytes are the most that the definitions allow
 abbrev pub pointer_bytes : ℕ
 pointer_bytes = 132
 
@@ -32,7 +32,7 @@ pub record IsExcerpt (disk excerpt : Disk) : Type 0 where
 abbrev pub padded : ℕ → List ℕ → List ℕ
 padded size bytes = bytes ++ replicate (size - length bytes) 255
 
--- a block is kept whole where it has a commit, or would have one with erased bytes behind its first ones
+-- a block is kept whole where it has a commit, or would have one with erased bytes after its first ones
 abbrev pub is_kept_whole : List ℕ → Bool
 is_kept_whole block = has_commit block || has_commit (padded (length block) (take pointer_bytes block))
 

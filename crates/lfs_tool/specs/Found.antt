@@ -1,4 +1,4 @@
--- What each finding says of an image.
+-- What each finding means for an image.
 use Rattle.std.specs.Prelude.{ℕ, ◌≡◌, ◌⊎◌, ◌<◌, ◌≤◌, false, List, length, slice_get, Some, None}
 use Rattle.std.specs.Option.{option_map}
 use Rattle.lfs_model.specs.Content.{RawContent, content_after_all, has_commit, holder_at, no_content, raw_at, slot_of_id}
@@ -21,7 +21,7 @@ Has at block = (at.0 ≡ block) ⊎ (at.1 ≡ block)
 abbrev pub LacksCommit : Disk → ℕ × ℕ → Type 0
 LacksCommit disk at = (has_commit (block_at disk at.0) ≡ false) × (has_commit (block_at disk at.1) ≡ false)
 
--- the block that holds has a log with an entry that may not stand there
+-- the block that holds has a log with an entry that isn't allowed there
 abbrev pub IsMalformed : Disk → ℕ × ℕ → Type 0
 IsMalformed disk at = (block : List ℕ) × ((holder_at disk at ≡ Some block) × (content_after_all no_content (log_entries block) ≡ None))
 
@@ -40,7 +40,7 @@ pub record LacksStruct (disk : Disk) (at : ℕ × ℕ) (id : ℕ) (name : List �
   pub named : option_map (λ n. n.1) (slot_of_id content.slots id).name ≡ Some name
   pub struct : (slot_of_id content.slots id).struct ≡ None
 
--- the block stands in the pair that the thread names at an address, and in one in front of it
+-- the block is in the pair that the thread names at an address, and in one before it
 pub record IsInTwo (disk : Disk) (block : ℕ) (at other : ℕ × ℕ) : Type 0 where
   pub pairs : List Pair
   pub begins : BeginsWith disk pairs (Some at)

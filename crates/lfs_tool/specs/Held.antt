@@ -1,4 +1,4 @@
--- What is held of the pairs of a thread: what the rules speak of, without attributes.
+-- The parts of a thread's pairs that the rules are about, without attributes.
 use Rattle.std.specs.Prelude.{List, [], ◌∷◌, map, Option, Some, None}
 use Rattle.std.specs.List.{flat_map}
 use Rattle.std.specs.Option.{option_map}

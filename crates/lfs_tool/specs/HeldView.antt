@@ -1,4 +1,4 @@
--- What is held, in the words of the definitions.
+-- Pairs and slots of the code, as the definitions have them.
 use Rattle.std.specs.Prelude.{List, [], map}
 use Rattle.std.specs.Option.{option_map}
 use Rattle.lfs_model.specs.Slots.{Slot, Struct, address_of}

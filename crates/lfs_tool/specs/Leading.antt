@@ -10,7 +10,7 @@ abbrev pub LinksTo : Option (ℕ × ℕ) → List Pair → Option (ℕ × ℕ) �
 LinksTo at [] next = at ≡ next
 LinksTo at (p ∷ ps) next = (at ≡ Some p.at) × LinksTo (next_of p.content.tail) ps next
 
--- These pairs are the first ones of the thread, each with what it holds, and `next` is the address behind them. They are the whole
+-- These pairs are the first ones of the thread, each with what it holds, and `next` is the address after them. They are the whole
 -- thread where there is none.
 pub record BeginsWith (disk : Disk) (ps : List Pair) (next : Option (ℕ × ℕ)) : Type 0 where
   pub links : LinksTo (Some anchor) ps next

@@ -1,4 +1,4 @@
--- What a listing answers.
+-- What a list returns.
 use Rattle.std.specs.Prelude.{ℕ, ◌≡◌, false, List, ◌++◌, Option, Some, None, codes, length}
 use Rattle.std.specs.List.{flat_map}
 use Rattle.std.specs.Fmt.{decimal}
@@ -35,7 +35,7 @@ abbrev pub line_with : Option ℕ → List ℕ → List ℕ
 line_with (Some size) path = (codes "f " ++ decimal size ++ codes " ") ++ escaped_text path ++ newline
 line_with None path = codes "d 0 " ++ escaped_text path ++ newline
 
--- a file's size, by what its entry says
+-- a file's size, by its entry
 abbrev pub size_in : Struct → Option ℕ
 size_in (Inline bytes) = Some (length bytes)
 size_in (Ctz head size) = Some size

@@ -49,7 +49,7 @@ pub record IsRefused (geometry : Geometry) (entries : List Entry) (e : Error) : 
   pub begins : Begins geometry from
   pub first : IsFirstRefusal from (operations_of_all entries) e
 
--- These operations carry the source's tree over, where it is known what it shows.
+-- These operations copy the source's tree, where it is known what the source shows.
 abbrev pub CarryOver : Option Source → List Operation → Type 0
 CarryOver known operations = IfSome known (λ s. (tree : Tree) × (IsTreeOf s tree × IsCarryingOver tree operations))
 
@@ -66,7 +66,7 @@ pub record IsMade (geometry : Geometry) (known : Option Source) (bytes : List �
   pub gstate : gstate_of pairs ≡ no_gstate
   pub tree : IfSome known (λ s. IsTreeOf s (tree_in (disk_of geometry.block_size geometry.page geometry.order bytes) pairs))
 
--- all that the source has is carried over, and what is known to be written grew by one image of it
+-- all that the source has is copied, and what is known to be written grew by one image of it
 abbrev pub IsCreated : Geometry → Option Source → Option (List ℕ) → Option (List ℕ) → Type 0
 IsCreated geometry known old new = (entries : List Entry) × (AreAll known entries
     × (CarryOver known (operations_of_all entries) × ((image : List ℕ) × (AreLeft geometry entries image × (IsMade geometry known image × Appends old new image)))))
@@ -75,12 +75,12 @@ IsCreated geometry known old new = (entries : List Entry) × (AreAll known entri
 abbrev pub IsBeginningOfImage : Geometry → Option Source → Option (List ℕ) → Option (List ℕ) → Type 0
 IsBeginningOfImage geometry known old new = (image : List ℕ) × (IsMade geometry known image × AppendsBeginning old new image)
 
--- an operation that carries over what the source has is refused, and this is the first refusal
+-- an operation that copies what the source has is refused, and this is the first refusal
 abbrev pub HasRefusal : Geometry → Option Source → Error → Type 0
 HasRefusal geometry known e = (entries : List Entry) × (AreAll known entries × (CarryOver known (operations_of_all entries) × IsRefused geometry entries e))
 
--- `Input` comes where the source fails, which it does once, or where it doesn't and a folder in it has bad names; behind
--- any other answer it has failed as often as before
+-- `Input` comes where the source fails, which it does once, or where it doesn't and a folder in it has bad names. After any other
+-- result it has failed as often as before.
 abbrev pub ReportsSource : {X : Type 0} → ℕ → ℕ → Option Source → Result X ToolError → Type 0
 ReportsSource old new known (Err Input) = FailsOr old new (IfSome known HasBadNames)
 ReportsSource old new known other = new ≡ old

@@ -1,4 +1,4 @@
--- What is shown with the names in one of the two orders.
+-- What holds with the names in one of the two orders.
 use Rattle.std.specs.Prelude.{ℕ, List}
 use Rattle.lfs_device.specs.Shown.{ordered}
 use Rattle.lfs_model.specs.Disk.{Disk, disk_of}

@@ -1,4 +1,4 @@
--- What a command line asks for, of what stands at its paths.
+-- What a command line requests of the files and folders at its paths.
 use Rattle.std.specs.Prelude.{ℕ, suc, ◌≡◌, ◌⊎◌, Bool, true, false, List, Option, IfSome}
 use Rattle.std.specs.Io.KnownBytes.{Appends}
 use Rattle.lfs_device.specs.declared.error.Error.{Error}
@@ -20,7 +20,7 @@ use Rattle.lfs_tool.specs.Asked.{HasNoGeometry, HasSizes}
 abbrev pub At : {X : Type 0} → (X → List ℕ) → List ℕ → (X → Type 0) → Type 0
 At path_of path P = (x : _) × ((path_of x ≡ path) × P x)
 
--- which of the four is asked for; two of them, with a folder
+-- which of the four is requested; two of them, with a folder
 abbrev pub By : Mode → Type 0 → Type 0 → (List ℕ → Type 0) → (List ℕ → Type 0) → Type 0
 By mode.List listed checked made unpacked = listed
 By mode.Check listed checked made unpacked = checked
@@ -72,7 +72,7 @@ RefusesAt path_of bytes line e = At path_of line.image.now (λ i. IfSome (bytes 
 abbrev pub RefusesToMake : {F : Type 0} → (F → List ℕ) → (F → Option Source) → Line → Error → List ℕ → Type 0
 RefusesToMake folder_of shown line e folder = HasNoGeometry line e ⊎ At folder_of folder (λ f. (g : _) × (HasSizes line g × HasRefusal g (shown f) e))
 
--- what stands at the path fails
+-- the file or folder at the path fails
 abbrev pub FailsAt : {X : Type 0} → (X → List ℕ) → (X → ℕ) → List ℕ → Type 0
 FailsAt path_of faults path = At path_of path (λ x. (after : _) × (faults after ≡ suc (faults x)))
 

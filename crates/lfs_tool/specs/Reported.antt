@@ -1,4 +1,4 @@
--- What an answer tells of the reader and the writer that were used.
+-- What a result means for the reader and the writer that were used.
 use Rattle.std.specs.Prelude.{◌≡◌, ◌<◌, ◌⊎◌, ℕ, suc, List, Option, Result, Ok, Err, IsErrOf, length}
 use Rattle.std.specs.Io.KnownBytes.{Consumes, IsAtEnd}
 use Rattle.lfs_tool.specs.declared.errors.ToolError.{ToolError}
@@ -9,8 +9,8 @@ use Rattle.lfs_tool.specs.declared.writer.Writer.{Ghosts}
 abbrev pub ReportsOnce : {X : Type 0} → ToolError → ℕ → ℕ → Result X ToolError → Type 0
 ReportsOnce e old new r = (IsErrOf r e → new ≡ suc old) × (¬ IsErrOf r e → new ≡ old)
 
--- `Output` comes exactly where the writer fails, which it does once. Behind any other error it is as it was, and else what
--- was written was flushed.
+-- `Output` comes exactly where the writer fails, which it does once. After any other error the writer is as it was, and else its
+-- bytes were flushed.
 abbrev pub ReportsWriter : {W X : Type 0} → Ghosts W → W → W → Result X ToolError → Type 0
 ReportsWriter g old new (Ok x) = (g.faults new ≡ g.faults old) × (g.pending new ≡ 0)
 ReportsWriter g old new (Err Output) = g.faults new ≡ suc (g.faults old)

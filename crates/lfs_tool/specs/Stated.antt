@@ -1,10 +1,10 @@
--- What a superblock says by its place in an image's bytes, whatever its blocks hold.
+-- The numbers of a superblock by its place in an image's bytes, whatever the image's blocks hold.
 use Rattle.std.specs.Prelude.{ℕ, ◌≡◌, ◌≢◌, ◌⊎◌, ◌+◌, ◌/◌, ◌≤◌, List, length, slice_range, codes}
 use Rattle.lfs_model.specs.EntryTypes.{SuperblockFields, superblock_at}
 use Rattle.lfs_tool.specs.declared.findings.Stated.{Stated}
 use Rattle.lfs_tool.specs.declared.findings.Stated.TheVariants as stated
 
--- the fields say something else than blocks of that size, so many of them, and version 2.0
+-- the fields give something else than blocks of that size, so many of them, and version 2.0
 abbrev pub IsUnlike : ℕ → ℕ → SuperblockFields → Stated → Type 0
 IsUnlike block_size count fields (stated.BlockSize n) = (fields.block_size ≡ n) × (n ≢ block_size)
 IsUnlike block_size count fields (stated.BlockCount n) = (fields.block_count ≡ n) × (n ≢ count)
@@ -16,7 +16,7 @@ pub record StandsAt (bytes : List ℕ) (from : ℕ) (fields : SuperblockFields) 
   pub name : slice_range bytes (from + 8) (from + 16) ≡ codes "littlefs"
   pub struct : superblock_at (slice_range bytes (from + 20) (from + 44)) ≡ fields
 
--- the superblock in block 0 or 1 says something of these bytes that isn't so
+-- a number in the superblock of block 0 or 1 is wrong for these bytes
 pub record IsStatedIn (bytes : List ℕ) (block_size : ℕ) (stated : Stated) : Type 0 where
   pub from : ℕ
   pub block : (from ≡ 0) ⊎ (from ≡ block_size)

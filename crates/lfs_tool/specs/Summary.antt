@@ -36,11 +36,11 @@ is_file_item i = is_file_struct (structure_view i.structure)
 
 -- ---- an accepted image
 
--- the global state says that an operation isn't ended
+-- the global state has an operation to end
 abbrev pub is_half_done : Gstate → Bool
 is_half_done g = g.sync || not (g.kind == no_move)
 
--- what the image of these pairs has: all that stands beneath its root is a file or a directory
+-- what the image of these pairs has: all entries beneath its root are files or directories
 pub record HasSummary (disk : Disk) (ps : List Pair) (c : Summary) : Type 0 where
   pub entries : List Entry
   pub walk : IsWalkOf (tree_in disk ps) entries

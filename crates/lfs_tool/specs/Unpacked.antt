@@ -1,4 +1,4 @@
--- What an unpacking answers.
+-- What an unpacking returns.
 use Rattle.std.specs.Prelude.{ℕ, ◌≡◌, ◌⊎◌, ◌++◌, suc, List, Option, Some, None, Result, Ok, Err, map, take}
 use Rattle.std.specs.List.{AllByRecursion}
 use Rattle.lfs_model.specs.Disk.{Disk, IsImage}
@@ -48,7 +48,8 @@ actions_at disk places = map (action_at disk) places
 abbrev pub AreLists : Disk → List Place → Type 0
 AreLists disk places = AllByRecursion (λ p. IsListIfCtz disk p.struct) places
 
--- `Output` comes where the target has failed, and any other answer where it hasn't: then memory ran out, if it is an error
+-- `Output` comes where the target has failed, and any other result where it hasn't: then memory ran out, if the result is an
+-- error
 abbrev pub ReportsFault : ℕ → ℕ → ToolError → Type 0
 ReportsFault old new Output = new ≡ suc old
 ReportsFault old new (Fs NoMemory) = new ≡ old

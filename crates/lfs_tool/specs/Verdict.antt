@@ -1,4 +1,4 @@
--- What a verdict says of a disk.
+-- What a verdict means for a disk.
 use Rattle.std.specs.Prelude.{List, IfSome}
 use Rattle.lfs_device.specs.Shown.{ordered}
 use Rattle.lfs_model.specs.Disk.{Disk}

@@ -1,4 +1,4 @@
--- What callers see of a reader or a writer of std that is watched.
+-- What contracts see of a reader or a writer of std that is watched.
 use Rattle.std.specs.Prelude.{ℕ}
 use Rattle.lfs_tool.specs.declared.watched.Watched.{Watched}
 

@@ -10,7 +10,7 @@ ghost use Rattle.lfs_tool.specs.Reading.{AreHeld};
 use crate::findings::Finding;
 use crate::held::HeldPair;
 
-// What is wrong with the two addresses of a pair by themselves.
+// Returns what is wrong with the two addresses of a pair by themselves.
 pub(crate) fn range_fault(count: u32, pair: [u32; 2]) -> Option<Finding>
     ensures fault { IfSome result (λ f. (disk : Disk) → block_count disk ≡ count → IsNamed disk (address_of pair) → IsUnread disk f) }
     ensures first { IfNone result ((address_of pair).0 < count) }
@@ -32,14 +32,14 @@ pub(crate) fn range_fault(count: u32, pair: [u32; 2]) -> Option<Finding>
     None
 }
 
-// Whether one of the two addresses is that block's.
+// Returns whether one of the two addresses is that block's.
 fn has(pair: [u32; 2], block: u32) -> bool
     ensures { IsTrue result ↔ Has (address_of pair) block }
 {
     pair[0] == block || pair[1] == block
 }
 
-// The block, where it stands in one of these pairs, which are in front of the pair.
+// Returns the block, if it is in one of these pairs, which come before the pair.
 fn block_fault(pairs: &[HeldPair], pair: [u32; 2], block: u32) -> Option<Finding>
     requires { Has (address_of pair) block }
     ensures { IfSome result (λ f. (disk : Disk) → AreHeld disk (Some (address_of pair)) pairs.now → IsUnread disk f) }
@@ -56,8 +56,8 @@ fn block_fault(pairs: &[HeldPair], pair: [u32; 2], block: u32) -> Option<Finding
     None
 }
 
-// What is wrong with a pair behind these by its blocks. Which blocks stand in these pairs, `marks`
-// says, so that the others aren't sought; the pair's blocks are marked then.
+// Returns what is wrong with the blocks of a pair after these pairs. `marks` has the blocks of
+// these pairs, so the others aren't searched. The pair's blocks are marked then.
 pub(crate) fn twice_fault(
     marks: &mut Vec<bool>,
     pairs: &[HeldPair],

@@ -1,7 +1,7 @@
 ghost use Rattle.std.specs.Prelude.{◌≤◌, length};
 ghost use Rattle.lfs_device.specs.Bytes.{AreBytes};
 
-/// A block of which the first bytes are kept, or all. The others show as 0xff.
+/// A block of which the first bytes are kept, or all. Other bytes read as 0xff.
 #[derive(Drop)]
 pub struct BlockExcerpt {
     size: usize,
@@ -14,7 +14,7 @@ impl BlockExcerpt {
     ghost use Rattle.std.specs.Prelude.{◌≡◌, ◌+◌, slice_range};
     ghost use Rattle.lfs_tool.specs.ExcerptBlocks.{block_shown};
 
-    // A block of this size that begins with these bytes.
+    // Makes a block of this size that begins with these bytes.
     pub(crate) fn new(size: usize, bytes: Vec<u8>) -> BlockExcerpt
         requires { length bytes.items ≤ size }
         ensures size { result.size ≡ size }

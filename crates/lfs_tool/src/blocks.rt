@@ -1,4 +1,4 @@
-// Images read block by block, of which what a listing needs is kept.
+// Images that are read block by block. What a listing needs is kept.
 
 ghost use Rattle.std.specs.Prelude.{◌≡◌, ◌≤◌, ◌*◌, IfErr, IfOk, IfSome, OnOk, None, length, suc};
 ghost use Rattle.lfs_tool.specs.ExcerptBlocks.{HaveSize};
@@ -13,7 +13,7 @@ use crate::{BlockExcerpt, Cutter, Reader, ToolError};
 use lfs_device::Error;
 use std::alloc::Global;
 
-// Fills the buffer, or its beginning where the image ends in it. Gives how many bytes were read.
+// Fills the buffer, or its beginning where the image ends in it. Returns how many bytes were read.
 fn fill<R: Reader>(image: &mut R, buffer: &mut [u8]) -> Result<usize, ToolError>
     ensures bytes { IfOk result (λ n. Fills (R.remaining image.old) (R.remaining image.new) n buffer.new) }
     ensures len { length buffer.new ≡ length buffer.old }
@@ -31,7 +31,7 @@ fn fill<R: Reader>(image: &mut R, buffer: &mut [u8]) -> Result<usize, ToolError>
     Ok(len)
 }
 
-// Reads to the end. Gives no blocks where what was read isn't a whole number of them, or more than an
+// Reads to the end. Returns no blocks where the bytes aren't whole blocks, or are more than an
 // image may have.
 pub(crate) fn read_blocks<R: Reader>(
     alloc: Global,
@@ -62,7 +62,7 @@ pub(crate) fn read_blocks<R: Reader>(
     Ok(None)
 }
 
-// What cuts blocks of so many bytes, and the room for one.
+// Makes the cutter of blocks of so many bytes, and the buffer for one block.
 fn room_for(alloc: Global, size: usize) -> Result<(Cutter, Vec<u8>), Error>
     requires { 1024 ≤ size }
     ensures sizes { IfOk result (λ room. (size_of room.0 ≡ size) × (length room.1.items ≡ size)) }

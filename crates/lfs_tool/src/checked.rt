@@ -1,10 +1,10 @@
-// What is said of an image.
+// The result of a check of an image.
 
 use crate::findings::{Finding, Stated};
 use crate::verdict::{Orders, Summary};
 
-/// The sizes with which an image was looked at: of a block and a page in bytes, and how many whole
-/// blocks there are.
+/// The sizes with which an image is checked: of a block and a page in bytes, and the number of
+/// whole blocks.
 #[derive(Clone, Copy, Debug, PartialEq, Eq, Drop)]
 pub struct Given {
     pub block_size: u32,
@@ -12,16 +12,16 @@ pub struct Given {
     pub blocks: usize,
 }
 
-/// Why an image isn't accepted.
+/// The cause for which an image isn't accepted.
 #[derive(Drop)]
 pub enum Reason {
-    /// The superblock in block 0 or 1 says something else than was given.
+    /// The superblock in block 0 or 1 gives another size, number of blocks or version.
     Stated(Stated),
     /// No image of blocks and pages of these sizes has so many bytes.
     NoImage,
-    /// It breaks this rule.
+    /// The image breaks this rule.
     Broken(Finding),
-    /// It breaks a rule that no finding has.
+    /// The image breaks a rule that no finding has.
     Other,
 }
 

@@ -1,4 +1,4 @@
-// The lines of a checked.
+// The lines of a check's result.
 
 ghost use Rattle.std.specs.Prelude.{◌≡◌, ◌++◌, IfOk, OnOk, codes};
 ghost use Rattle.lfs_model.specs.Listing.{newline};
@@ -32,7 +32,7 @@ fn push_line(text: &mut Vec<u8>, line: &str) -> Result<(), AllocError>
     Ok(())
 }
 
-// Adds a text and a number behind it.
+// Adds a text and a number after it.
 fn push_number(text: &mut Vec<u8>, before: &str, number: usize) -> Result<(), AllocError>
     ensures { OnOk result (text.new.items ≡ text.old.items ++ (before.now ++ decimal number)) }
 {
@@ -43,7 +43,7 @@ fn push_number(text: &mut Vec<u8>, before: &str, number: usize) -> Result<(), Al
     Ok(())
 }
 
-// Adds a line with a number behind a text.
+// Adds a line with a number after a text.
 fn push_count(text: &mut Vec<u8>, label: &str, count: usize) -> Result<(), AllocError>
     ensures { OnOk result (text.new.items ≡ text.old.items ++ count_line label.now count) }
 {
@@ -101,7 +101,7 @@ fn push_writable(text: &mut Vec<u8>, writable: bool) -> Result<(), AllocError>
     }
 }
 
-// The lines of an accepted image.
+// Adds the lines of an accepted image.
 fn push_summary(text: &mut Vec<u8>, summary: &Summary, orders: Orders) -> Result<(), AllocError>
     ensures { OnOk result (text.new.items ≡ text.old.items ++ summary_text summary.now orders) }
 {
@@ -117,7 +117,7 @@ fn push_summary(text: &mut Vec<u8>, summary: &Summary, orders: Orders) -> Result
 
 // ---- why one isn't accepted
 
-// Adds two numbers, each with a text in front of it.
+// Adds two numbers, each with a text before it.
 fn push_two(
     text: &mut Vec<u8>,
     before: &str,
@@ -175,7 +175,7 @@ fn push_place(text: &mut Vec<u8>, place: &Place) -> Result<(), AllocError>
     Ok(())
 }
 
-// What is said of a pair.
+// Adds the words for a pair.
 fn push_at_pair(text: &mut Vec<u8>, pair: [u32; 2], says: &str) -> Result<(), AllocError>
     ensures { OnOk result (text.new.items ≡ text.old.items ++ (pair_text (address_of pair) ++ says.now)) }
 {
@@ -184,7 +184,7 @@ fn push_at_pair(text: &mut Vec<u8>, pair: [u32; 2], says: &str) -> Result<(), Al
     Ok(())
 }
 
-// What is said of a slot.
+// Adds the words for a slot.
 fn push_at_slot(
     text: &mut Vec<u8>,
     pair: [u32; 2],
@@ -198,7 +198,7 @@ fn push_at_slot(
     Ok(())
 }
 
-// What is said of a slot with a name.
+// Adds the words for a slot with a name.
 fn push_at_place(text: &mut Vec<u8>, place: &Place, says: &str) -> Result<(), AllocError>
     ensures { OnOk result (text.new.items ≡ text.old.items ++ (place_text place.now ++ says.now)) }
 {
@@ -304,7 +304,7 @@ fn push_reason(text: &mut Vec<u8>, given: &Given, reason: &Reason) -> Result<(),
     }
 }
 
-// The lines of an image that isn't accepted.
+// Adds the lines of an image that isn't accepted.
 fn push_refusal(text: &mut Vec<u8>, given: &Given, reason: &Reason) -> Result<(), AllocError>
     ensures { OnOk result (text.new.items ≡ text.old.items ++ ((codes "corrupt" ++ newline) ++ reason_text given.now reason.now ++ newline)) }
 {
@@ -314,7 +314,7 @@ fn push_refusal(text: &mut Vec<u8>, given: &Given, reason: &Reason) -> Result<()
     Ok(())
 }
 
-// The lines of a checked.
+// Adds the lines of a check's result.
 pub(crate) fn checked_lines(alloc: Global, checked: &Checked) -> Result<Vec<u8>, AllocError>
     ensures { IfOk result (λ text. text.items ≡ checked_text checked.now) }
 {

@@ -11,7 +11,7 @@ use lfs_fs::{Session, format_ordered};
 use lfs_tool_folders::{Entry, Source, SourceError, read_tree};
 use std::alloc::Global;
 
-// All that the source has.
+// Reads all that the source has.
 fn read_source<S: Source>(alloc: Global, source: &mut S) -> Result<Vec<Entry>, ToolError>
     ensures entries { IfOk result (λ v. AreAll (S.shown source.old) v.items) }
     ensures source { ReportsSource (S.faults source.old) (S.faults source.new) (S.shown source.old) result }
@@ -24,7 +24,7 @@ fn read_source<S: Source>(alloc: Global, source: &mut S) -> Result<Vec<Entry>, T
     }
 }
 
-// A session over an empty image in memory.
+// Begins a session over an empty image in memory.
 fn begin(alloc: Global, geometry: Geometry) -> Result<Session<RamDevice>, Error>
     ensures begins { IfOk result (λ s. Begins geometry (system_state_of s)) }
     ensures err { IfErr result (λ e. e ≡ Error.NoMemory) }
@@ -32,12 +32,12 @@ fn begin(alloc: Global, geometry: Geometry) -> Result<Session<RamDevice>, Error>
     let device = RamDevice::blank(alloc, geometry)?;
     match format_ordered(alloc, device, geometry.order) {
         Ok(session) => Ok(session),
-        // The device has met no fault, so memory ran out.
+        // The device had no fault, so memory ran out.
         Err((_device, error)) => Err(error),
     }
 }
 
-// The image that holds these entries.
+// Makes the image that holds these entries.
 fn make(alloc: Global, geometry: Geometry, entries: &[Entry]) -> Result<Vec<u8>, Error>
     ensures ok { IfOk result (λ v. AreLeft geometry entries.now v.items) }
     ensures err { IfErr result (λ e. e ≢ Error.NoMemory → IsRefused geometry entries.now e) }
@@ -47,19 +47,19 @@ fn make(alloc: Global, geometry: Geometry, entries: &[Entry]) -> Result<Vec<u8>,
     Ok(session.unmount().to_bytes())
 }
 
-/// Writes an image of a geometry that holds what a source has. The names in its directories have the
-/// geometry's order. All of the source is read first. It is carried over into an empty file system,
-/// depth first and in name order, the shorter names first: a folder is made, a file is opened to create
-/// it, its bytes are written at once, and it is closed. Nothing is written where one of these operations
-/// is refused. What was written is flushed.
+/// Writes an image of a geometry that holds what a source has. The names in its directories have
+/// the geometry's order. All of the source is read first. Its entries are then copied into an empty
+/// file system, depth first and in name order, the shorter names first. A folder is made. A file is
+/// opened to create it, its bytes are written at once, and it is closed. Nothing is written where
+/// one of these operations is refused. The writer is flushed at the end.
 ///
 /// # Errors
-/// - `Input` where the source couldn't be read, or a name in a folder of it is given twice or can't stand
-///   in a path.
+/// - `Input` where the source couldn't be read, or a name in a folder of it is given twice or isn't
+///   allowed in a path.
 /// - `Fs(error)` where an operation is refused, with its refusal: so `Fs(NoSpace)` where too few blocks
 ///   are free, `Fs(NameTooLong)` where a name has more than 255 bytes, and `Fs(TooBig)` where a file has
 ///   more than 2147483647.
-/// - `Fs(NoMemory)` where a growth was refused.
+/// - `Fs(NoMemory)` where memory isn't granted.
 /// - `Output` where the writer failed. What was written is then a beginning of the image.
 pub fn create<S: Source, W: Writer>(
     alloc: Global,
@@ -69,7 +69,7 @@ pub fn create<S: Source, W: Writer>(
 ) -> Result<(), ToolError>
     ensures ok { OnOk result (IsCreated geometry (S.shown source.old) (W.contents out.old) (W.contents out.new)) }
 
-    // The writer isn't touched, unless it fails: then a beginning of the image may be written.
+    // The writer isn't called, unless it fails: then a beginning of the image may be written.
     ensures writer { ReportsWriter W.Writer out.old out.new result }
     ensures beginning { IsErrOf result ToolError.Output
         → IsBeginningOfImage geometry (S.shown source.old) (W.contents out.old) (W.contents out.new) }

@@ -22,7 +22,7 @@ pub fn create_asked<S: Source, W: Writer>(
 ) -> Result<(), ToolError>
     ensures ok { OnOk result ((g : _) × (HasSizes line.now g × IsCreated g (S.shown source.old) (W.contents out.old) (W.contents out.new))) }
 
-    // The writer isn't touched, unless it fails: then a beginning of the image may be written.
+    // The writer isn't called, unless it fails: then a beginning of the image may be written.
     ensures writer { ReportsWriter W.Writer out.old out.new result }
     ensures beginning { IsErrOf result ToolError.Output
         → (g : _) × (HasSizes line.now g × IsBeginningOfImage g (S.shown source.old) (W.contents out.old) (W.contents out.new)) }

@@ -5,14 +5,14 @@ use lfs_device::Error;
 use lfs_tag::Log;
 use std::alloc::Global;
 
-// No less than what the pointers of a skip list's block take: the definitions allow 33 of four bytes,
-// and on 65,536 blocks there are at most 16.
+// At least the length of the pointers of a skip list's block. The definitions allow 33 of four
+// bytes, and on 65,536 blocks there are at most 16.
 const POINTER_BYTES: usize = 132;
 
 /// Cuts blocks of one size down to what a listing needs of them.
 #[derive(Drop)]
 pub struct Cutter {
-    // A block's first bytes, and then 0xff.
+    // The first bytes of a block, and then 0xff.
     padded: Vec<u8>,
     ghost room: { 132 ≤ length padded.items },
     ghost erased: { drop 132 padded.items ≡ replicate (length padded.items - 132) 255 },
@@ -24,7 +24,9 @@ impl Cutter {
     ghost use Rattle.lfs_tool.specs.ExcerptView.{size_of};
     ghost use Rattle.lfs_tool.specs.Excerpt.{IsBlockExcerpt, is_kept_whole, kept_bytes};
 
-    /// For blocks of so many bytes, 132 at least. `NoMemory` where its room isn't granted.
+    /// Makes a cutter for blocks of so many bytes, at least 132.
+    ///
+    /// Errors: `NoMemory` where memory for a block isn't granted.
     pub fn new(alloc: Global, block_size: usize) -> Result<Cutter, Error>
         requires { 132 ≤ block_size }
         ensures size { IfOk result (λ c. size_of c ≡ block_size) }
@@ -34,11 +36,11 @@ impl Cutter {
         Ok(Cutter { padded })
     }
 
-    /// Keeps of a block its first 132 bytes, which hold the pointers if it is a skip list's (SPEC.md of
-    /// littlefs, "CTZ skip-lists"). Keeps all of it where a commit can be read in it, or could be with
-    /// 0xff behind those.
+    /// Keeps the first 132 bytes of a block, which hold the pointers if the block is a skip list's
+    /// (DESIGN.md of littlefs, "CTZ skip-lists"). Keeps all of it where a commit can be read in it,
+    /// or could be with 0xff after those bytes.
     ///
-    /// `NoMemory` where the room for what is kept isn't granted.
+    /// Errors: `NoMemory` where memory for the excerpt isn't granted.
     pub fn cut(&mut self, alloc: Global, block: &[u8]) -> Result<BlockExcerpt, Error>
         requires { length block.now ≡ size_of self.old }
         ensures excerpt { IfOk result (λ b. IsBlockExcerpt block.now (block_shown b)) }
@@ -55,7 +57,7 @@ impl Cutter {
         Ok(BlockExcerpt::new(block.len(), bytes))
     }
 
-    // Whether the block has a commit, or would have one with 0xff behind its first bytes.
+    // Returns whether the block has a commit, or would have one with 0xff after its first bytes.
     fn keeps_whole(&mut self, block: &[u8]) -> bool
         requires size { length block.now ≡ size_of self.old }
         requires room { 132 ≤ length block.now }

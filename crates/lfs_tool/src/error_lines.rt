@@ -11,7 +11,7 @@ use clap::error::ErrorKind;
 use lfs_device::Error;
 use lfs_tool_line::LineError;
 
-// A line of the tool's own. A failed write is ignored.
+// Writes a line of the tool's own. A failed write is ignored.
 fn say<E: Writer>(err: &mut E, line: &str, status: u8) -> u8
     ensures status { result ≡ status }
     ensures beginning { AppendsBeginning (E.contents err.old) (E.contents err.new) line.now }
@@ -21,7 +21,7 @@ fn say<E: Writer>(err: &mut E, line: &str, status: u8) -> u8
     status
 }
 
-// The line of an error. A failed write is ignored.
+// Writes the line of an error. A failed write is ignored.
 fn say_error<E: Writer>(err: &mut E, error: ToolError) -> u8
     ensures status { result ≡ tool_status error }
     ensures beginning { AppendsBeginning (E.contents err.old) (E.contents err.new) (tool_line error) }
@@ -31,7 +31,7 @@ fn say_error<E: Writer>(err: &mut E, error: ToolError) -> u8
     say(err, line.as_str(), error.status())
 }
 
-/// Shows why a run did not do what it was asked, and gives the status with which the program ends.
+/// Shows the error of a run, and returns the status with which the program ends.
 ///
 /// | Status | Meaning | Text |
 /// |---|---|---|
@@ -40,9 +40,9 @@ fn say_error<E: Writer>(err: &mut E, error: ToolError) -> u8
 /// | 2 | there is no command line | the parser's text, `error: give exactly one of -c, -u, -l`, `error: --order is longer-first or shorter-first`, or `error: the command line is not UTF-8`, to `err` |
 /// | 3 | input or output failed | `error: input` or `error: output`, to `err` |
 ///
-/// A failed write is ignored. The writer to which nothing goes isn't touched. Unless its writer failed, a
-/// line of the tool's own is written whole, the parser's text is shown, and either is flushed; what the
-/// parser's text says is not promised.
+/// A failed write is ignored. The writer that gets nothing isn't called. Unless its writer failed,
+/// a line of the tool's own is written whole, or the parser's text is shown, and either is flushed.
+/// No promise is made of the parser's text.
 pub fn report<O: Writer, E: Writer>(fault: &Fault, out: &mut O, err: &mut E) -> u8
     ensures status { result ≡ status_of fault.now }
     ensures out { shows_help fault.now ≡ false → out.new ≡ out.old }

@@ -5,7 +5,7 @@ use crate::line_text::{LineText, error_text, text_of};
 use lfs_device::Error;
 use lfs_tool_line::LineError;
 
-/// Why a call of the tool did not do what it was asked.
+/// The cause for which a call of the tool failed.
 #[derive(Clone, Copy, Debug, PartialEq, Eq, thiserror::Error)]
 pub enum ToolError {
     /// The file system refused, or memory ran out.
@@ -19,7 +19,7 @@ pub enum ToolError {
     Output,
 }
 
-/// Why a run of the program did not do what it was asked.
+/// The cause for which a run of the program failed.
 #[derive(Debug, Drop, thiserror::Error)]
 pub enum Fault {
     /// There is no command line.
@@ -42,7 +42,7 @@ impl From<Error> for ToolError {
 }
 
 impl ToolError {
-    // The line that shows it.
+    // Returns the line for the error.
     pub(crate) fn line(self) -> LineText
         ensures { result.bytes ≡ tool_line self }
     {
@@ -53,7 +53,7 @@ impl ToolError {
         }
     }
 
-    // The status with which the program ends.
+    // Returns the status with which the program ends.
     pub(crate) fn status(self) -> u8
         ensures { result ≡ tool_status self }
     {

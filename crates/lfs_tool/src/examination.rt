@@ -17,7 +17,7 @@ use crate::{Reader, ToolError};
 use lfs_device::Error;
 use std::alloc::Global;
 
-// The verdict on an image. None where the bytes are none.
+// Returns the verdict on an image. Returns None where no image has so many bytes.
 fn judge_image(
     alloc: Global,
     image: Vec<u8>,
@@ -37,7 +37,7 @@ fn judge_image(
     }
 }
 
-// The sizes with which an image of so many bytes is looked at.
+// Returns the sizes with which an image of so many bytes is checked.
 fn given_of(len: usize, block_size: u32, page: u32) -> Given
     ensures { (image : List ℕ) → length image ≡ len → IsGiven block_size page image result }
 {
@@ -53,7 +53,7 @@ fn given_of(len: usize, block_size: u32, page: u32) -> Given
     }
 }
 
-// An image that isn't accepted. What its superblock states comes first.
+// Returns the result for an image that isn't accepted. What its superblock states comes first.
 fn refused_as(stated: Option<Stated>, reason: Reason, given: Given) -> Checked
     ensures { (block_size : ℕ) (page : ℕ) (image : List ℕ) → AreRefused block_size page image → IfSome stated (IsStatedIn image block_size)
         → IsReason block_size page image reason → IsGiven block_size page image given → IsCheckedAs block_size page image result }
@@ -65,7 +65,7 @@ fn refused_as(stated: Option<Stated>, reason: Reason, given: Given) -> Checked
     Checked::Refused { reason, given }
 }
 
-// What is said of the bytes.
+// Returns the result for the bytes.
 fn checked_as(stated: Option<Stated>, verdict: Option<Verdict>, given: Given) -> Checked
     ensures { (block_size : ℕ) (page : ℕ) (image : List ℕ) → IfSome stated (IsStatedIn image block_size) → IsJudged block_size page image verdict
         → IsGiven block_size page image given → IsCheckedAs block_size page image result }
@@ -80,7 +80,7 @@ fn checked_as(stated: Option<Stated>, verdict: Option<Verdict>, given: Given) ->
     }
 }
 
-// The same of bytes that an image may have.
+// Returns the result for bytes that an image may have.
 fn examine_bytes(
     alloc: Global,
     image: Vec<u8>,
@@ -97,16 +97,16 @@ fn examine_bytes(
     Ok(checked_as(stated, verdict, given))
 }
 
-/// Whether an image is accepted, and with what, or why not: `Accepted` exactly where a mount takes it,
-/// in whichever order its names are, and each reason is true of its bytes. Of an image that isn't
-/// accepted, what the superblock in block 0 or 1 says of it comes first; then the first rule that it
-/// breaks, of those that `lfs_tool` knows.
+/// Returns whether an image is accepted, and with what, or why not. The result is `Accepted`
+/// exactly where a mount takes the image, in whichever order its names are. Each cause is true of
+/// its bytes. Of an image that isn't accepted, a wrong number in the superblock of block 0 or 1
+/// comes first. Then comes the first rule that the image breaks, of those that `lfs_tool` knows.
 ///
-/// The image is read first, to its end, or past the largest image's size, 268435456 bytes.
+/// The image is read first, to its end, or past the largest image's size of 268,435,456 bytes.
 ///
 /// # Errors
 /// - `Input` where the reader failed.
-/// - `Fs(NoMemory)` where a growth was refused.
+/// - `Fs(NoMemory)` where memory isn't granted.
 pub fn examine<R: Reader>(
     alloc: Global,
     image: &mut R,

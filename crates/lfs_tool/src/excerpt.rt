@@ -8,9 +8,9 @@ ghost use Rattle.lfs_tool.specs.ExcerptBlocks.{HasRead, HaveSize, blocks_shown};
 use crate::BlockExcerpt;
 use lfs_device::{BlockDevice, Error, Geometry, Trace};
 
-/// An image cut down to what a listing needs, as a device. What isn't kept reads as 0xff, so a file's
-/// bytes that stand in a skip list can't be read from it. A read never fails; a program and an erase
-/// always do, with `Io`, and change nothing.
+/// An image cut down to what a listing needs, as a device. Bytes that aren't kept read as 0xff, so
+/// files in skip lists can't be read from it. A read never fails. A program and an erase always
+/// fail with `Io`, and change nothing.
 #[derive(Drop)]
 pub struct Excerpt {
     geometry: Geometry,
@@ -26,7 +26,7 @@ pub struct Excerpt {
 impl Excerpt {
     ghost use Rattle.lfs_tool.specs.ExcerptView.{excerpt_blocks, geometry_of, history_of};
 
-    /// The device of these blocks. There are as many as the geometry has, of its size.
+    /// Makes the device of these blocks. There are as many as the geometry has, of its size.
     pub fn new(geometry: Geometry, blocks: Vec<BlockExcerpt>) -> Excerpt
         requires count { length blocks.items ≡ geometry.block_count }
         requires sizes { HaveSize geometry.block_size blocks.items }

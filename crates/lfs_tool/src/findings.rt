@@ -11,7 +11,7 @@ pub struct Place {
     pub name: Vec<u8>,
 }
 
-/// What a superblock says of its image that isn't so, by its struct (SPEC.md of littlefs, "0x0ff
+/// A number in a superblock's struct that is wrong for its image (SPEC.md of littlefs, "0x0ff
 /// LFS_TYPE_SUPERBLOCK").
 #[derive(Clone, Copy, Debug, PartialEq, Eq, Drop)]
 pub enum Stated {
@@ -37,7 +37,7 @@ pub enum Finding {
     OneBlock {
         pair: [u32; 2],
     },
-    /// A block stands in the thread twice: in the other pair, and then in the pair.
+    /// A block is in the thread twice: in the other pair, and then in the pair.
     InTwoPairs {
         block: u32,
         pair: [u32; 2],
@@ -47,7 +47,7 @@ pub enum Finding {
     NoCommit {
         pair: [u32; 2],
     },
-    /// The log of the block that holds has an entry that may not stand there.
+    /// The log of the block that holds has an entry that isn't allowed there.
     Malformed {
         pair: [u32; 2],
     },
@@ -66,18 +66,18 @@ pub enum Finding {
     NoFields {
         pair: [u32; 2],
     },
-    /// A superblock of the chain says something of the image that isn't so.
+    /// A superblock of the chain has a wrong number.
     OtherFields {
         pair: [u32; 2],
         stated: Stated,
     },
 
     // ---- entries
-    /// A superblock stands elsewhere than in slot 0 of the chain.
+    /// A superblock is elsewhere than in slot 0 of the chain.
     SecondSuperblock(Place),
-    /// The kind of an entry and its struct don't go together.
+    /// The kind of an entry doesn't match its struct.
     OtherStruct(Place),
-    /// An entry has a name that none may have: an empty one, or one of more than 255 bytes, with a byte
-    /// 0 or a slash, or `.` or `..`.
+    /// An entry has a name that isn't allowed: an empty one, or one of more than 255 bytes, with a
+    /// byte 0 or a slash, or `.` or `..`.
     BadName(Place),
 }

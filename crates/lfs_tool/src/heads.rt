@@ -17,7 +17,7 @@ use crate::superblocks::unlike;
 use lfs_device::Geometry;
 use lfs_tag::{Superblock, superblock_of};
 
-// The fields of a superblock's struct.
+// Returns the fields of a superblock's struct.
 pub(crate) fn fields_of(structure: &Struct) -> Option<Superblock>
     ensures some { IfSome result (λ fields. HasFields (struct_view structure.now) (superblock_view fields)) }
     ensures none { result ≡ None → (fields : SuperblockFields) → ¬ HasFields (struct_view structure.now) fields }
@@ -39,14 +39,14 @@ fn fields_in(bytes: &[u8]) -> Option<Superblock>
     }
 }
 
-// What these fields say of an image that isn't so.
+// Returns which of these fields is wrong for the image.
 pub(crate) fn misstated(geometry: &Geometry, fields: &Superblock) -> Option<Stated>
     ensures { IfSome result (λ stated. (disk : Disk) → HasSizes disk geometry.now → IsMisstated disk (superblock_view fields.now) stated) }
 {
     unlike(geometry.block_size, geometry.block_count as usize, fields)
 }
 
-// What is wrong with the fields of the superblock in a pair of the chain.
+// Returns what is wrong with the fields of the superblock in a pair of the chain.
 fn fields_fault(geometry: &Geometry, pair: [u32; 2], fields: &Superblock) -> Option<Finding>
     ensures { IfSome result (λ f. (disk : Disk) (ps : List Pair) (s : ModelStruct) → HasSizes disk geometry.now → IsChained ps (address_of pair) s → HasFields s (superblock_view fields.now) → IsBroken disk ps f) }
 {
@@ -56,7 +56,7 @@ fn fields_fault(geometry: &Geometry, pair: [u32; 2], fields: &Superblock) -> Opt
     }
 }
 
-// What is wrong with the superblock in a pair of the chain.
+// Returns what is wrong with the superblock in a pair of the chain.
 fn superblock_fault(geometry: &Geometry, pair: [u32; 2], first: &HeldSlot) -> Option<Finding>
     ensures { IfSome result (λ f. (disk : Disk) (ps : List Pair) → HasSizes disk geometry.now → IsChained ps (address_of pair) (held_view first.now).struct → IsBroken disk ps f) }
 {
@@ -66,7 +66,7 @@ fn superblock_fault(geometry: &Geometry, pair: [u32; 2], first: &HeldSlot) -> Op
     }
 }
 
-// What is wrong with the superblock in a pair of the chain, if it has one.
+// Returns what is wrong with the superblock in a pair of the chain, if the pair has one.
 fn pair_fault(geometry: &Geometry, pair: &HeldPair) -> Option<Finding>
     ensures { IfSome result (λ f. (disk : Disk) (ps : List Pair) (index : ℕ) → HasSizes disk geometry.now → slice_get ps index ≡ Some (pair_view pair.now) → index ≤ superblocks_before ps → IsBroken disk ps f) }
 {
@@ -77,8 +77,8 @@ fn pair_fault(geometry: &Geometry, pair: &HeldPair) -> Option<Finding>
     }
 }
 
-// What is wrong with the superblocks of the chain, of whose pairs so many stand in front of the root
-// directory.
+// Returns what is wrong with the superblocks of the chain, of which so many pairs are before the
+// root directory.
 fn chain_fault(geometry: &Geometry, pairs: &[HeldPair], root: usize) -> Option<Finding>
     requires below { root < length pairs.now }
     requires root { root ≡ superblocks_before (pairs_view pairs.now) }
@@ -92,7 +92,7 @@ fn chain_fault(geometry: &Geometry, pairs: &[HeldPair], root: usize) -> Option<F
     None
 }
 
-// What is wrong with the superblock's chain, of whose pairs so many stand in front of the root
+// Returns what is wrong with the superblock's chain, of which so many pairs are before the root
 // directory (SPEC.md of littlefs, "0x0ff LFS_TYPE_SUPERBLOCK").
 pub(crate) fn head_fault(geometry: &Geometry, pairs: &[HeldPair], root: usize) -> Option<Finding>
     requires below { root < length pairs.now }

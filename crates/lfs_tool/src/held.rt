@@ -1,8 +1,8 @@
-// What is held of the pairs of a thread: what the rules speak of, without attributes.
+// The parts of a thread's pairs that the rules are about, without attributes.
 
 use lfs_tag::{MoveState, Tail};
 
-// What a slot is, by the type of its name.
+// The kind of a slot, by the type of its name.
 #[derive(Clone, Copy, Debug, PartialEq, Eq, Drop)]
 pub(crate) enum Kind {
     File,
@@ -10,10 +10,10 @@ pub(crate) enum Kind {
     Superblock,
 }
 
-// What a slot's struct says.
+// A slot's struct.
 #[derive(Drop)]
 pub(crate) enum Struct {
-    // Bytes that stand in the slot.
+    // Bytes that are inline in the slot.
     Inline(Vec<u8>),
     // A skip list: the address of its last block, and its size in bytes.
     Ctz { head: u32, size: u32 },
@@ -30,10 +30,10 @@ pub(crate) struct HeldSlot {
 
 #[derive(Drop)]
 pub(crate) struct HeldPair {
-    // Its address, as the thread names it.
+    // The pair's address, as the thread names it.
     pub at: [u32; 2],
     pub slots: Vec<HeldSlot>,
     pub tail: Option<Tail>,
-    // Its delta of the global state.
+    // The pair's delta of the global state.
     pub delta: MoveState,
 }

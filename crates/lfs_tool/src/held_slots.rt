@@ -1,4 +1,4 @@
-// Slots that are held.
+// Slots without their attributes.
 
 ghost use Rattle.std.specs.Prelude.{◌≡◌, ◌<◌, ◌++◌, IfNone, IfOk, IfSome, None, OnOk, is_some, length, map, true};
 ghost use Rattle.std.specs.Option.{option_map};
@@ -23,7 +23,7 @@ fn kind_of(name: &Part<'_>) -> Kind
     }
 }
 
-// What a struct's part of a slot says.
+// Returns the struct of a slot's part.
 fn struct_of(alloc: Global, part: &Part<'_>) -> Result<Struct, AllocError>
     requires { IsPart 2 (part_view part.now) }
     ensures { IfOk result (λ s. struct_view s ≡ struct_typed part.now.kind part.now.bytes.now) }
@@ -41,7 +41,7 @@ fn struct_of(alloc: Global, part: &Part<'_>) -> Result<Struct, AllocError>
     }
 }
 
-// A slot, where it has a name and a struct.
+// Returns a slot, where it has a name and a struct.
 fn hold(alloc: Global, slot: &Slot<'_>) -> Result<Option<HeldSlot>, AllocError>
     requires { HasParts (slot_view slot.now) }
     ensures { IfOk result (λ held. option_map held_view held ≡ option_map plain (complete (slot_view slot.now))) }
@@ -70,7 +70,7 @@ fn push_held(alloc: Global, all: &mut Vec<HeldSlot>, slot: &Slot<'_>) -> Result<
     Ok(())
 }
 
-// The slots that have a name and a struct.
+// Returns the slots that have a name and a struct.
 pub(crate) fn hold_all(alloc: Global, slots: &[Slot<'_>]) -> Result<Vec<HeldSlot>, AllocError>
     requires { HaveParts (map slot_view slots.now) }
     ensures { IfOk result (λ held. map held_view held.items ≡ plain_among (map slot_view slots.now)) }
@@ -82,7 +82,7 @@ pub(crate) fn hold_all(alloc: Global, slots: &[Slot<'_>]) -> Result<Vec<HeldSlot
     Ok(all)
 }
 
-// The number of the first slot that lacks its name or its struct.
+// Returns the number of the first slot that lacks its name or its struct.
 pub(crate) fn first_incomplete(slots: &[Slot<'_>]) -> Option<usize>
     ensures there { IfSome result (λ id. (id < length slots.now) × (complete (slot_of_id (map slot_view slots.now) id) ≡ None)) }
     ensures none { IfNone result (is_some (complete_all (map slot_view slots.now)) ≡ true) }

@@ -1,4 +1,4 @@
-// Images that are checked.
+// Checks of images.
 
 ghost use Rattle.std.specs.Prelude.{◌≡◌, IfOk, IfSome, IsErrOf};
 ghost use Rattle.std.specs.Io.KnownBytes.{Appends};
@@ -15,7 +15,7 @@ use crate::{Reader, ToolError, Writer};
 use lfs_device::Error;
 use std::alloc::Global;
 
-// Whether the image was accepted.
+// Returns whether the image was accepted.
 fn is_accepted(checked: &Checked) -> bool
     ensures { result ≡ is_accepted checked.now }
 {
@@ -25,8 +25,8 @@ fn is_accepted(checked: &Checked) -> bool
     }
 }
 
-/// Writes what is wrong with an image, or what is in it, and answers whether it is accepted, as `examine`
-/// has it. Nothing is written before that is known, and what was written is flushed.
+/// Writes what is wrong with an image, or what is in it, as `examine` finds it. Returns whether the
+/// image is accepted. Nothing is written before that is known. The writer is flushed at the end.
 ///
 /// Of an accepted image the lines are `ok`, `files <n>`, `directories <n>`, `used <n> of <m> blocks`,
 /// `free <n>`, `order <order>`, `recover yes` or `recover no`, and `writable yes` or `writable no` with
@@ -34,7 +34,7 @@ fn is_accepted(checked: &Checked) -> bool
 ///
 /// # Errors
 /// - `Input` where the reader failed.
-/// - `Fs(NoMemory)` where a growth was refused.
+/// - `Fs(NoMemory)` where memory isn't granted.
 /// - `Output` where the writer failed. What was written is then a beginning of the lines.
 pub fn check<R: Reader, W: Writer>(
     alloc: Global,
@@ -46,7 +46,7 @@ pub fn check<R: Reader, W: Writer>(
     ensures ok { IfOk result (λ accepted. IfSome (R.remaining image.old) (λ bytes.
         (checked : _) × (IsCheckedAs block_size page bytes checked × (accepted ≡ is_accepted checked) × Appends (W.contents out.old) (W.contents out.new) (checked_text checked)))) }
 
-    // The writer isn't touched, unless it fails: then a beginning of the lines may be written.
+    // The writer isn't called, unless it fails: then a beginning of the lines may be written.
     ensures writer { ReportsWriter W.Writer out.old out.new result }
     ensures beginning { IsErrOf result ToolError.Output → IfSome (R.remaining image.old) (λ bytes.
         (checked : _) × (IsCheckedAs block_size page bytes checked × AppendsBeginning (W.contents out.old) (W.contents out.new) (checked_text checked))) }

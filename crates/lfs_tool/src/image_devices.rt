@@ -24,7 +24,7 @@ use lfs_mount::mount_either;
 use lfs_thread::Thread;
 use std::alloc::Global;
 
-// The geometry of an image of so many bytes.
+// Returns the geometry of an image of so many bytes.
 fn geometry_of(len: usize, block_size: u32, page: u32) -> Result<Geometry, Error>
     requires { len < 2 ^ 32 }
     ensures sizes { IfOk result (λ g. (g.block_size ≡ block_size) × (g.page ≡ page)) }
@@ -38,7 +38,7 @@ fn geometry_of(len: usize, block_size: u32, page: u32) -> Result<Geometry, Error
     Geometry::new(block_size, page, (len / size) as u32)
 }
 
-// A device that holds an image. `Invalid` exactly where the bytes are none.
+// Makes a device that holds an image. Returns `Invalid` exactly where no image has so many bytes.
 pub(crate) fn device_of(image: Vec<u8>, block_size: u32, page: u32) -> Result<RamDevice, Error>
     requires { length image.items < 2 ^ 32 }
     ensures image { OnOk result (IsImage block_size page image.items) }
@@ -50,7 +50,8 @@ pub(crate) fn device_of(image: Vec<u8>, block_size: u32, page: u32) -> Result<Ra
     RamDevice::from_bytes(geometry, image)
 }
 
-// The device of an excerpt of an image. `Invalid` exactly where there are no images of such blocks.
+// Makes the device of an excerpt of an image. Returns `Invalid` exactly where there are no images
+// of such blocks.
 pub(crate) fn excerpt_of(
     blocks: Vec<BlockExcerpt>,
     block_size: u32,
@@ -66,7 +67,8 @@ pub(crate) fn excerpt_of(
     Ok(Excerpt::new(geometry, blocks))
 }
 
-// The thread of an image that is accepted in one of the orders of names, and all that stands in it.
+// Returns the thread of an image that is accepted in one of the orders of names, and all entries of
+// the image.
 pub(crate) fn items_on<D: BlockDevice>(
     alloc: Global,
     device: D,
@@ -83,7 +85,7 @@ pub(crate) fn items_on<D: BlockDevice>(
     }
 }
 
-// The same of an excerpt.
+// Returns the thread and the entries of an excerpt.
 pub(crate) fn items_of_excerpt(
     alloc: Global,
     device: Excerpt,
@@ -100,7 +102,7 @@ pub(crate) fn items_of_excerpt(
     }
 }
 
-// The same of a device in memory.
+// Returns the thread and the entries of a device in memory.
 pub(crate) fn items_in_memory(
     alloc: Global,
     device: RamDevice,

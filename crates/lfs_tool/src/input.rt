@@ -36,7 +36,7 @@ pub(crate) fn read_image<R: Reader>(alloc: Global, image: &mut R) -> Result<Vec<
     Ok(bytes)
 }
 
-// The same, but keeps nothing.
+// Reads as far, but keeps nothing.
 pub(crate) fn pass_image<R: Reader>(image: &mut R) -> Result<(), ToolError>
     ensures read { OnOk result (IsReadToEnd (R.remaining image.old) (R.remaining image.new)) }
     ensures kept { OnOk result (R.faults image.new ≡ R.faults image.old) }

@@ -21,7 +21,7 @@ use lfs_mount::{mount, mount_either};
 use lfs_thread::Thread;
 use std::alloc::Global;
 
-// Whether the image of a device is accepted with its names in that order.
+// Returns whether the image of a device is accepted with its names in that order.
 fn is_accepted_in(alloc: Global, device: RamDevice, order: NameOrder) -> Result<bool, Error>
     ensures is { IfOk result (λ b. IsTrue b ↔ IsAcceptedIn order (disk_of (geometry_of device) (ram_blocks device))) }
     ensures err { IfErr result (λ e. e ≡ Error.NoMemory) }
@@ -33,7 +33,8 @@ fn is_accepted_in(alloc: Global, device: RamDevice, order: NameOrder) -> Result<
     }
 }
 
-// In which orders of names the image of a device is accepted, of which `first` is one.
+// Returns in which orders of names the image of a device is accepted. The order `first` is one of
+// these.
 fn orders_of(alloc: Global, device: RamDevice, first: NameOrder) -> Result<Orders, Error>
     requires first { IsAcceptedIn first (disk_of (geometry_of device) (ram_blocks device)) }
     requires longer { first ≡ ShorterFirst → ¬ IsAcceptedIn LongerFirst (disk_of (geometry_of device) (ram_blocks device)) }
@@ -52,19 +53,19 @@ fn orders_of(alloc: Global, device: RamDevice, first: NameOrder) -> Result<Order
     }
 }
 
-// A rule that the image of a device breaks.
+// Returns a rule that the image of a device breaks.
 fn finding_on(alloc: Global, device: &mut RamDevice) -> Result<Option<Finding>, Error>
     ensures found { IfOk result (λ found. IfSome found (IsFound (disk_of (geometry_of device.old) (ram_blocks device.old)))) }
     ensures err { IfErr result (λ e. e ≡ Error.NoMemory) }
 {
     match find(alloc, device) {
         Ok(found) => Ok(found),
-        // It has met no fault, so memory ran out.
+        // The device had no fault, so memory ran out.
         Err(error) => Err(error),
     }
 }
 
-// What a mounted image has.
+// Returns what a mounted image has.
 fn judge_mounted(alloc: Global, mut thread: Thread<Ordered<RamDevice>>) -> Result<Verdict, Error>
     requires works { thread.failed ≡ false }
     requires accepted { IsAccepted thread.kept.disk thread.kept.pairs }
@@ -80,11 +81,11 @@ fn judge_mounted(alloc: Global, mut thread: Thread<Ordered<RamDevice>>) -> Resul
     Ok(Verdict::Accepted { summary, orders })
 }
 
-/// Whether the image of a device in memory is accepted, and with what, or why not: `Accepted` exactly
-/// where a mount takes it, in whichever order its names are, and each finding is true of it. The order of
-/// names of the device's own geometry doesn't matter.
+/// Returns whether the image of a device in memory is accepted, and with what, or why not. The
+/// result is `Accepted` exactly where a mount takes the image, in whichever order its names are.
+/// Each finding is true of it. The order of names of the device's own geometry doesn't matter.
 ///
-/// `NoMemory` where memory isn't granted.
+/// Errors: `NoMemory` where memory isn't granted.
 pub fn judge(alloc: Global, device: RamDevice) -> Result<Verdict, Error>
     ensures verdict { IfOk result (λ verdict. (order : NameOrder) → IsVerdict (ordered order (disk_of (geometry_of device) (ram_blocks device))) verdict) }
     ensures err { IfErr result (λ e. e ≡ Error.NoMemory) }

@@ -11,7 +11,7 @@ use lfs_device::Error;
 // A line of the tool's own.
 pub(crate) type LineText = ArrayString<32>;
 
-// A line with this text.
+// Makes a line with this text.
 pub(crate) fn text_of(text: &str) -> LineText
     requires { length text.now ≤ 32 }
     ensures { result.bytes ≡ text.now }
@@ -62,7 +62,7 @@ fn push_number(line: &mut LineText, number: u32)
     }
 }
 
-// The line that shows an error of the file system.
+// Returns the line for an error of the file system.
 pub(crate) fn error_text(error: Error) -> LineText
     ensures { result.bytes ≡ error_line error }
 {

@@ -31,7 +31,7 @@ fn push_directory(text: &mut Vec<u8>, path: &[u8]) -> Result<(), AllocError>
     Ok(())
 }
 
-// Adds the line of what was found.
+// Adds the line of an entry that was found.
 fn push_line(text: &mut Vec<u8>, found: &TreeItem) -> Result<(), AllocError>
     ensures { OnOk result (text.new.items ≡ text.old.items ++ line_at (found_view found.now)) }
 {
@@ -42,7 +42,7 @@ fn push_line(text: &mut Vec<u8>, found: &TreeItem) -> Result<(), AllocError>
     }
 }
 
-// The lines of what was found, in turn.
+// Returns the lines of the entries, in order.
 pub(crate) fn lines_of(alloc: Global, found: &[TreeItem]) -> Result<Vec<u8>, AllocError>
     ensures { IfOk result (λ text. text.items ≡ lines_at (founds_view found.now)) }
 {

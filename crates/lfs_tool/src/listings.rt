@@ -20,7 +20,7 @@ use crate::{BlockExcerpt, Excerpt, Reader, ToolError, Writer, excerpt_is_listed_
 use lfs_device::{Error, Geometry};
 use std::alloc::Global;
 
-// The lines of an excerpt.
+// Returns the lines of an excerpt.
 fn lines_on(alloc: Global, device: Excerpt) -> Result<Vec<u8>, Error>
     ensures lines { IfOk result (λ text. (order : NameOrder) × HasLines (ordered order (shown (geometry_of device) (excerpt_blocks device))) text.items) }
     ensures err { IfErr result (IsNotMounted (shown (geometry_of device) (excerpt_blocks device))) }
@@ -30,7 +30,7 @@ fn lines_on(alloc: Global, device: Excerpt) -> Result<Vec<u8>, Error>
     Ok(text)
 }
 
-// The lines of an image whose blocks were read.
+// Returns the lines of an image whose blocks were read.
 fn lines_of_blocks(
     alloc: Global,
     blocks: Vec<BlockExcerpt>,
@@ -50,7 +50,8 @@ fn lines_of_blocks(
     }
 }
 
-// `Invalid` where no image has blocks and pages of these sizes: the least has two blocks.
+// Returns `Invalid` where no image has blocks and pages of these sizes: the least image has two
+// blocks.
 fn check_sizes(block_size: u32, page: u32) -> Result<(), Error>
     ensures ok { OnOk result (IsGeometry block_size page 2) }
     ensures err { IfErr result (λ e. (e ≡ Error.Invalid) × ((bytes : List ℕ) → ¬ IsImage block_size page bytes)) }
@@ -59,7 +60,7 @@ fn check_sizes(block_size: u32, page: u32) -> Result<(), Error>
     Ok(())
 }
 
-// The lines of an image.
+// Returns the lines of an image.
 fn read_lines<R: Reader>(
     alloc: Global,
     image: &mut R,
@@ -83,21 +84,22 @@ fn read_lines<R: Reader>(
     Ok(text)
 }
 
-/// Writes a line for each file and directory of an image, depth first and in name order, a directory
-/// before what stands in it: `f <size> <path>`, the size in bytes, or `d 0 <path>`. In a path `\` and
-/// each byte outside 0x20 to 0x7e stand as `\x` and two hexadecimal digits.
+/// Writes a line for each file and directory of an image, depth first and in name order. A
+/// directory comes before its entries. A line is `f <size> <path>` with the size in bytes, or
+/// `d 0 <path>`. In a path `\` and each byte outside 0x20 to 0x7e are shown as `\x` and two
+/// hexadecimal digits.
 ///
 /// The image may have its names in either order. Of two names of which one begins the other, the lines
 /// have the shorter first.
 ///
-/// The image is read first, to its end, or past the largest image's size, 268435456 bytes, by a block at
-/// most: also where `block_size` or `page`, in bytes, is out of range. Of each block only what a listing
-/// needs is kept, which is mostly the first 132 bytes. Nothing is written before the image is known to be
-/// good, and what was written is flushed.
+/// The image is read first, to its end, or at most a block past the largest image's size of
+/// 268,435,456 bytes. So it is also where `block_size` or `page`, in bytes, is out of range. Of
+/// each block only what a listing needs is kept, which is mostly the first 132 bytes. Nothing is
+/// written before the image is known to be good. The writer is flushed at the end.
 ///
 /// # Errors
 /// - `Input` where the reader failed.
-/// - `Fs(NoMemory)` where a growth was refused.
+/// - `Fs(NoMemory)` where memory isn't granted.
 /// - `Fs(Invalid)` where the image isn't a whole number of blocks, or its geometry is out of range.
 /// - `Fs(Corrupt)` where the image is accepted in neither order of names.
 /// - `Output` where the writer failed. What was written is then a beginning of the lines.
@@ -111,7 +113,7 @@ pub fn list<R: Reader, W: Writer>(
     ensures ok { OnOk result (IfSome (R.remaining image.old) (λ bytes.
         (text : _) × (Lists block_size page bytes text × Appends (W.contents out.old) (W.contents out.new) text))) }
 
-    // The writer isn't touched, unless it fails: then a beginning of the lines may be written.
+    // The writer isn't called, unless it fails: then a beginning of the lines may be written.
     ensures writer { ReportsWriter W.Writer out.old out.new result }
     ensures beginning { IsErrOf result ToolError.Output → IfSome (R.remaining image.old) (λ bytes.
         (text : _) × (Lists block_size page bytes text × AppendsBeginning (W.contents out.old) (W.contents out.new) text)) }

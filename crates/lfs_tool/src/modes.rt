@@ -1,4 +1,4 @@
-// What a command line asks for, at its places.
+// The modes of a command line, at its places.
 
 ghost use Rattle.std.specs.Prelude.{◌≡◌, ◌≢◌, IfOk, IsErrOf, OnOk, false, suc, true};
 ghost use Rattle.lfs_tool.specs.Reported.{ReportsWriter};
@@ -80,7 +80,8 @@ fn unpack_at<P: Places>(
     unpack_asked(alloc, line, &mut image, &mut target)
 }
 
-// Does what a command line asks for. False where it is a check, of an image that isn't accepted.
+// Does what a command line requests. Returns false where it is a check, of an image that isn't
+// accepted.
 pub(crate) fn carry_out<P: Places, W: Writer>(
     alloc: Global,
     places: &P,

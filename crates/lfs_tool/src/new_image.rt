@@ -7,8 +7,8 @@ use std::io;
 use std::io::{ErrorKind, Write};
 use std::rt::Files;
 
-/// The file of an image that is made. It is made at the first write, so where nothing is written an old
-/// one stays. From then on it stays the same file.
+/// The file of an image that is made. It is made at the first write. So an old file stays where
+/// nothing is written. Later writes are to the same file.
 #[derive(Drop)]
 pub struct NewImage<'a, R: Files> {
     files: &'a R,
@@ -17,7 +17,7 @@ pub struct NewImage<'a, R: Files> {
 }
 
 impl<'a, R: Files> NewImage<'a, R> {
-    /// The file at a path. Nothing is made yet.
+    /// Keeps the path of the file. No file is opened yet.
     pub fn new(alloc: Global, files: &'a R, path: &str) -> Result<NewImage<'a, R>, AllocError>
         ensures path { IfOk result (λ i. string_bytes i.path ≡ path.now) }
         ensures file { IfOk result (λ i. i.file ≡ None) }
@@ -31,7 +31,7 @@ impl<'a, R: Files> NewImage<'a, R> {
 }
 
 impl<'a, R: Files> Write for NewImage<'a, R> {
-    // What its file holds, once it is made.
+    // Returns what the file holds, after it was made.
     ghost contents = { λ i. option_and_then R.File.contents i.file };
 
     fn write(&mut self, buf: &[u8]) -> io::Result<usize> {

@@ -7,7 +7,8 @@ use std::io;
 use std::io::{ErrorKind, Read};
 use std::rt::Files;
 
-/// The file of an image that is read. It is opened at the first read, which fails where it can't be.
+/// The file of an image that is read. The file is opened at the first read, which fails where that
+/// fails.
 #[derive(Drop)]
 pub struct OldImage<'a, R: Files> {
     files: &'a R,
@@ -16,7 +17,7 @@ pub struct OldImage<'a, R: Files> {
 }
 
 impl<'a, R: Files> OldImage<'a, R> {
-    /// The file at a path. Nothing is opened yet.
+    /// Keeps the path of the file. No file is opened yet.
     pub fn new(alloc: Global, files: &'a R, path: &str) -> Result<OldImage<'a, R>, AllocError>
         ensures path { IfOk result (λ i. string_bytes i.path ≡ path.now) }
     {

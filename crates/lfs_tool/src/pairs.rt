@@ -1,4 +1,4 @@
-// A pair of the thread, read.
+// A pair of the thread, as it is read.
 
 ghost use Rattle.std.specs.Prelude.{◌≡◌, ◌<◌, IfErr, IfOk, None, Some, length, map};
 ghost use Rattle.std.specs.Option.{option_map};
@@ -27,7 +27,7 @@ pub(crate) enum Read {
     Broken(Finding),
 }
 
-// Of the blocks of a pair the one that holds.
+// Returns the block of a pair that holds.
 fn holding<'a>(first: &'a [u8], second: &'a [u8]) -> Option<&'a [u8]>
     ensures { option_map (λ b. b.now) result ≡ holder first.now second.now }
 {
@@ -46,7 +46,7 @@ fn holding<'a>(first: &'a [u8], second: &'a [u8]) -> Option<&'a [u8]>
     }
 }
 
-// What the slot of that number lacks, which has no name or no struct.
+// Returns what the slot of that number lacks, which has no name or no struct.
 fn lacking(
     alloc: Global,
     pair: [u32; 2],
@@ -67,7 +67,7 @@ fn lacking(
     }
 }
 
-// The pair at an address that has that content.
+// Returns the pair at an address that has that content.
 fn hold_content(alloc: Global, at: [u32; 2], content: &Content<'_>) -> Result<Read, AllocError>
     requires { HaveParts (content_view content.now).slots }
     ensures { IfOk result (λ read. (disk : Disk) → raw_at disk (address_of at) ≡ Some (content_view content.now) → IsRead disk (address_of at) read) }
@@ -85,7 +85,7 @@ fn hold_content(alloc: Global, at: [u32; 2], content: &Content<'_>) -> Result<Re
     }))
 }
 
-// The pair at an address of which that block holds.
+// Returns the pair at an address of which that block holds.
 fn hold_block(alloc: Global, at: [u32; 2], block: &[u8]) -> Result<Read, Error>
     ensures read { IfOk result (λ read. (disk : Disk) → holder_at disk (address_of at) ≡ Some block.now → IsRead disk (address_of at) read) }
     ensures errors { IfErr result (λ e. e ≡ Error.NoMemory) }
@@ -100,7 +100,7 @@ fn hold_block(alloc: Global, at: [u32; 2], block: &[u8]) -> Result<Read, Error>
     }
 }
 
-// The pair at an address, or what is wrong with it.
+// Returns the pair at an address, or what is wrong with it.
 pub(crate) fn read_pair<D: BlockDevice>(
     alloc: Global,
     device: &mut D,

@@ -4,9 +4,9 @@ use crate::{Reader, Writer};
 use lfs_device::Error;
 use lfs_tool_folders::{Source, Target};
 
-/// Where the paths of a command line lead. What stands there is touched by its own calls alone.
+/// The files and folders of a command line's paths. Only their own calls touch what is there.
 ///
-/// Each call answers `NoMemory` where a growth was refused, and no other error.
+/// Each call returns `NoMemory` where memory isn't granted, and no other error.
 pub trait Places {
     /// An image that is read.
     type Image: Reader + Drop;
@@ -20,7 +20,7 @@ pub trait Places {
     /// A folder into which an image is unpacked.
     type NewFolder: Target + Drop;
 
-    // The path of each.
+    // The path of each kind of file and folder.
     ghost image_path: { Self.Image → List ℕ };
 
     ghost new_image_path: { Self.NewImage → List ℕ };
@@ -29,22 +29,22 @@ pub trait Places {
 
     ghost new_folder_path: { Self.NewFolder → List ℕ };
 
-    /// The image at a path, to be read.
+    /// Returns the image at a path, to be read.
     fn image(&self, path: &str) -> Result<Self::Image, Error>
         ensures path { IfOk result (λ i. image_path i ≡ path.now) }
         ensures err { IfErr result (λ e. e ≡ Error.NoMemory) };
 
-    /// The image at a path, to be made.
+    /// Returns the image at a path, to be made.
     fn new_image(&self, path: &str) -> Result<Self::NewImage, Error>
         ensures path { IfOk result (λ i. new_image_path i ≡ path.now) }
         ensures err { IfErr result (λ e. e ≡ Error.NoMemory) };
 
-    /// The folder at a path, to be read.
+    /// Returns the folder at a path, to be read.
     fn folder(&self, path: &str) -> Result<Self::Folder, Error>
         ensures path { IfOk result (λ f. folder_path f ≡ path.now) }
         ensures err { IfErr result (λ e. e ≡ Error.NoMemory) };
 
-    /// The folder at a path, to be written.
+    /// Returns the folder at a path, to be written.
     fn new_folder(&self, path: &str) -> Result<Self::NewFolder, Error>
         ensures path { IfOk result (λ f. new_folder_path f ≡ path.now) }
         ensures err { IfErr result (λ e. e ≡ Error.NoMemory) };

@@ -4,15 +4,16 @@ ghost use Rattle.std.specs.Io.KnownBytes.{ReadConsumes};
 
 use std::io;
 
-/// What gives the bytes of an image in turn. A contract sees how many of its calls have failed.
+/// A source of the bytes of an image, one after another. A contract sees how many of its calls have
+/// failed.
 pub trait Reader {
-    // The bytes that it will give from here on, where they are known.
+    // The bytes that are still to be read, where they are known.
     ghost remaining: { Self → Option (List ℕ) } = { λ _. None };
 
     // How many calls have failed.
     ghost faults: { Self → ℕ };
 
-    /// Fills the beginning of the buffer, and gives how many bytes it has filled: none only at the end,
+    /// Fills the beginning of the buffer. Returns how many bytes were filled: none only at the end,
     /// or where the buffer has no room. An error is a failure, and takes no byte away.
     fn read(&mut self, buf: &mut [u8]) -> io::Result<usize>
         ensures bound { ReadsAtMost result buf.new }

@@ -14,7 +14,7 @@ pub struct RealPlaces<'a, R> {
 }
 
 impl<'a, R: Files + AllocGlobal + Clone + Drop> RealPlaces<'a, R> {
-    /// Those of a runtime.
+    /// Makes the places of a runtime.
     pub fn new(rt: &'a R) -> RealPlaces<'a, R> {
         RealPlaces { rt }
     }

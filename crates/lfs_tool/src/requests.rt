@@ -1,4 +1,4 @@
-// Images that are listed, checked and unpacked with the sizes of a command line.
+// Requests of a command line to list, check and unpack images.
 
 ghost use Rattle.std.specs.Prelude.{◌≡◌, ◌≢◌, ◌⊎◌, IfErr, IfOk, IfSome, IsErrOf, OnErr, OnOk};
 ghost use Rattle.std.specs.Io.KnownBytes.{Appends};
@@ -14,7 +14,7 @@ use lfs_device::Error;
 use lfs_tool_folders::Target;
 use std::alloc::Global;
 
-/// Lists an image with the sizes that a command line gives, in bytes.
+/// Lists an image with the sizes of a command line, in bytes.
 ///
 /// # Errors
 /// Those of `lfs_tool::list`, at the same times.
@@ -27,7 +27,7 @@ pub fn list_asked<R: Reader, W: Writer>(
     ensures ok { OnOk result (IfSome (R.remaining image.old) (λ bytes.
         (text : _) × (Lists line.now.block_size line.now.page bytes text × Appends (W.contents out.old) (W.contents out.new) text))) }
 
-    // The writer isn't touched, unless it fails: then a beginning of the lines may be written.
+    // The writer isn't called, unless it fails: then a beginning of the lines may be written.
     ensures writer { ReportsWriter W.Writer out.old out.new result }
     ensures beginning { IsErrOf result ToolError.Output → IfSome (R.remaining image.old) (λ bytes.
         (text : _) × (Lists line.now.block_size line.now.page bytes text × AppendsBeginning (W.contents out.old) (W.contents out.new) text)) }
@@ -41,7 +41,7 @@ pub fn list_asked<R: Reader, W: Writer>(
     list(alloc, image, line.block_size, line.page, out)
 }
 
-/// Checks an image with the sizes that a command line gives, in bytes, and answers whether it is
+/// Checks an image with the sizes of a command line, in bytes. Returns whether the image is
 /// accepted.
 ///
 /// # Errors
@@ -55,7 +55,7 @@ pub fn check_asked<R: Reader, W: Writer>(
     ensures ok { IfOk result (λ accepted. IfSome (R.remaining image.old) (λ bytes.
         (checked : _) × (IsCheckedAs line.now.block_size line.now.page bytes checked × (accepted ≡ is_accepted checked) × Appends (W.contents out.old) (W.contents out.new) (checked_text checked)))) }
 
-    // The writer isn't touched, unless it fails: then a beginning of the lines may be written.
+    // The writer isn't called, unless it fails: then a beginning of the lines may be written.
     ensures writer { ReportsWriter W.Writer out.old out.new result }
     ensures beginning { IsErrOf result ToolError.Output → IfSome (R.remaining image.old) (λ bytes.
         (checked : _) × (IsCheckedAs line.now.block_size line.now.page bytes checked × AppendsBeginning (W.contents out.old) (W.contents out.new) (checked_text checked))) }
@@ -68,7 +68,7 @@ pub fn check_asked<R: Reader, W: Writer>(
     check(alloc, image, line.block_size, line.page, out)
 }
 
-/// Unpacks an image with the sizes that a command line gives, in bytes.
+/// Unpacks an image with the sizes of a command line, in bytes.
 ///
 /// # Errors
 /// Those of `lfs_tool::unpack`, at the same times.

@@ -8,7 +8,7 @@ ghost use Rattle.lfs_tool.specs.HeldView.{held_view, pair_view, pairs_view};
 use crate::held::{HeldPair, HeldSlot, Kind};
 use lfs_tag::is_hard;
 
-// Whether a slot is a superblock's.
+// Returns whether a slot is a superblock's.
 pub(crate) fn is_superblock(slot: &HeldSlot) -> bool
     ensures { result ≡ is_superblock (held_view slot.now) }
 {
@@ -19,7 +19,7 @@ pub(crate) fn is_superblock(slot: &HeldSlot) -> bool
     }
 }
 
-// Whether slot 0 is one.
+// Returns whether slot 0 is a superblock's.
 pub(crate) fn starts_with_superblock(slots: &[HeldSlot]) -> bool
     ensures { result ≡ starts_with_superblock (map held_view slots.now) }
 {
@@ -29,7 +29,7 @@ pub(crate) fn starts_with_superblock(slots: &[HeldSlot]) -> bool
     }
 }
 
-// Whether slot 0 is one, or there is no slot and that holds.
+// Returns whether slot 0 is a superblock's, or there is no slot and `later` is true.
 fn superblock_or(slots: &[HeldSlot], later: bool) -> bool
     ensures { result ≡ superblock_or (map held_view slots.now) later }
 {
@@ -39,7 +39,7 @@ fn superblock_or(slots: &[HeldSlot], later: bool) -> bool
     }
 }
 
-// Whether there is no slot, or a superblock alone.
+// Returns whether there is no slot, or a superblock alone.
 fn is_bare(slots: &[HeldSlot]) -> bool
     ensures { result ≡ is_bare (map held_view slots.now) }
 {
@@ -50,15 +50,15 @@ fn is_bare(slots: &[HeldSlot]) -> bool
     }
 }
 
-// Whether the superblock's chain may go on behind the pair.
+// Returns whether the superblock's chain may continue after the pair.
 fn leads_on(pair: &HeldPair) -> bool
     ensures { result ≡ leads_on (pair_view pair.now) }
 {
     is_bare(&pair.slots) && is_hard(pair.tail)
 }
 
-// How many pairs stand in front of the root, with one pair more in front of those of which `behind`
-// do. Whether these meet a superblock, is `meets`.
+// Returns how many pairs are before the root, after one pair is put before others. Of the others
+// `behind` pairs are before the root. `meets` tells whether the others meet a superblock.
 fn with_pair(pair: &HeldPair, meets: bool, behind: usize) -> usize
     requires { behind < 2 ^ 63 }
     ensures { result ≡ (if meets && leads_on (pair_view pair.now) then 1 + behind else 0) }
@@ -70,14 +70,14 @@ fn with_pair(pair: &HeldPair, meets: bool, behind: usize) -> usize
     }
 }
 
-// Whether a pair and those behind it meet a superblock, where these alone do or don't.
+// Returns whether a pair and those after it meet a superblock, by whether these alone do.
 fn meets_with(pair: &HeldPair, meets: bool) -> bool
     ensures { result ≡ superblock_or (pair_view pair.now).content.slots (is_hard (pair_view pair.now).content.tail && meets) }
 {
     superblock_or(&pair.slots, is_hard(pair.tail) && meets)
 }
 
-// How many pairs stand in front of the root directory's first one: the superblock's chain, without
+// Returns how many pairs are before the root directory's first one: the superblock's chain, without
 // its last pair (SPEC.md of littlefs, "0x0ff LFS_TYPE_SUPERBLOCK").
 pub(crate) fn root_of(pairs: &[HeldPair]) -> usize
     requires { 0 < length pairs.now }

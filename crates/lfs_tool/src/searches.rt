@@ -18,7 +18,7 @@ use crate::thread_walk::{Followed, follow};
 use lfs_device::{BlockDevice, Error, Geometry};
 use std::alloc::{AllocError, Global};
 
-// The first rule that the pairs of a thread break.
+// Returns the first rule that the pairs of a thread break.
 fn pairs_fault(
     alloc: Global,
     geometry: &Geometry,
@@ -36,7 +36,7 @@ fn pairs_fault(
     slots_fault(alloc, pairs, root)
 }
 
-// The first rule that a thread breaks, which was followed.
+// Returns the first rule that a thread breaks, after it was followed.
 fn fault_in(
     alloc: Global,
     geometry: &Geometry,
@@ -54,13 +54,14 @@ fn fault_in(
     }
 }
 
-/// The first rule that an image breaks, and where: from the pair of blocks 0 and 1 on what the thread
-/// names, by the tails, the superblock's sizes and version, and then what stands in the slots of its pairs. Only reads are made, one of
-/// each block of a pair.
+/// Returns the first rule that an image breaks, and where. First come the addresses and logs of the
+/// pairs, from the pair {0, 1} on by the tails. Then come the superblock's sizes and version, and
+/// then the slots of the pairs. Only reads are made, one of each block of a pair.
 ///
-/// None where no rule is broken that it looks for. Then the image may still not be accepted.
+/// Returns None where the image breaks no rule that the search looks for. The image may still not
+/// be accepted then.
 ///
-/// `Io` where a read failed, and `NoMemory` where memory isn't granted.
+/// Errors: `Io` where a read failed. `NoMemory` where memory isn't granted.
 pub fn find<D: BlockDevice>(alloc: Global, device: &mut D) -> Result<Option<Finding>, Error>
     ensures found { IfOk result (λ found. IfSome found (IsFound (disk_of (D.geometry device.old) (D.blocks device.old)))) }
     ensures looks { Looks D.BlockDevice device.old device.new result }

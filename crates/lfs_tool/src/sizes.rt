@@ -6,7 +6,8 @@ ghost use Rattle.lfs_model.specs.declared.order.NameOrder.TheVariants.{LongerFir
 
 use lfs_device::{Error, Geometry};
 
-/// The geometry of an image of `size` bytes, with blocks and pages of these sizes in bytes, and the longer names first.
+/// Makes the geometry of an image of `size` bytes, with blocks and pages of these sizes in bytes.
+/// The longer names come first.
 ///
 /// # Errors
 /// `Invalid` exactly where the image isn't a whole number of blocks, or the geometry is out of range.

@@ -1,4 +1,4 @@
-// Slots that hold no entry.
+// Slots that are no entries.
 
 ghost use Rattle.std.specs.Prelude.{◌≡◌, ◌↔◌, ◌<◌, ◌⊎◌, ℕ, IfOk, IfSome, IsTrue, List, Some, slice_get};
 ghost use Rattle.lfs_model.specs.Disk.{Disk};
@@ -15,7 +15,7 @@ use crate::roots::is_superblock;
 use lfs_tag::is_name;
 use std::alloc::{AllocError, Global};
 
-// Why a slot is no entry.
+// The cause for which a slot is no entry.
 #[derive(Clone, Copy, Drop)]
 pub(crate) enum EntryFault {
     IsSuperblock,
@@ -23,7 +23,7 @@ pub(crate) enum EntryFault {
     BadName,
 }
 
-// Whether a slot's kind and its struct go together.
+// Returns whether a slot's kind matches its struct.
 fn suits(slot: &HeldSlot) -> bool
     ensures { IsTrue result ↔ Suits (held_view slot.now).kind (held_view slot.now).struct }
 {
@@ -35,7 +35,7 @@ fn suits(slot: &HeldSlot) -> bool
     }
 }
 
-// What is wrong with a slot that has to be an entry.
+// Returns what is wrong with a slot that has to be an entry.
 fn fault_of(slot: &HeldSlot) -> Option<EntryFault>
     ensures { IfSome result (HasFault (held_view slot.now)) }
 {
@@ -51,7 +51,7 @@ fn fault_of(slot: &HeldSlot) -> Option<EntryFault>
     None
 }
 
-// A slot by its pair, its number and its name.
+// Returns a slot by its pair, its number and its name.
 fn place_of(
     alloc: Global,
     pair: [u32; 2],
@@ -64,7 +64,7 @@ fn place_of(
     Ok(Place { pair, slot, name })
 }
 
-// The finding of what is wrong with the slot at a place.
+// Returns the finding for a slot at a place.
 fn finding_of(fault: EntryFault, place: Place) -> Finding
     ensures { (disk : Disk) (ps : List Pair) → HasAt (λ s. HasFault s fault) ps place → IsBroken disk ps result }
 {
@@ -75,7 +75,7 @@ fn finding_of(fault: EntryFault, place: Place) -> Finding
     }
 }
 
-// The finding of what is wrong with a slot that has to be an entry.
+// Returns the finding for a slot that has to be an entry.
 fn slot_fault(
     alloc: Global,
     pair: [u32; 2],
@@ -91,7 +91,7 @@ fn slot_fault(
     Ok(Some(finding_of(fault, place)))
 }
 
-// What is wrong with the slots of a pair from a number on, which have to be entries.
+// Returns what is wrong with the slots of a pair from a number on, which have to be entries.
 fn pair_fault(alloc: Global, pair: &HeldPair, from: usize) -> Result<Option<Finding>, AllocError>
     ensures { IfOk result (λ found. IfSome found (λ f. (disk : Disk) (ps : List Pair) (index : ℕ) → slice_get ps index ≡ Some (pair_view pair.now) → (superblocks_before ps < index) ⊎ (0 < from) → IsBroken disk ps f)) }
 {
@@ -103,16 +103,16 @@ fn pair_fault(alloc: Global, pair: &HeldPair, from: usize) -> Result<Option<Find
     Ok(None)
 }
 
-// The number of the first slot of a pair that has to be an entry. So many pairs stand in front of the
-// root directory.
+// Returns the number of the first slot of a pair that has to be an entry. So many pairs are before
+// the root directory.
 fn first_entry(root: usize, index: usize) -> usize
     ensures { (root < index) ⊎ (0 < result) }
 {
     if root < index { 0 } else { 1 }
 }
 
-// What is wrong with the slots of all pairs, but for slot 0 of the pairs of the superblock's chain.
-// So many of these stand in front of the root directory.
+// Returns what is wrong with the slots of all pairs, but slot 0 of the pairs of the superblock's
+// chain. So many of these are before the root directory.
 pub(crate) fn slots_fault(
     alloc: Global,
     pairs: &[HeldPair],

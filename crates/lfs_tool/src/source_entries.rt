@@ -1,4 +1,4 @@
-// Entries of a source, carried over into an image.
+// Entries of a source, copied into an image.
 
 ghost use Rattle.std.specs.Prelude.{[], ◌≡◌, ◌≢◌, IfErr, OnOk};
 ghost use Rattle.lfs_model.specs.Fresh.{IsFresh, empty_tree};
@@ -15,7 +15,7 @@ use lfs_fs::{OpenFlags, Session};
 use lfs_tool_folders::Entry;
 use std::alloc::Global;
 
-// How a file is opened that is to be made.
+// Returns the flags of a file that is to be made.
 fn for_new() -> OpenFlags
     ensures { flags_view result ≡ new_file_flags }
 {
@@ -50,7 +50,7 @@ fn carry(alloc: Global, session: &mut Session<RamDevice>, entry: &Entry) -> Resu
     }
 }
 
-// Carries the entries over in turn, up to the first that is refused.
+// Copies the entries in order, up to the first that is refused.
 pub(crate) fn carry_over(
     alloc: Global,
     session: &mut Session<RamDevice>,
@@ -63,7 +63,7 @@ pub(crate) fn carry_over(
 {
     for entry in entries {
         if let Err(error) = carry(alloc, session, entry) {
-            // The device has met no fault, so memory ran out where nothing was refused.
+            // The device had no fault, so memory ran out where nothing was refused.
             let _device = session.device();
             return Err(error);
         }

@@ -29,7 +29,7 @@ fn is_file(structure: &Structure) -> bool
     }
 }
 
-// How many of the items are files.
+// Returns how many of the items are files.
 fn count_files(items: &[TreeItem]) -> usize
     ensures count { result ≡ count_by is_file_item items.now }
     ensures below { result ≤ length items.now }
@@ -43,14 +43,14 @@ fn count_files(items: &[TreeItem]) -> usize
     count
 }
 
-// Whether a global state says that an operation isn't ended.
+// Returns whether a global state has an operation to end.
 fn is_half_done(state: &MoveState) -> bool
     ensures { result ≡ is_half_done (move_view state.now) }
 {
     state.sync || state.kind != 0
 }
 
-// All that stands in the image.
+// Returns all entries of the image.
 fn items_in(alloc: Global, thread: &mut Thread<Ordered<RamDevice>>) -> Result<Vec<TreeItem>, Error>
     requires works { thread.old.failed ≡ false }
     requires accepted { IsAccepted thread.old.kept.disk thread.old.kept.pairs }
@@ -61,14 +61,14 @@ fn items_in(alloc: Global, thread: &mut Thread<Ordered<RamDevice>>) -> Result<Ve
     match walk(alloc, thread) {
         Ok(items) => Ok(items),
         Err(error) => {
-            // It has met no fault, so memory ran out.
+            // The device had no fault, so memory ran out.
             let _device = thread.device();
             Err(error)
         }
     }
 }
 
-// The number of the root directory's first pair.
+// Returns the number of the root directory's first pair.
 fn root_in(alloc: Global, thread: &mut Thread<Ordered<RamDevice>>) -> Result<usize, Error>
     requires works { thread.old.failed ≡ false }
     requires accepted { IsAccepted thread.old.kept.disk thread.old.kept.pairs }
@@ -79,14 +79,14 @@ fn root_in(alloc: Global, thread: &mut Thread<Ordered<RamDevice>>) -> Result<usi
     match find_root(alloc, thread) {
         Ok(root) => Ok(root),
         Err(error) => {
-            // It has met no fault, so memory ran out.
+            // The device had no fault, so memory ran out.
             let _device = thread.device();
             Err(error)
         }
     }
 }
 
-// Whether the image may be changed.
+// Returns whether the image may be changed.
 fn writable_in(
     alloc: Global,
     thread: &mut Thread<Ordered<RamDevice>>,
@@ -102,14 +102,14 @@ fn writable_in(
     match is_writable(alloc, thread, root) {
         Ok(writable) => Ok(writable),
         Err(error) => {
-            // It has met no fault, so memory ran out.
+            // The device had no fault, so memory ran out.
             let _device = thread.device();
             Err(error)
         }
     }
 }
 
-// What the image has.
+// Returns what the image has.
 pub(crate) fn summary_of(
     alloc: Global,
     thread: &mut Thread<Ordered<RamDevice>>,

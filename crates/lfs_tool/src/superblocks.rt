@@ -1,4 +1,4 @@
-// What a superblock says of an image, by its place in the bytes alone.
+// The numbers of a superblock, by its place in the bytes alone.
 
 ghost use Rattle.std.specs.Prelude.{◌≡◌, ◌⊎◌, ◌<◌, ◌/◌, ◌^◌, IfSome, length};
 ghost use Rattle.lfs_tag.specs.FieldsView.{superblock_view};
@@ -7,7 +7,7 @@ ghost use Rattle.lfs_tool.specs.Stated.{IsStatedIn, IsUnlike, StandsAt};
 use crate::findings::Stated;
 use lfs_tag::{Superblock, superblock_of};
 
-// What these fields say that isn't so of blocks of that size, so many of them.
+// Returns which of these fields is wrong for so many blocks of that size.
 pub(crate) fn unlike(block_size: u32, count: usize, fields: &Superblock) -> Option<Stated>
     ensures { IfSome result (IsUnlike block_size count (superblock_view fields.now)) }
 {
@@ -23,7 +23,7 @@ pub(crate) fn unlike(block_size: u32, count: usize, fields: &Superblock) -> Opti
     None
 }
 
-// The fields of the superblock with which a block begins that begins there.
+// Returns the fields of the superblock at the beginning of a block at that offset.
 fn fields_at(bytes: &[u8], from: usize) -> Option<Superblock>
     requires { from < 2 ^ 32 }
     ensures { IfSome result (λ fields. StandsAt bytes.now from (superblock_view fields)) }
@@ -37,7 +37,7 @@ fn fields_at(bytes: &[u8], from: usize) -> Option<Superblock>
     }
 }
 
-// What that superblock says of the bytes that isn't so.
+// Returns which field of that superblock is wrong for the bytes.
 fn stated_at(bytes: &[u8], block_size: u32, from: usize) -> Option<Stated>
     requires size { 0 < block_size }
     requires from { (from ≡ 0) ⊎ (from ≡ block_size) }
@@ -50,11 +50,11 @@ fn stated_at(bytes: &[u8], block_size: u32, from: usize) -> Option<Stated>
     }
 }
 
-/// What the superblock in block 0 or 1 of these bytes says of them that isn't so, with blocks of that
-/// size in bytes: another size or number of blocks, or another version. It is found by its place, and no
-/// checksum is looked at, so that blocks of another size needn't be known.
+/// Returns which number in the superblock of block 0 or 1 is wrong for these bytes, with blocks of
+/// that size in bytes: the size or number of blocks, or the version. The superblock is found by its
+/// place, without a checksum. So blocks of another size needn't be known.
 ///
-/// None where neither block begins with a superblock, or each says what is so.
+/// Returns None where neither block begins with a superblock, or each has right numbers.
 pub fn misstated_in(bytes: &[u8], block_size: u32) -> Option<Stated>
     ensures { IfSome result (IsStatedIn bytes.now block_size) }
 {

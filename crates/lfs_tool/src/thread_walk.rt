@@ -20,8 +20,8 @@ pub(crate) enum Followed {
     Broken(Finding),
 }
 
-// The pair that the thread names behind these, or what is wrong with it. Which blocks stand in these,
-// `marks` says, so that the others aren't sought.
+// Returns the pair that the thread names after these, or what is wrong with it. `marks` has the
+// blocks of these pairs, so the others aren't searched.
 fn next_pair<D: BlockDevice>(
     alloc: Global,
     device: &mut D,
@@ -43,9 +43,9 @@ fn next_pair<D: BlockDevice>(
     read_pair(alloc, device, at)
 }
 
-// Follows the thread from the pair of blocks 0 and 1 on, by the tails (SPEC.md of littlefs, "The
-// metadata tree"). None where it has more pairs than the image has blocks, which can't be where no
-// block stands in it twice.
+// Follows the thread from the pair {0, 1} on, by the tails (SPEC.md of littlefs, "0x6xx
+// LFS_TYPE_TAIL"). Returns None where the thread has more pairs than the image has blocks, which
+// can't be where no block is in it twice.
 pub(crate) fn follow<D: BlockDevice>(
     alloc: Global,
     device: &mut D,

@@ -12,9 +12,9 @@ use std::alloc::Global;
 use std::io;
 use std::io::ErrorKind;
 
-/// Carries out the words of a command line, the program's name first, at the places of its paths. The
-/// lines of a listing and of a check go to `out`. Answers false where an image was checked that isn't
-/// accepted, and else true.
+/// Runs the words of a command line, the program's name first, at the places of its paths. The
+/// lines of a listing and of a check are written to `out`. Returns false where an image was checked
+/// that isn't accepted, and else true.
 ///
 /// # Errors
 /// - `Line` where there is no command line, or memory ran out while it was read.
@@ -28,11 +28,11 @@ pub fn run<P: Places, W: Writer>(
 ) -> Result<bool, Fault>
     ensures line { MatchResult result (λ _. HasLine (map string_bytes words.now)) (IsFaultIn (map string_bytes words.now)) }
 
-    // `out` isn't touched, but by a listing or a check, unless it fails.
+    // `out` isn't called, but by a listing or a check, unless it fails.
     ensures unlisted { is_listed (rows (map string_bytes words.now)) ≡ false → is_checked (rows (map string_bytes words.now)) ≡ false → out.new ≡ out.old }
     ensures kept { IfErr result (λ e. e ≢ Fault.Tool ToolError.Output → out.new ≡ out.old) }
 
-    // What is done at the paths of the line, and why each error of the tool comes.
+    // What is done at the paths of the line, and when each error of the tool comes.
     ensures done { IfOk result (λ accepted. (line : _) × (IsLineOf (rows (map string_bytes words.now)) line × EndsWell line.mode accepted × By line.mode
         (ListsAt P.image_path P.Image.remaining line (W.contents out.old) (W.contents out.new) × (W.pending out.new ≡ 0))
         (ChecksAt P.image_path P.Image.remaining line accepted (W.contents out.old) (W.contents out.new) × (W.pending out.new ≡ 0))
@@ -66,7 +66,7 @@ pub fn run<P: Places, W: Writer>(
     }
 }
 
-// Why there are no words: memory ran out, or one of them is no text.
+// The cause for which there are no words: memory ran out, or a word is no text.
 fn fault_of(error: &io::Error) -> Fault
     ensures memory { error_kind error.now ≡ ErrorKind.OutOfMemory → result ≡ Fault.Tool (ToolError.Fs Error.NoMemory) }
     ensures text { error_kind error.now ≢ ErrorKind.OutOfMemory → result ≡ Fault.Line LineError.NotUtf8 }
@@ -78,10 +78,10 @@ fn fault_of(error: &io::Error) -> Fault
     }
 }
 
-/// Runs the program on the words of its command line, or on what there is in their place, and gives the
-/// status with which it ends: 0, or 1 where an image was checked that isn't accepted, or that of
-/// `lfs_tool::report`, which shows why. Without words memory ran
-/// out, or one of them is no text; nothing goes to `out` then.
+/// Runs the program on the words of its command line, or on the cause for which there are none.
+/// Returns the status with which the program ends: 0, or 1 where an image was checked that isn't
+/// accepted, or that of `lfs_tool::report`, which shows the error. Without words nothing is written
+/// to `out`.
 pub fn answer<P: Places, O: Writer, E: Writer>(
     alloc: Global,
     places: &P,
@@ -96,7 +96,7 @@ pub fn answer<P: Places, O: Writer, E: Writer>(
         (UnpacksAt P.image_path P.Image.remaining P.new_folder_path P.NewFolder.done line))) result err.old err.new) }
     ensures unlisted { IfOk words (λ all. HasLine (map string_bytes all.items) → is_listed (rows (map string_bytes all.items)) ≡ false → is_checked (rows (map string_bytes all.items)) ≡ false → out.new ≡ out.old) }
 
-    // With words that are a command line, the status 0 says that what it asks for is done.
+    // With words that are a command line, the status 0 comes where its request is done.
     ensures done { IfOk words (λ all. HasLine (map string_bytes all.items) → result ≡ 0 → (line : _) × (IsLineOf (rows (map string_bytes all.items)) line × By line.mode
         (ListsAt P.image_path P.Image.remaining line (O.contents out.old) (O.contents out.new) × (O.pending out.new ≡ 0))
         (ChecksAt P.image_path P.Image.remaining line true (O.contents out.old) (O.contents out.new) × (O.pending out.new ≡ 0))

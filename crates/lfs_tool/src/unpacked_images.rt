@@ -22,7 +22,7 @@ use lfs_thread::Thread;
 use lfs_tool_folders::{Target, TargetError};
 use std::alloc::Global;
 
-// The bytes of a file of an image in memory.
+// Returns the bytes of a file of an image in memory.
 fn file_bytes(
     alloc: Global,
     thread: &mut Thread<Ordered<RamDevice>>,
@@ -38,14 +38,14 @@ fn file_bytes(
     match contents_of(alloc, thread, structure) {
         Ok(bytes) => Ok(bytes),
         Err(error) => {
-            // It has met no fault, so memory ran out.
+            // The device had no fault, so memory ran out.
             let _device = thread.device();
             Err(ToolError::Fs(error))
         }
     }
 }
 
-// What a target's error says.
+// Returns the tool's error for a target's error.
 fn fault_of(error: TargetError) -> ToolError
     ensures { (error ≡ TargetError.Fault × (result ≡ ToolError.Output)) ⊎ (error ≡ TargetError.NoMemory × (result ≡ ToolError.Fs Error.NoMemory)) }
 {
@@ -55,7 +55,7 @@ fn fault_of(error: TargetError) -> ToolError
     }
 }
 
-// Does what one item asks for.
+// Does the action of one item.
 fn put_item<T: Target>(
     alloc: Global,
     thread: &mut Thread<Ordered<RamDevice>>,
@@ -82,7 +82,7 @@ fn put_item<T: Target>(
     }
 }
 
-// Does what the items ask for, in turn.
+// Does the actions of the items, in order.
 fn put_items<T: Target>(
     alloc: Global,
     thread: &mut Thread<Ordered<RamDevice>>,
@@ -132,19 +132,19 @@ fn unpack_image<T: Target>(
     }
 }
 
-/// Unpacks an image into a target: for each file and directory, depth first and in name order, one
-/// action. A directory is made before what stands in it, and a file is put with its bytes.
+/// Unpacks an image into a target: one action for each file and directory, depth first and in name
+/// order. A directory is made before its entries, and a file is put with its bytes.
 ///
-/// The image may have its names in either order. Of two names of which one begins the other, the shorter
-/// comes first here.
+/// The image may have its names in either order. Of two names of which one begins the other, the
+/// shorter comes first here.
 ///
-/// The image is read to its end, or to the byte past the largest image, 268435456 bytes. `block_size`
-/// and `page` are in bytes. Nothing is done before the image is known to be good. After an error the
-/// actions that were done are a beginning of those that the image asks for.
+/// The image is read to its end, or to the byte past the largest image's size of 268,435,456 bytes.
+/// `block_size` and `page` are in bytes. Nothing is done before the image is known to be good.
+/// After an error the actions that were done are a beginning of those that the image wants.
 ///
 /// # Errors
 /// - `Input` where the reader failed.
-/// - `Fs(NoMemory)` where a growth was refused.
+/// - `Fs(NoMemory)` where memory isn't granted.
 /// - `Fs(Invalid)` where the image isn't a whole number of blocks, or its geometry is out of range.
 /// - `Fs(Corrupt)` where the image is accepted in neither order of names.
 /// - `Output` where the target failed.

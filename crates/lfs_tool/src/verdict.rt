@@ -1,4 +1,4 @@
-// What is said of an image.
+// The verdict on an image.
 
 use crate::findings::Finding;
 
@@ -7,7 +7,7 @@ use crate::findings::Finding;
 pub enum Orders {
     LongerFirst,
     ShorterFirst,
-    /// Both: in no directory a name begins another one.
+    /// Both: no name of a directory begins another one.
     Either,
 }
 
@@ -15,15 +15,15 @@ pub enum Orders {
 #[derive(Clone, Copy, Debug, PartialEq, Eq, Drop)]
 pub struct Summary {
     pub files: usize,
-    /// Without the root.
+    /// How many files and directories there are, without the root.
     pub directories: usize,
     /// How many blocks are used.
     pub used: u32,
     /// How many blocks there are.
     pub blocks: u32,
-    /// Whether a loss of power left something half done.
+    /// Whether a loss of power left something to recover.
     pub recover: bool,
-    /// Whether it keeps within what this library writes, so that it may be changed.
+    /// Whether the image is in the writing profile, so that it may be changed.
     pub writable: bool,
 }
 
@@ -31,6 +31,6 @@ pub struct Summary {
 #[derive(Drop)]
 pub enum Verdict {
     Accepted { summary: Summary, orders: Orders },
-    /// The rule that it breaks. None where it breaks one that no finding has.
+    /// The rule that the image breaks. None where it breaks one that no finding has.
     Refused(Option<Finding>),
 }

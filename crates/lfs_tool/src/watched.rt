@@ -6,12 +6,13 @@ use std::fmt::Display;
 use std::io;
 use std::io::{ErrorKind, Read, Write};
 
-/// A reader or a writer of std, with counts of what its calls did. A call that a signal interrupted is
-/// made again, and is no failure.
+/// A reader or a writer of std, with counts of what its calls did. A call that a signal interrupted
+/// is made again, and is no failure.
 ///
-/// std's traits have no word for a call that failed, nor for a flush. So here it is read in the code, and
-/// not proved, that std's call is made, that a failure is counted only where it failed, and that a flush
-/// is one. Callers know a `Watched` by `Reader` and `Writer`, and can't count anything without a call.
+/// std's traits have no word for a call that failed, nor for a flush. So three facts are read in
+/// the code here, and not proved: that std's call is made, that a failure is counted only where the
+/// call failed, and that a flush is one. Callers know a `Watched` by `Reader` and `Writer`, and
+/// can't count anything without a call.
 #[derive(Drop)]
 pub struct Watched<T> {
     inner: T,
@@ -24,7 +25,7 @@ pub struct Watched<T> {
 impl<T> Watched<T> {
     ghost use Rattle.lfs_tool.specs.Watched.{faults_of, inner_of};
 
-    /// A reader or a writer of which no call was made yet.
+    /// Makes a reader or a writer of which no call was made yet.
     pub fn new(inner: T) -> Watched<T>
         ensures inner { inner_of result ≡ inner }
         ensures faults { faults_of result ≡ 0 }
@@ -37,14 +38,14 @@ impl<T> Watched<T> {
         }
     }
 
-    /// The reader or the writer.
+    /// Borrows the reader or the writer.
     pub fn inner(&self) -> &T
         ensures { result.now ≡ inner_of self.now }
     {
         &self.inner
     }
 
-    /// The reader or the writer, given back.
+    /// Returns the reader or the writer.
     pub fn into_inner(self) -> T
         ensures { result ≡ inner_of self }
     {
@@ -87,7 +88,7 @@ impl<W: Write> Writer for Watched<W> {
 
     ghost shown = { shown_of };
 
-    // To take nothing of some bytes is to fail.
+    // A writer that takes nothing of some bytes fails.
     fn write(&mut self, buf: &[u8]) -> io::Result<usize> {
         for _ in 0..u64::MAX {
             match self.inner.write(buf) {

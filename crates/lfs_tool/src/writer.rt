@@ -5,10 +5,10 @@ ghost use Rattle.std.specs.Io.KnownBytes.{Appends, Keeps, WriteAppends};
 use std::fmt::Display;
 use std::io;
 
-/// What takes the bytes of an image, or lines. A contract sees how many of its calls have failed, and
-/// whether what was written was flushed.
+/// A sink for the bytes of an image, or lines. A contract sees how many of its calls have failed,
+/// and whether its bytes were flushed.
 pub trait Writer {
-    // The bytes that it holds, where they are known.
+    // The bytes that it has, where they are known.
     ghost contents: { Self → Option (List ℕ) } = { λ _. None };
 
     // How many calls have failed.
@@ -20,7 +20,7 @@ pub trait Writer {
     // How many values it has shown.
     ghost shown: { Self → ℕ };
 
-    /// Takes a beginning of the bytes, and gives how many it has taken: one at least. An error is a
+    /// Takes a beginning of the bytes. Returns how many were taken: at least one. An error is a
     /// failure, and nothing was taken then.
     fn write(&mut self, buf: &[u8]) -> io::Result<usize>
         requires { 0 < length buf.now }
@@ -30,7 +30,7 @@ pub trait Writer {
         ensures pending { OnOk result (pending self.new ≡ suc (pending self.old)) }
         ensures fault { OnErr result (faults self.new ≡ suc (faults self.old)) };
 
-    /// Hands on what was written. An error is a failure.
+    /// Flushes the bytes that were written. An error is a failure.
     fn flush(&mut self) -> io::Result<()>
         ensures bytes { Keeps (contents self.old) (contents self.new) }
         ensures ok { OnOk result (faults self.new ≡ faults self.old) }
@@ -38,7 +38,8 @@ pub trait Writer {
         ensures shown { shown self.new ≡ shown self.old }
         ensures fault { OnErr result (faults self.new ≡ suc (faults self.old)) };
 
-    /// Writes what a value shows, and hands it on. An error is a failure, and a part may be written then.
+    /// Writes the text of a value, and flushes it. An error is a failure, and a part may be written
+    /// then.
     fn show<D: Display>(&mut self, value: &D) -> io::Result<()>
         ensures text { OnOk result (IfSome (D.output value.now) (Appends (contents self.old) (contents self.new))) }
         ensures ok { OnOk result (faults self.new ≡ faults self.old) }

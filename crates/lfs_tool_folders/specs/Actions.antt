@@ -1,10 +1,10 @@
--- What was done to a target.
+-- The actions on a target.
 use Rattle.std.specs.Prelude.{◌≡◌, ◌++◌, [], ◌∷◌, List, Option, Some, None}
 use Rattle.lfs_model.specs.Listing.{Action, MakeDirectory, PutFile}
 use Rattle.lfs_tool_folders.specs.declared.target_memory.Done.{Done}
 use Rattle.lfs_tool_folders.specs.declared.target_memory.Done.TheVariants as variant
 
--- one action more, where what was done is known
+-- one action more, where the actions are known
 abbrev pub Adds : Option (List Action) → Option (List Action) → Action → Type 0
 Adds None new a = Unit {0}
 Adds (Some done) None a = ⊥

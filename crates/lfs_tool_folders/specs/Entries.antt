@@ -1,4 +1,4 @@
--- What a source has, once it is read.
+-- The entries of a source, after it is read.
 use Rattle.std.specs.Prelude.{◌≡◌, ◌⊎◌, ◌++◌, ◌&&◌, ℕ, suc, Bool, true, false, List, [], ◌∷◌, Option, Some, None, All, AllPairs, Contains, IfSome, map}
 use Rattle.std.specs.List.Sorted.{IsPermutation}
 use Rattle.std.specs.declared.cmp.Ordering.TheVariants.{Less}
@@ -29,15 +29,14 @@ pub record AreInOrder (names : List Name) : Type 0 where
   pub components : All (λ n. is_component n ≡ true) names
   pub rise : AllPairs (λ a b. name_cmp ShorterFirst a b ≡ Less) names
 
--- These names, each with whether it is a folder's, are in order, and all that stands in a folder of what the source
--- is known to show.
+-- These names, each with whether it is a folder's, are in order. They are all names in a folder of the source's known tree.
 pub record AreWithin (known : Option Source) (folder : List ℕ) (given : List (Name × Bool)) : Type 0 where
   pub order : AreInOrder (given_names given)
   pub names : IfSome known (λ s. IsPermutation (s.names folder) given)
 
 -- ---- entries
 
--- a path, and whether a folder stands there
+-- a path, and whether a folder is there
 abbrev pub Place : Type 0
 Place = List ℕ × Bool
 
@@ -54,8 +53,7 @@ HoldsSource known path false (Some bytes) within = IfSome known (λ s. bytes ≡
 HoldsSource known path true None within = AreWithin known path within
 HoldsSource known path true (Some bytes) within = ⊥
 
--- These entries are what stands at the places, in turn, and what stands beneath each: a folder comes before what
--- stands beneath it, and that before the next place.
+-- The entries at these places, in order, each followed by the entries beneath it.
 abbrev pub AreRead : Option Source → List Place → List Entry → Type 0
 AreRead known [] [] = Unit {0}
 AreRead known [] (e ∷ es) = ⊥
@@ -69,7 +67,7 @@ AreAll known entries = (top : List (Name × Bool)) × (AreWithin known [] top ×
 
 -- ---- faults
 
--- a call more has met a fault, or none has and this holds
+-- one call more has had a fault, or none has and this holds
 abbrev pub FailsOr : ℕ → ℕ → Type 0 → Type 0
 FailsOr old new other = (new ≡ suc old) ⊎ ((new ≡ old) × other)
 
@@ -82,6 +80,6 @@ LeadsTo s folder (name ∷ rest) to = Contains (s.names folder) (name, true) × 
 abbrev pub IsFolder : Source → List ℕ → Type 0
 IsFolder s folder = (names : List Name) × LeadsTo s [] names folder
 
--- a folder in it has names that can't stand in one
+-- a folder in the source has names that aren't allowed in one
 abbrev pub HasBadNames : Source → Type 0
 HasBadNames s = (folder : List ℕ) × (IsFolder s folder × AreBad (given_names (s.names folder)))

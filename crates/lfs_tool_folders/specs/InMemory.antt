@@ -1,4 +1,4 @@
--- What a source in memory shows.
+-- The tree of a source in memory.
 use Rattle.std.specs.Prelude.{◌+◌, ◌==◌, ◌&&◌, not, ℕ, Bool, true, false, [], ◌∷◌, List, Option, Some, None, Vec, drop, filter, find, if◌then◌else◌, length, map, nat_lt, slice_index, take, unwrap_or}
 use Rattle.std.specs.Global.{Global}
 use Rattle.std.specs.List.{list_any}
@@ -32,7 +32,7 @@ is_within folder path = nat_lt (length folder) (length path) && (bytes_eq (take 
 abbrev pub given_by : List ℕ → Item → Name × Bool
 given_by folder e = (drop (length folder + 1) e.0, has_no_bytes e.1)
 
--- the name of what stands at a path, where it is directly in the folder
+-- the name of the entry at a path, where it is directly in the folder
 abbrev pub name_of : List ℕ → Item → List (Name × Bool)
 name_of folder e = if is_within folder e.0 then given_by folder e ∷ [] else []
 

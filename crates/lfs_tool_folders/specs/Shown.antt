@@ -1,11 +1,11 @@
--- What a source shows, while it is read.
+-- The tree of a source, while it is read.
 use Rattle.std.specs.Prelude.{◌≡◌, Bool, true, false, Option, Some, None}
 use Rattle.lfs_model.specs.Names.{Name}
 use Rattle.lfs_tool_folders.specs.declared.source.Kind.{Kind}
 use Rattle.lfs_tool_folders.specs.declared.source.Kind.TheVariants.{File, Folder}
 use Rattle.lfs_tool_folders.specs.declared.source.Listed.{Listed}
 
--- what is known stays
+-- a known tree stays
 abbrev pub Rests : {X : Type 0} → Option X → Option X → Type 0
 Rests None new = Unit {0}
 Rests (Some x) None = ⊥

@@ -8,7 +8,7 @@ use crate::names::{are_good, sort_names};
 use crate::{Kind, Listed, Source, SourceError};
 use std::alloc::Global;
 
-/// What a source has at a path.
+/// A file or a folder of a source.
 #[derive(Debug, Drop)]
 pub struct Entry {
     /// The path, `/` before each name.
@@ -17,14 +17,14 @@ pub struct Entry {
     pub bytes: Option<Vec<u8>>,
 }
 
-// What is known to be there, and is yet to be read.
+// A file or a folder that is known to be there, and is still to be read.
 #[derive(Debug, Drop)]
 struct Waiting {
     path: Vec<u8>,
     kind: Kind,
 }
 
-// The path of a name in a folder.
+// Returns the path of a name in a folder.
 fn joined(alloc: Global, folder: &[u8], name: &[u8]) -> Result<Vec<u8>, SourceError>
     ensures path { IfOk result (λ v. v.items ≡ path_in folder.now name.now) }
     ensures memory { (e : _) → result ≡ Err e → e ≡ SourceError.NoMemory }
@@ -36,7 +36,7 @@ fn joined(alloc: Global, folder: &[u8], name: &[u8]) -> Result<Vec<u8>, SourceEr
     Ok(path)
 }
 
-// The names in a folder, in order.
+// Returns the names in a folder, in order.
 fn names_within<S: Source>(
     alloc: Global,
     source: &mut S,
@@ -81,7 +81,7 @@ fn wait_for(
     Ok(())
 }
 
-// Has what stands in a folder wait, the first name last.
+// Adds the names in a folder to the pending ones, the first name last.
 fn look_into<S: Source>(
     alloc: Global,
     source: &mut S,
@@ -102,7 +102,7 @@ fn look_into<S: Source>(
     Ok(())
 }
 
-// A file's bytes. What stands in a folder waits.
+// Returns a file's bytes. The names in a folder become pending.
 fn read_one<S: Source>(
     alloc: Global,
     source: &mut S,
@@ -137,12 +137,12 @@ fn hold(entries: &mut Vec<Entry>, entry: Entry) -> Result<(), SourceError>
     entries.push(entry).map_err(|_| SourceError::NoMemory)
 }
 
-/// Reads all that a source has, depth first and in name order: a folder comes before what stands in it.
+/// Reads all that a source has, depth first and in name order. A folder comes before its entries.
 ///
 /// # Errors
 /// - `Fault` where the source couldn't be read, or a name in a folder is given twice, is empty, `.` or
 ///   `..`, or has a byte 0x00 or `/`.
-/// - `NoMemory` where a growth was refused.
+/// - `NoMemory` where memory isn't granted.
 pub fn read_tree<S: Source>(alloc: Global, source: &mut S) -> Result<Vec<Entry>, SourceError>
     ensures entries { IfOk result (λ v. AreAll (S.shown source.old) v.items) }
     ensures shown { Rests (S.shown source.old) (S.shown source.new) }

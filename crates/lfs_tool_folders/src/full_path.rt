@@ -4,7 +4,7 @@ use std::alloc::Global;
 use std::io;
 use std::io::ErrorKind;
 
-// The path below a folder's, where it is text.
+// Returns the path below a folder's, where it is text.
 pub(crate) fn full_path(alloc: Global, folder: &str, path: &[u8]) -> io::Result<String> {
     let Ok(path) = str::from_utf8(path) else {
         return Err(io::Error::from(ErrorKind::InvalidFilename));

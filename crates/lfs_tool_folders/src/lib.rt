@@ -1,4 +1,4 @@
-//! Where a tree of files comes from, and where it goes: memory, or a folder of the real file system.
+//! Sources and targets of a tree of files: memory, or a folder of the real file system.
 #![tactic(auto)]
 
 mod entries;

@@ -16,7 +16,7 @@ pub(crate) fn sort_names(names: &mut Vec<Listed>)
     names.sort_unstable();
 }
 
-// Whether each name is one that may stand in a folder, and comes once.
+// Returns whether each name is allowed in a folder, and comes once.
 pub(crate) fn are_good(names: &[Listed]) -> bool
     requires { IsSortedBy comes_before names.now }
     ensures good { result ≡ true → AreInOrder (map name_in names.now) }

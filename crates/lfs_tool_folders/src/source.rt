@@ -4,7 +4,7 @@ ghost use Rattle.lfs_tool_folders.specs.Shown.{Rests, listed};
 
 use std::alloc::Global;
 
-/// What a name stands for.
+/// The kind of a name.
 #[derive(Clone, Copy, Debug, PartialEq, Eq, PartialOrd, Ord, Drop)]
 pub enum Kind {
     /// A file, which has bytes.
@@ -18,11 +18,11 @@ pub enum Kind {
 pub struct Listed {
     /// The name's bytes.
     pub name: Vec<u8>,
-    /// What it stands for.
+    /// Its kind.
     pub kind: Kind,
 }
 
-/// Why a source gave nothing.
+/// The cause for which a source gave nothing.
 #[derive(Clone, Copy, Debug, PartialEq, Eq, Drop)]
 pub enum SourceError {
     /// It couldn't be read, or a folder has bad names.
@@ -33,17 +33,17 @@ pub enum SourceError {
 
 /// A folder and all below it. A path has `/` before each name, and is empty for the folder itself.
 pub trait Source {
-    // What it shows, where that is known.
+    // The tree of the source, where it is known.
     ghost shown: { Self → Option model.Source } = { λ _. None };
 
     // How many calls have met a fault.
     ghost faults: { Self → ℕ };
 
-    /// The names in a folder, in any order.
+    /// Returns the names in a folder, in any order.
     ///
     /// # Errors
     /// - `Fault` where the folder couldn't be read.
-    /// - `NoMemory` where a growth was refused.
+    /// - `NoMemory` where memory isn't granted.
     fn list(&mut self, alloc: Global, folder: &[u8]) -> Result<Vec<Listed>, SourceError>
         ensures names { IfOk result (λ v. IfSome (shown self.old) (λ s. map listed v.items ≡ s.names folder.now)) }
         ensures shown { Rests (shown self.old) (shown self.new) }
@@ -51,11 +51,11 @@ pub trait Source {
         ensures fault { IsErrOf result SourceError.Fault → faults self.new ≡ suc (faults self.old) }
         ensures no_memory { IsErrOf result SourceError.NoMemory → faults self.new ≡ faults self.old };
 
-    /// The bytes of a file.
+    /// Returns the bytes of a file.
     ///
     /// # Errors
     /// - `Fault` where the file couldn't be read.
-    /// - `NoMemory` where a growth was refused.
+    /// - `NoMemory` where memory isn't granted.
     fn read(&mut self, alloc: Global, file: &[u8]) -> Result<Vec<u8>, SourceError>
         ensures bytes { IfOk result (λ v. IfSome (shown self.old) (λ s. v.items ≡ s.bytes file.now)) }
         ensures shown { Rests (shown self.old) (shown self.new) }

@@ -29,7 +29,7 @@ fn kind_of(kind: FileType) -> io::Result<Kind> {
     }
 }
 
-// A name that is text.
+// Returns a name that is text.
 fn name_of(alloc: Global, name: &[u8]) -> io::Result<Vec<u8>> {
     if str::from_utf8(name).is_err() {
         return Err(io::Error::from(ErrorKind::InvalidFilename));
@@ -39,7 +39,7 @@ fn name_of(alloc: Global, name: &[u8]) -> io::Result<Vec<u8>> {
 }
 
 impl<'a, R: Files + AllocGlobal + Clone + Drop> Folder<'a, R> {
-    /// The folder at a path of the file system. Nothing is read yet.
+    /// Makes a source of the folder at a path of the file system. Nothing is read yet.
     pub fn new(rt: &'a R, root: &str) -> Result<Folder<'a, R>, AllocError>
         ensures root { IfOk result (λ f. folder_root f ≡ root.now) }
     {
@@ -67,7 +67,7 @@ impl<'a, R: Files + AllocGlobal + Clone + Drop> Folder<'a, R> {
         fs::read(self.rt, full.as_str())
     }
 
-    // What the error says to the reader of the source.
+    // Returns the source's error for an error of std.
     fn failed(&mut self, error: io::Error) -> SourceError
         ensures kind { (error_kind error ≡ ErrorKind.OutOfMemory) ↔ (result ≡ SourceError.NoMemory) }
         ensures fault { result ≡ SourceError.Fault → self.new.faults.count ≡ suc self.old.faults.count }

@@ -7,7 +7,7 @@ ghost use Rattle.lfs_tool_folders.specs.InMemory.{bytes_at, has_no_bytes, is_wit
 use crate::{Kind, Listed, Source, SourceError, Tally};
 use std::alloc::Global;
 
-/// What a source in memory has at a path.
+/// A file or a folder of a source in memory.
 #[derive(Debug, Drop)]
 pub struct Held {
     /// The path, `/` before each name.
@@ -16,19 +16,20 @@ pub struct Held {
     pub bytes: Option<Vec<u8>>,
 }
 
-/// A tree in memory. Where two things have one path, the first is read.
+/// A tree in memory. Where two entries have one path, the first is read.
 ///
-/// It never answers `Fault` to `list`, and to `read` only where no file stands at the path.
+/// `list` never returns `Fault`, and `read` does so only where no file is at the path.
 #[derive(Drop)]
 pub struct MemorySource {
-    /// What stands at each path, in any order.
+    /// The entry at each path, in any order.
     pub held: Vec<Held>,
     // How often a file was read that isn't there.
     faults: Tally,
 }
 
 impl MemorySource {
-    /// A source of these, in any order. Where two things have one path, the first is read.
+    /// Makes a source of these entries, in any order. Where two entries have one path, the first is
+    /// read.
     pub fn new(held: Vec<Held>) -> MemorySource
         ensures held { result.held ≡ held }
         ensures faults { result.faults.count ≡ 0 }
@@ -46,7 +47,7 @@ fn has_slash(name: &[u8]) -> bool
     name.iter().any(|b| *b == b'/')
 }
 
-// The name of the path where it stands in the folder.
+// Returns the name of the path, where it is directly in the folder.
 fn name_in<'a>(folder: &[u8], path: &'a [u8]) -> Option<&'a [u8]>
     ensures { MatchOption result (is_within folder.now path.now ≡ false)
         (λ name. (is_within folder.now path.now ≡ true) × (name.now ≡ drop (length folder.now + 1) path.now)) }
@@ -75,7 +76,7 @@ fn kind(held: &Held) -> Kind
     }
 }
 
-// Adds the name of what is held, where it stands in the folder.
+// Adds the name of an entry, where it is directly in the folder.
 fn push_name(
     alloc: Global,
     names: &mut Vec<Listed>,
@@ -95,7 +96,7 @@ fn push_name(
         .map_err(|_| SourceError::NoMemory)
 }
 
-// The names of what is held that stand in the folder.
+// Returns the names of the entries that are directly in the folder.
 fn names_in(alloc: Global, held: &[Held], folder: &[u8]) -> Result<Vec<Listed>, SourceError>
     ensures names { IfOk result (λ v. map listed v.items ≡ names_in (map item_of held.now) folder.now) }
     ensures memory { (e : _) → result ≡ Err e → e ≡ SourceError.NoMemory }

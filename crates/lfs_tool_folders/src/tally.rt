@@ -3,8 +3,8 @@ ghost use Rattle.std.specs.Borrow.{ftrue};
 
 use std::marker::Model;
 
-/// A count, for those who write a source, a target, a reader or a writer. Only proofs read it: it takes
-/// no memory, and its methods do nothing when they run.
+/// A count, for those who write a source, a target, a reader or a writer. Only proofs read it: it
+/// takes no memory, and its methods do nothing at run time.
 #[derive(Drop)]
 pub struct Tally {
     pub ghost count: { ℕ },
@@ -15,21 +15,21 @@ impl Model for Tally {
 }
 
 impl Tally {
-    /// Nothing is counted yet.
+    /// Makes a count of 0.
     pub fn none() -> Tally
         ensures { result.count ≡ 0 }
     {
         Tally::from_proof(&(), &())
     }
 
-    /// One more is counted.
+    /// Counts one more.
     pub fn one_more(&self) -> Tally
         ensures { result.count ≡ suc self.now.count }
     {
         Tally::from_proof(self, &())
     }
 
-    // Any count, which the caller's proof picks from what is referred to.
+    // Makes any count. The caller's proof picks the count from what the reference points to.
     fn from_proof<S, T>(_before: &S, _counted: &T) -> Tally
         ghost count: { ℕ }
         ensures { result.count ≡ count }

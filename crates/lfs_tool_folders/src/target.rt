@@ -4,7 +4,7 @@ ghost use Rattle.lfs_tool_folders.specs.Actions.{Adds};
 
 use std::alloc::Global;
 
-/// Why a target took nothing.
+/// The cause for which a target took nothing.
 #[derive(Clone, Copy, Debug, PartialEq, Eq, Drop)]
 pub enum TargetError {
     /// It couldn't be written.
@@ -13,19 +13,19 @@ pub enum TargetError {
     NoMemory,
 }
 
-/// A folder to which files and folders go. A path has `/` before each name.
+/// A folder into which files and folders are put. A path has `/` before each name.
 pub trait Target {
-    // What was done to it, where that is known.
+    // The actions that were done, where they are known.
     ghost done: { Self → Option (List Action) } = { λ _. None };
 
     // How many calls have met a fault.
     ghost faults: { Self → ℕ };
 
-    /// Makes a folder. One that is there already stays as it is.
+    /// Makes a folder. A folder that is there already stays as it is.
     ///
     /// # Errors
     /// - `Fault` where it couldn't be made.
-    /// - `NoMemory` where a growth was refused.
+    /// - `NoMemory` where memory isn't granted.
     fn make_folder(&mut self, alloc: Global, path: &[u8]) -> Result<(), TargetError>
         ensures done { OnOk result (Adds (done self.old) (done self.new) (MakeDirectory path.now)) }
         ensures undone { OnErr result (done self.new ≡ done self.old) }
@@ -33,11 +33,11 @@ pub trait Target {
         ensures fault { IsErrOf result TargetError.Fault → faults self.new ≡ suc (faults self.old) }
         ensures no_memory { IsErrOf result TargetError.NoMemory → faults self.new ≡ faults self.old };
 
-    /// Puts a file of these bytes there, in place of one that is there already.
+    /// Puts a file of these bytes at a path, in place of one that is there already.
     ///
     /// # Errors
     /// - `Fault` where it couldn't be made or written.
-    /// - `NoMemory` where a growth was refused.
+    /// - `NoMemory` where memory isn't granted.
     fn put_file(&mut self, alloc: Global, path: &[u8], bytes: &[u8]) -> Result<(), TargetError>
         ensures done { OnOk result (Adds (done self.old) (done self.new) (PutFile path.now bytes.now)) }
         ensures undone { OnErr result (done self.new ≡ done self.old) }

@@ -11,8 +11,7 @@ use std::rt::Files;
 use std::{fs, io};
 
 /// A folder of the real file system, made at the first call where it isn't there. A name that isn't
-/// UTF-8 is a fault, and so is a path at which something stands that is neither a file nor a folder, as
-/// a symbolic link.
+/// UTF-8 is a fault. So is a path with something else than a file or a folder, as a symbolic link.
 #[derive(Drop)]
 pub struct TargetFolder<'a, R> {
     rt: &'a R,
@@ -31,7 +30,7 @@ fn make<R: Files>(rt: &R, path: &str) -> io::Result<()> {
     }
 }
 
-// Refuses a path at which something stands that is no file.
+// Refuses a path that has something else than a file.
 fn check_place<R: Files>(rt: &R, path: &str) -> io::Result<()> {
     match fs::symlink_metadata(rt, path) {
         Ok(there) if !there.is_file() => Err(io::Error::from(ErrorKind::InvalidInput)),
@@ -40,7 +39,7 @@ fn check_place<R: Files>(rt: &R, path: &str) -> io::Result<()> {
 }
 
 impl<'a, R: Files + AllocGlobal + Clone + Drop> TargetFolder<'a, R> {
-    /// The folder at a path of the file system. Nothing is made yet.
+    /// Makes a target of the folder at a path of the file system. Nothing is made yet.
     pub fn new(rt: &'a R, root: &str) -> Result<TargetFolder<'a, R>, AllocError>
         ensures root { IfOk result (λ f. target_root f ≡ root.now) }
     {
@@ -51,7 +50,7 @@ impl<'a, R: Files + AllocGlobal + Clone + Drop> TargetFolder<'a, R> {
         })
     }
 
-    // The path in the file system, where it is text. The folder itself is there then.
+    // Returns the path in the file system, where it is text. The folder itself is there then.
     fn full(&self, path: &[u8]) -> io::Result<String> {
         let full = full_path(self.rt.alloc(), self.root.as_str(), path)?;
         make(self.rt, self.root.as_str())?;
@@ -70,7 +69,7 @@ impl<'a, R: Files + AllocGlobal + Clone + Drop> TargetFolder<'a, R> {
         file.write_all(bytes)
     }
 
-    // What the error says to the writer of the target.
+    // Returns the target's error for an error of std.
     fn failed(&mut self, error: io::Error) -> TargetError
         ensures kind { (error_kind error ≡ ErrorKind.OutOfMemory) ↔ (result ≡ TargetError.NoMemory) }
         ensures fault { result ≡ TargetError.Fault → self.new.faults.count ≡ suc self.old.faults.count }

@@ -4,7 +4,7 @@ ghost use Rattle.lfs_tool_folders.specs.Actions.{action_view};
 use crate::{Target, TargetError};
 use std::alloc::Global;
 
-/// What was done to a target in memory.
+/// An action on a target in memory.
 #[derive(Debug, PartialEq, Eq, Drop)]
 pub enum Done {
     /// A folder was made at this path.
@@ -13,7 +13,7 @@ pub enum Done {
     File(Vec<u8>, Vec<u8>),
 }
 
-/// A target that keeps what was done to it, in turn. It never faults.
+/// A target that keeps the actions that were done, in order. It has no faults.
 #[derive(Drop)]
 pub struct MemoryTarget {
     pub done: Vec<Done>,

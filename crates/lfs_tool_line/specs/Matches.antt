@@ -1,4 +1,4 @@
--- What a line of words says.
+-- The values of a line of words.
 use Rattle.std.specs.Prelude.{◌≡◌, ◌∷◌, if◌then◌else◌, pos, ℕ, [], Bool, List, Option, Some, None, true, false, codes, is_some, option_map, count_by}
 use Rattle.std.specs.Str.{bytes_eq}
 use Rattle.std.specs.Str.Parse.{digits_value, without_leading_plus}
@@ -18,7 +18,7 @@ use Rattle.lfs_tool_line.specs.declared.line.Mode.TheVariants as mode
 unfoldable pub rows : List Text → List Row
 rows words = matches_of mklittlefs words
 
--- why the parser refuses the words; empty where it takes them
+-- the error with which the parser refuses the words; empty where it takes them
 unfoldable pub faults : List Text → Kinds
 faults words = fault_of mklittlefs words
 
@@ -95,15 +95,15 @@ abbrev pub HasNumber : Found → Text → Type 0
 HasNumber f id = (t : Text) × (one_text f id ≡ Some (without_minus t))
     × IsSignedIn (pos 0) (pos 4294967295) t
 
--- what is required, or has a default, is there
+-- each value that is required, or has a default, is there
 pub record IsComplete (f : Found) : Type 0 where
   pub block_size : HasNumber f (codes "block_size")
   pub page : HasNumber f (codes "page")
   pub size : HasNumber f (codes "size")
   pub image : is_some (first_value f (codes "image")) ≡ true
 
--- why there is no line: the parser refuses the words, or it takes them and not exactly one mode is
--- given, or an order that is none; text is UTF-8
+-- The cause for which there is no line: the parser refuses the words; or it takes them and not exactly one mode is given; or an
+-- order is none of the two. Text is UTF-8.
 abbrev pub IsFaultOf : List Text → LineError → Type 0
 IsFaultOf words (Parser e) = HasKind (faults words) e
 IsFaultOf words Modes = Parses words × ¬ HasOneMode (rows words)

@@ -9,11 +9,11 @@ use clap::{Arg, ArgAction, ArgMatches, Command, Error, value_parser};
 use std::alloc::{AllocError, Global};
 use std::convert::AsStr;
 
-// What `--version` says behind the program's name: its version, that of the images, and the kit that
-// it was proved with.
+// The text of `--version` after the program's name: its version, that of the images, and the kit
+// that it was proved with.
 const VERSION: &str = "1.0.0 (littlefs on-disk version 2.0, rattle-kit-13f logic dac8208d650f15bf)";
 
-// What stands below the options in the help.
+// The text below the options in the help.
 const EXAMPLES: &str = "\
 Examples:
   mklittlefs -c settings disk.img        makes an image of the folder settings
@@ -165,7 +165,7 @@ fn with_image<'a>(alloc: Global, command: Command<'a>) -> Result<Command<'a>, Al
     command.arg(image_arg(alloc))
 }
 
-// The command without its arguments, with what its help says.
+// Makes the command without its arguments, with the texts of its help.
 fn bare_command<'a>(alloc: Global) -> Command<'a>
     ensures { app_of result ≡ with_version (new_app (codes "mklittlefs")) }
 {
@@ -178,7 +178,7 @@ fn bare_command<'a>(alloc: Global) -> Command<'a>
         .after_help(EXAMPLES)
 }
 
-// Adds the options of which exactly one is to be given.
+// Adds the options of which exactly one has to be given.
 fn with_modes<'a>(alloc: Global, command: Command<'a>) -> Result<Command<'a>, AllocError>
     ensures { IfOk result (λ c. app_of c ≡ with_modes (app_of command.entry)) }
 {
@@ -212,7 +212,7 @@ fn with_sizes<'a>(alloc: Global, command: Command<'a>) -> Result<Command<'a>, Al
     Ok(command)
 }
 
-// The command of mklittlefs.
+// Makes the command of mklittlefs.
 fn command<'a>(alloc: Global) -> Result<Command<'a>, AllocError>
     ensures { IfOk result (λ c. app_of c ≡ mklittlefs) }
 {
@@ -223,7 +223,7 @@ fn command<'a>(alloc: Global) -> Result<Command<'a>, AllocError>
     Ok(command)
 }
 
-// The matches of the words.
+// Returns the matches of the words.
 pub(crate) fn parse<'a, S: AsStr>(alloc: Global, words: &'a [S]) -> Result<ArgMatches<'a>, Error>
     ensures kinds { FailsBy (faults (map S.text words.entry.now)) result }
     ensures matches { IfOk result (λ m. rows_of (found_of m) ≡ rows (map S.text words.entry.now)) }

@@ -9,7 +9,7 @@ use std::alloc::Global;
 use std::convert::AsStr;
 use thiserror::Error;
 
-/// What is to be done.
+/// What the program does.
 #[derive(Clone, Copy, Debug, PartialEq)]
 pub enum Mode<'a> {
     /// Create the image from this folder.
@@ -22,7 +22,7 @@ pub enum Mode<'a> {
     Check,
 }
 
-/// What a command line asks for. Its numbers are as they were given: no size is checked here.
+/// The request of a command line. Its numbers are as they were given: no size is checked here.
 #[derive(Clone, Copy, Debug, PartialEq)]
 pub struct Line<'a> {
     pub mode: Mode<'a>,
@@ -38,10 +38,11 @@ pub struct Line<'a> {
     pub image: &'a str,
 }
 
-/// Why there is no command line.
+/// The cause for which there is no command line.
 #[derive(Debug, Drop, Error)]
 pub enum LineError {
-    /// The parser's own error, which also brings a request for help, and want of memory.
+    /// The parser's own error, which also comes with a request for help, and where memory isn't
+    /// granted.
     #[error(transparent)]
     Parser(clap::Error),
     /// None of `-c`, `-u`, `-l` and `--check` is given, or more than one is.
@@ -50,26 +51,26 @@ pub enum LineError {
     /// The order of names is neither `longer-first` nor `shorter-first`.
     #[error("error: --order is longer-first or shorter-first")]
     Order,
-    /// A word isn't UTF-8. `read_line` doesn't answer it, since its words are text.
+    /// A word isn't UTF-8. `read_line` doesn't return this, since its words are text.
     #[error("error: the command line is not UTF-8")]
     NotUtf8,
 }
 
-// The text of an argument.
+// Returns the text of an argument.
 fn text_in<'a>(matches: &ArgMatches<'a>, id: &str) -> Option<&'a str>
     ensures { option_map (λ s. s.now) result ≡ first_of id.now (rows_of (found_of matches.now)) }
 {
     matches.get_str(id)
 }
 
-// The value of a flag.
+// Returns the value of a flag.
 fn flag_in(matches: &ArgMatches<'_>, id: &str) -> bool
     ensures { result ≡ flag_at id.now (rows_of (found_of matches.now)) }
 {
     matches.get_one::<bool>(id).unwrap_or(false)
 }
 
-// The number of an option that has one.
+// Returns the number of an option that has one.
 fn number_in(matches: &ArgMatches<'_>, id: &str) -> u32
     requires { HasNumber (found_of matches.now) id.now }
     ensures { number_at id.now (rows_of (found_of matches.now)) ≡ Some result }
@@ -77,7 +78,7 @@ fn number_in(matches: &ArgMatches<'_>, id: &str) -> u32
     matches.get_one::<u32>(id).unwrap()
 }
 
-// The mode, where exactly one is given.
+// Returns the mode, where exactly one is given.
 fn mode_of<'a>(matches: &ArgMatches<'a>) -> Option<Mode<'a>>
     ensures { MatchOption result (¬ HasOneMode (rows_of (found_of matches.now)))
         (λ mode. HasOneMode (rows_of (found_of matches.now)) × IsModeOf (rows_of (found_of matches.now)) mode) }
@@ -95,7 +96,7 @@ fn mode_of<'a>(matches: &ArgMatches<'a>) -> Option<Mode<'a>>
     }
 }
 
-// The order that a text names.
+// Returns the order that a text names.
 fn order_of_text(text: &str) -> Option<NameOrder>
     ensures { result ≡ order_named text.now }
 {
@@ -108,7 +109,7 @@ fn order_of_text(text: &str) -> Option<NameOrder>
     }
 }
 
-// The order that is given, or the default.
+// Returns the order that is given, or the default.
 fn order_of(matches: &ArgMatches<'_>) -> Option<NameOrder>
     ensures { result ≡ order_given (rows_of (found_of matches.now)) }
 {
@@ -118,7 +119,7 @@ fn order_of(matches: &ArgMatches<'_>) -> Option<NameOrder>
     }
 }
 
-// The line that the matches say.
+// Returns the line of the matches.
 fn line_of<'a>(matches: &ArgMatches<'a>, mode: Mode<'a>, order: NameOrder) -> Line<'a>
     requires complete { IsComplete (found_of matches.now) }
     requires one { HasOneMode (rows_of (found_of matches.now)) }
@@ -137,8 +138,8 @@ fn line_of<'a>(matches: &ArgMatches<'a>, mode: Mode<'a>, order: NameOrder) -> Li
 }
 
 /// Reads the words of a command line, the program's name first:
-/// `mklittlefs (-c DIR | -u DIR | -l | --check) [-b N] [-p N] [-s N] [--order ORDER] IMAGE`. The long
-/// names are `--create`, `--unpack`, `--list`, `--block`, `--page` and `--size`.
+/// `mklittlefs (-c DIR | -u DIR | -l | --check) [-b N] [-p N] [-s N] [--order ORDER] IMAGE`. The
+/// long names are `--create`, `--unpack`, `--list`, `--block`, `--page` and `--size`.
 ///
 /// A number is decimal, from 0 to 4294967295. Where an option isn't given, a block has 4096 bytes, a
 /// page 256 and the image 65536, and the longer names come first. ORDER is `longer-first` or `shorter-first`; it is read
@@ -146,7 +147,7 @@ fn line_of<'a>(matches: &ArgMatches<'a>, mode: Mode<'a>, order: NameOrder) -> Li
 ///
 /// # Errors
 /// `LineError::Parser` where the parser refuses the words, where they ask for help or for the version,
-/// or where a growth was refused. `LineError::Modes` where it takes them and not exactly one of `-c`, `-u`, `-l` and
+/// or where memory isn't granted. `LineError::Modes` where it takes them and not exactly one of `-c`, `-u`, `-l` and
 /// `--check` is given, and `LineError::Order` where ORDER is neither.
 pub fn read_line<'a, S: AsStr>(alloc: Global, words: &'a [S]) -> Result<Line<'a>, LineError>
     ensures ok { IfOk result (λ line. Parses (map S.text words.entry.now)

@@ -1,18 +1,19 @@
 -- The first slot of a pair: whether it is a superblock's, and its struct.
-use Rattle.std.proofs.Common.{ℕ, ◌≡◌, ◌==◌, ◌&&◌, ◌||◌, not, Bool, true, false, cond, List, [], ◌∷◌, length, slice_get, Option, Some, None, codes, refl, sym, ap, subst, ◌∙◌, eqb-true, eq-eqb, option_and_then, option_map}
+use Rattle.std.proofs.Common.{ℕ, ◌≡◌, ◌==◌, ◌&&◌, Bool, true, false, cond, List, [], ◌∷◌, length, slice_get, Option, Some, None, codes, refl, sym, ap, subst, ◌∙◌, eqb-true, eq-eqb, option_and_then, option_map}
 use Rattle.std.specs.Str.{bytes_eq}
 use Rattle.std.proofs.lemmas.Bool.{and_parts, and_from}
 use Rattle.std.proofs.lemmas.Option.{same_Some}
 use Rattle.std.proofs.lemmas.Slice.Eq.{bytes_eq-Decides}
 use Rattle.lfs_model.specs.Content.{RawSlot, complete, complete_all, kind_named, struct_typed}
-use Rattle.lfs_model.specs.EntryTypes.{file_name_type, directory_name_type, inline_struct_type, directory_struct_type, superblock_at}
+use Rattle.lfs_model.specs.EntryTypes.{inline_struct_type, directory_struct_type, superblock_at}
 use Rattle.lfs_model.specs.Disk.{Disk, block_count}
-use Rattle.lfs_model.specs.Slots.{Slot, File, Directory, Superblock, Struct, Inline, Ctz, Branch, is_superblock, is_superblock_kind}
+use Rattle.lfs_model.specs.Slots.{Slot, Struct, Inline, Ctz, Branch, is_superblock}
 use Rattle.lfs_model.specs.Thread.{starts_with_superblock}
 use Rattle.lfs_model.specs.View.{HasStruct, IsSuperblockStruct}
 use Rattle.lfs_model.proofs.Completed.{complete_parts}
+use Rattle.lfs_tag.specs.KindView.{names_superblock}
 use Rattle.lfs_mount.specs.Checked.{HasStart}
-use Rattle.lfs_mount.specs.Head.{names_superblock, is_called, inline_in, describes, if_describes, superblock_in, if_same, repeats_in}
+use Rattle.lfs_mount.specs.Head.{is_called, inline_in, describes, if_describes, superblock_in, if_same, repeats_in}
 
 -- ---- a slot with a name and a struct
 
@@ -33,16 +34,8 @@ made_of s t e = go s.name s.struct refl refl e
     go (Some n) (Some u) f h k =
         record { name = n; struct = u; name_is = f; struct_is = h; made = sym (same_Some (record { kind = kind_named n.0; name = n.1; struct = struct_typed u.0 u.1; attributes = s.attributes }) t k) }
 
-kind_superblock : (type : ℕ) → is_superblock_kind (kind_named type) ≡ not (type == file_name_type || type == directory_name_type)
-kind_superblock type = go (type == file_name_type) (type == directory_name_type)
-  where
-    go : (a b : Bool) → is_superblock_kind (cond a File (cond b Directory Superblock)) ≡ not (a || b)
-    go true b = refl
-    go false true = refl
-    go false false = refl
-
 slot_named : (s : RawSlot) (t : Slot) → IsMadeOf s t → is_superblock t ≡ names_superblock s.name
-slot_named s t m = ap is_superblock m.made ∙ kind_superblock m.name.0 ∙ sym (ap names_superblock m.name_is)
+slot_named s t m = ap is_superblock m.made ∙ sym (ap names_superblock m.name_is)
 
 inline_some : (u : ℕ × List ℕ) (bytes : List ℕ) → struct_typed u.0 u.1 ≡ Inline bytes → inline_in (Some u) ≡ Some bytes
 inline_some u bytes e = go (u.0 == inline_struct_type) (u.0 == directory_struct_type) _ _ _ e

@@ -1,24 +1,20 @@
 -- The superblock's pairs, as they are read.
-use Rattle.std.specs.Prelude.{ℕ, suc, ◌≡◌, ◌==◌, ◌&&◌, ◌||◌, not, Bool, true, false, if◌then◌else◌, List, [], ◌∷◌, ◌++◌, length, Option, Some, None, codes}
+use Rattle.std.specs.Prelude.{ℕ, suc, ◌≡◌, ◌==◌, ◌&&◌, ◌||◌, Bool, true, false, if◌then◌else◌, List, [], ◌∷◌, ◌++◌, length, Option, Some, None, codes}
 use Rattle.std.specs.Option.{option_and_then, option_map}
 use Rattle.std.specs.Str.{bytes_eq}
 use Rattle.lfs_model.specs.Content.{RawSlot, content_after_all, content_at, no_content}
-use Rattle.lfs_model.specs.EntryTypes.{directory_name_type, file_name_type, inline_struct_type, superblock_at}
+use Rattle.lfs_model.specs.EntryTypes.{inline_struct_type, superblock_at}
 use Rattle.lfs_model.specs.Disk.{Disk, block_at, block_count}
 use Rattle.lfs_model.specs.History.{Event}
 use Rattle.lfs_model.specs.Log.{log_entries}
 use Rattle.lfs_model.specs.Thread.{Pair, IsThread, is_hard, superblocks_before}
 use Rattle.lfs_model.specs.View.{BeginsWith, superblock_entry}
 use Rattle.lfs_tag.specs.ContentView.{tail_view}
+use Rattle.lfs_tag.specs.KindView.{names_superblock}
 use Rattle.lfs_thread.specs.Kept.{Header, AreHeaders, pairs_on}
 use Rattle.lfs_mount.specs.Checked.{HasHead}
 
 -- ---- slots
-
--- whether a name is a superblock's: it is neither a file's nor a directory's
-abbrev pub names_superblock : Option (ℕ × List ℕ) → Bool
-names_superblock None = false
-names_superblock (Some name) = not (name.0 == file_name_type || name.0 == directory_name_type)
 
 -- the bytes of an inline struct
 abbrev pub inline_in : Option (ℕ × List ℕ) → Option (List ℕ)

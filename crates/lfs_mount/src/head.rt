@@ -10,11 +10,11 @@ ghost use Rattle.lfs_model.specs.View.{BeginsWith, IsAccepted, superblock_entry}
 ghost use Rattle.lfs_model.specs.declared.order.NameOrder.{NameOrder};
 ghost use Rattle.lfs_tag.specs.ContentView.{part_view, slot_view};
 ghost use Rattle.lfs_thread.specs.Kept.{disk_on, pairs_on};
-ghost use Rattle.lfs_mount.specs.Head.{HasHeaders, IsHead, IsSuperblockOf, describes, first_filled, inline_in, is_called, leads_on, names_superblock, repeats_in, repeats_of, superblock_in, superblock_of};
+ghost use Rattle.lfs_mount.specs.Head.{HasHeaders, IsHead, IsSuperblockOf, describes, first_filled, inline_in, is_called, leads_on, repeats_in, repeats_of, superblock_in, superblock_of};
 
 use lfs_device::{BlockDevice, Error, Geometry, read_block};
 use lfs_pair::Pair;
-use lfs_tag::kinds::{DIRECTORY_NAME, FILE_NAME, INLINE_STRUCT, SUPERBLOCK_NAME};
+use lfs_tag::kinds::{INLINE_STRUCT, SUPERBLOCK_NAME};
 use lfs_tag::{Content, Log, Slot, Superblock, Tag, is_hard, superblock_of};
 use std::alloc::Global;
 
@@ -45,17 +45,6 @@ fn describes(geometry: &Geometry, bytes: &[u8]) -> bool
     }
 }
 
-// Returns whether a slot is a superblock's: it has a name that is neither a file's nor a
-// directory's.
-fn names_superblock(slot: &Slot<'_>) -> bool
-    ensures { result ≡ names_superblock (slot_view slot.now).name }
-{
-    match slot.name {
-        Some(name) => !(name.kind == FILE_NAME || name.kind == DIRECTORY_NAME),
-        None => false,
-    }
-}
-
 fn is_called(slot: &Slot<'_>, bytes: &[u8]) -> bool
     ensures { result ≡ is_called bytes.now (slot_view slot.now).name }
 {
@@ -83,7 +72,7 @@ fn superblock_in<'a>(geometry: &Geometry, slots: &[Slot<'a>]) -> Option<&'a [u8]
     let [first, ..] = slots else {
         return None;
     };
-    if !names_superblock(first) || !is_called(first, MAGIC) {
+    if !first.is_superblock() || !is_called(first, MAGIC) {
         return None;
     }
     match inline_in(first) {
@@ -101,7 +90,7 @@ fn repeats_in(slots: &[Slot<'_>], bytes: &[u8]) -> Result<bool, Error>
     let [first, ..] = slots else {
         return Ok(false);
     };
-    if !names_superblock(first) {
+    if !first.is_superblock() {
         return Ok(false);
     }
     match inline_in(first) {

@@ -8,11 +8,11 @@ ghost use Rattle.lfs_mount.specs.EntryView.{entry_view};
 ghost use Rattle.lfs_mount.specs.Orders.{has_order};
 ghost use Rattle.lfs_mount.specs.Scanned.{scanned};
 
-use crate::entry::{Entry, Target, entry_of};
+use crate::entry::{Entry, entry_of};
 use crate::orders::Orders;
 use crate::reachability::Directory;
 use lfs_device::{Error, NameOrder};
-use lfs_tag::{Slot, name_cmp};
+use lfs_tag::{Slot, Struct, name_cmp};
 use lfs_thread::Places;
 use std::alloc::Global;
 
@@ -77,7 +77,7 @@ impl Known {
         let rises = orders_behind(&self.last, entry.name);
         self.directory.sound_in = self.directory.sound_in.and(rises);
         self.set_last(entry.name)?;
-        if let Target::Directory(pair) = entry.target {
+        if let Struct::Branch(pair) = entry.target {
             match places.find(pair) {
                 Some(place) => self.directory.branches.push(place)?,
                 None => self.directory.sound_in = Orders::both_or_none(false),

@@ -14,11 +14,11 @@ ghost use Rattle.lfs_mount.specs.Marking.{MarksList, MarksLists, Step, list_of};
 ghost use Rattle.lfs_mount.specs.Reads.{list_reads};
 ghost use Rattle.lfs_tag.specs.ContentView.{slot_view};
 
-use crate::entry::{Target, entry_of};
+use crate::entry::entry_of;
 use lfs_alloc::BlockMap;
 use lfs_ctz::walk;
 use lfs_device::{BlockDevice, Error};
-use lfs_tag::Slot;
+use lfs_tag::{Slot, Struct};
 
 // Marks a free block as used, and returns whether it was free. A block that the map doesn't have
 // isn't free.
@@ -69,7 +69,7 @@ fn list_of(slot: &Slot<'_>) -> Option<(u32, u32)>
         return None;
     };
     match entry.target {
-        Target::List { head, size } => Some((head, size)),
+        Struct::Ctz { head, size } => Some((head, size)),
         _ => None,
     }
 }

@@ -1,13 +1,11 @@
 // The entry that a slot is.
 
-ghost use Rattle.std.specs.Prelude.{◌≡◌, length};
 ghost use Rattle.lfs_model.specs.Content.{struct_typed};
 ghost use Rattle.lfs_model.specs.LoggedContent.{IsPart};
 ghost use Rattle.lfs_tag.specs.ContentView.{part_view};
 ghost use Rattle.lfs_lookup.specs.Entry.{EntryShows};
 
-use lfs_tag::kinds::{DIRECTORY_STRUCT, INLINE_STRUCT};
-use lfs_tag::{Part, ctz_of, pair_of};
+use lfs_tag::{Part, Struct};
 
 /// Where a file's bytes are. They aren't copied.
 #[derive(Clone, Copy, Debug, PartialEq, Eq, Drop)]
@@ -32,20 +30,9 @@ pub fn entry_of(structure: &Part<'_>) -> Entry
     requires { IsPart 2 (part_view structure.now) }
     ensures { EntryShows result (struct_typed structure.now.kind structure.now.bytes.now) }
 {
-    let bytes = structure.bytes;
-    if structure.kind == INLINE_STRUCT {
-        Entry::File(Contents::Inline { len: bytes.len() })
-    } else if structure.kind == DIRECTORY_STRUCT {
-        Entry::Directory(pair_of(eight(bytes)))
-    } else {
-        let (head, size) = ctz_of(eight(bytes));
-        Entry::File(Contents::List { head, size })
+    match Struct::of(structure).unwrap() {
+        Struct::Inline(bytes) => Entry::File(Contents::Inline { len: bytes.len() }),
+        Struct::Ctz { head, size } => Entry::File(Contents::List { head, size }),
+        Struct::Branch(pair) => Entry::Directory(pair),
     }
-}
-
-fn eight(bytes: &[u8]) -> &[u8; 8]
-    requires { length bytes.now ≡ 8 }
-    ensures { result.now ≡ bytes.now }
-{
-    <&[u8; 8]>::try_from(bytes).unwrap()
 }

@@ -11,8 +11,7 @@ ghost use Rattle.lfs_lookup.specs.ByName.{AreByName};
 ghost use Rattle.lfs_lookup.specs.Items.{item_view, items_view, listed, shapes_in, shown_among, shown_raw, structure_view, without};
 
 use lfs_device::Error;
-use lfs_tag::kinds::{CTZ_STRUCT, DIRECTORY_NAME, DIRECTORY_STRUCT, FILE_NAME};
-use lfs_tag::{Content, Log, Part, Slot, ctz_of, pair_of};
+use lfs_tag::{Content, Log, Part, Slot, Struct};
 use std::alloc::{AllocError, Global};
 
 /// The struct of an entry (SPEC.md of littlefs, "0x2xx LFS_TYPE_STRUCT"): where the contents of a
@@ -36,21 +35,18 @@ pub struct Item {
     pub structure: Structure,
 }
 
-// Returns the struct of a slot's part.
-fn structure_of(alloc: Global, part: &Part<'_>) -> Result<Structure, AllocError>
+/// Returns the struct of a slot's part, with a copy of a file's bytes.
+pub fn structure_of(alloc: Global, part: &Part<'_>) -> Result<Structure, AllocError>
     requires { IsPart 2 (part_view part.now) }
     ensures { IfOk result (λ s. structure_view s ≡ struct_typed part.now.kind part.now.bytes.now) }
 {
-    match (part.kind, <&[u8; 8]>::try_from(part.bytes)) {
-        (DIRECTORY_STRUCT, Ok(bytes)) => Ok(Structure::Branch(pair_of(bytes))),
-        (CTZ_STRUCT, Ok(bytes)) => {
-            let (head, size) = ctz_of(bytes);
-            Ok(Structure::Ctz { head, size })
-        }
-        _ => {
-            let bytes = Vec::from_slice(alloc, part.bytes)?;
+    match Struct::of(part).unwrap() {
+        Struct::Inline(bytes) => {
+            let bytes = Vec::from_slice(alloc, bytes)?;
             Ok(Structure::Inline(bytes))
         }
+        Struct::Ctz { head, size } => Ok(Structure::Ctz { head, size }),
+        Struct::Branch(pair) => Ok(Structure::Branch(pair)),
     }
 }
 
@@ -63,7 +59,7 @@ fn item_of(alloc: Global, slot: &Slot<'_>) -> Result<Option<Item>, AllocError>
     let (Some(name), Some(part)) = (slot.name, slot.structure) else {
         return Ok(None);
     };
-    if name.kind != FILE_NAME && name.kind != DIRECTORY_NAME {
+    if slot.is_superblock() {
         return Ok(None);
     }
     let structure = structure_of(alloc, &part)?;

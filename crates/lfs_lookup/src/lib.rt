@@ -31,7 +31,7 @@ pub use entry::{Contents, Entry, entry_of};
 pub use file_bytes::contents_of;
 pub use file_contents::{FileContents, FoundFile, bytes_of, file_at};
 pub use found_entries::{Finding, FoundAttribute, Inside, ListItem, Listing, Node};
-pub use items::{Item, Structure};
+pub use items::{Item, Structure, structure_of};
 pub use listed::list_at;
 pub use path::Path;
 pub use paths::{Found, Shown, look_up};

@@ -16,7 +16,7 @@ ghost use Rattle.lfs_lookup.specs.Reading.{IsReading};
 
 use lfs_device::{BlockDevice, Error, Geometry};
 use lfs_pair::{attributes_size, fits};
-use lfs_tag::kinds::{DIRECTORY_NAME, FILE_NAME, INLINE_STRUCT};
+use lfs_tag::kinds::INLINE_STRUCT;
 use lfs_tag::{Attribute, Content, Log, Part, Slot, superblock_of};
 use lfs_thread::Thread;
 use std::alloc::Global;
@@ -62,10 +62,10 @@ fn fits_slot(geometry: &Geometry, slot: &Slot<'_>) -> bool
     let (Some(name), Some(structure)) = (slot.name, slot.structure) else {
         return false;
     };
-    if name.kind == FILE_NAME || name.kind == DIRECTORY_NAME {
-        return fits_entry(geometry, &name, &structure, &slot.attributes);
+    if slot.is_superblock() {
+        return has_written_limits(&structure);
     }
-    has_written_limits(&structure)
+    fits_entry(geometry, &name, &structure, &slot.attributes)
 }
 
 // Returns whether all slots are within the writing profile.

@@ -1,32 +1,19 @@
 // Where the root directory begins.
 
 ghost use Rattle.std.specs.Prelude.{◌≡◌, ◌≤◌, ◌+◌, ◌<◌, false, length, IfErr, IfOk, IfSome};
-ghost use Rattle.lfs_model.specs.Content.{complete};
 ghost use Rattle.lfs_model.specs.History.{reads};
-ghost use Rattle.lfs_model.specs.Slots.{Content as ModelContent, Slot as ModelSlot, is_superblock};
+ghost use Rattle.lfs_model.specs.Slots.{Content as ModelContent};
 ghost use Rattle.lfs_model.specs.Thread.{starts_with_superblock, superblocks_before};
 ghost use Rattle.lfs_model.specs.View.{IsAccepted};
-ghost use Rattle.lfs_tag.specs.ContentView.{slot_view};
 ghost use Rattle.lfs_thread.specs.CachedLog.{IsBlockOf};
 ghost use Rattle.lfs_thread.specs.Steps.{pair_in};
 ghost use Rattle.lfs_lookup.specs.Reading.{IsReading};
 ghost use Rattle.lfs_lookup.specs.Root.{IsInChain, IsNext, next_in_chain};
 
 use lfs_device::{BlockDevice, Error};
-use lfs_tag::kinds::{DIRECTORY_NAME, FILE_NAME};
-use lfs_tag::{Content, Log, Slot};
+use lfs_tag::{Content, Log};
 use lfs_thread::Thread;
 use std::alloc::Global;
-
-// Returns whether a slot is a superblock's.
-fn is_superblock(slot: &Slot<'_>) -> bool
-    ensures { (s : ModelSlot) → complete (slot_view slot.now) ≡ Some s → result ≡ is_superblock s }
-{
-    match slot.name {
-        Some(name) => name.kind != FILE_NAME && name.kind != DIRECTORY_NAME,
-        None => false,
-    }
-}
 
 // Returns whether the first slot of a log is a superblock's.
 fn starts_with_superblock(alloc: Global, log: &Log<'_>) -> Result<bool, Error>
@@ -36,7 +23,7 @@ fn starts_with_superblock(alloc: Global, log: &Log<'_>) -> Result<bool, Error>
 {
     let content = Content::read(alloc, log)?;
     match content.slots.first() {
-        Some(slot) => Ok(is_superblock(slot)),
+        Some(slot) => Ok(slot.is_superblock()),
         None => Ok(false),
     }
 }

@@ -7,13 +7,16 @@ ghost use Rattle.lfs_model.specs.Shown.{tree_in};
 ghost use Rattle.lfs_operations.specs.MovingSteps.{WritesAmong};
 ghost use Rattle.lfs_tree.specs.Allowed.{CanRename};
 ghost use Rattle.lfs_tree.specs.Calls as call;
+ghost use Rattle.lfs_tree.specs.Calls.{IsOperation};
 ghost use Rattle.lfs_tree.specs.Carrying.{IsAtRest, IsOperationOn, SurvivesTo};
 ghost use Rattle.lfs_tree.specs.CarryingSlots.{has_slot};
 ghost use Rattle.lfs_tree.specs.Held.{tree_state_of};
-ghost use Rattle.lfs_tree.specs.Shifting.{CanShiftFound, CanShiftOnto, CanShiftOver, CanShiftTo, HasShifted, HasShiftedOnto, IsSourceIn, ReportsOfWork};
+ghost use Rattle.lfs_tree.specs.Shifting.{CanShiftFound, CanShiftOnto, CanShiftOver, HasShifted, HasShiftedOnto, IsSourceIn, ReportsOfWork};
 
+use crate::answers::note_error;
 use crate::entries_at::{find_target, know_device};
 use crate::removals_at::free_list;
+use crate::tree::Tree;
 use lfs_device::{BlockDevice, Error};
 use lfs_lookup::{Contents, Found, Path, Spot};
 use lfs_operations::{
@@ -41,31 +44,6 @@ fn source_in(found: Found) -> Source
             first: parent,
         },
         _ => unreachable!(),
-    }
-}
-
-// Gives an entry a name that isn't there, and belongs at the place.
-fn move_to<D: BlockDevice>(
-    alloc: Global,
-    thread: &mut Thread<D>,
-    source: Source,
-    place: Spot,
-    name: &[u8],
-) -> Result<(), Error>
-    requires works { thread.old.failed ≡ false }
-    requires can { (from to : Path) × CanShiftTo thread.old.kept from to source place name.now }
-    ensures shifted { OnOk result ((from to : Path) → CanShiftTo thread.old.kept from to source place name.now → HasShifted thread.old.kept from to thread.new.kept) }
-    ensures errors { ReportsOfWork thread.old thread.new result }
-    ensures device { WritesAmong thread.old.kept thread.new.kept }
-    ensures survives { (from to : Path) → CanShiftTo thread.old.kept from to source place name.now → SurvivesTo thread.old.kept thread.new.kept (renamed from to (tree_in thread.old.kept.disk thread.old.kept.pairs)) }
-{
-    let Source { slot, first } = source;
-    if slot.pair == place.pair {
-        rename(alloc, thread, slot.pair, slot.id, place.id, name)
-    } else {
-        rename_across(
-            alloc, thread, slot.pair, slot.id, first, place.pair, place.id, name,
-        )
     }
 }
 
@@ -172,7 +150,16 @@ fn move_found<D: BlockDevice>(
     ensures survives { (from to : Path) → CanShiftFound thread.old.kept from to source found name.now → SurvivesTo thread.old.kept thread.new.kept (renamed from to (tree_in thread.old.kept.disk thread.old.kept.pairs)) }
 {
     match found {
-        Found::Nothing { place, .. } => move_to(alloc, thread, source, place, name),
+        Found::Nothing { place, .. } => {
+            let Source { slot, first } = source;
+            if slot.pair == place.pair {
+                rename(alloc, thread, slot.pair, slot.id, place.id, name)
+            } else {
+                rename_across(
+                    alloc, thread, slot.pair, slot.id, first, place.pair, place.id, name,
+                )
+            }
+        }
         Found::File { slot, contents, .. } => {
             move_onto_file(alloc, thread, source, slot, contents, name)
         }
@@ -206,4 +193,24 @@ pub(crate) fn rename_at<D: BlockDevice>(
     let source = source_in(entry.found);
     let target = find_target(alloc, thread, root, to)?;
     move_found(alloc, thread, source, target.found, target.name)
+}
+
+impl<D: BlockDevice> Tree<D> {
+    /// Gives an entry another path. At that path is no entry, a file, or an empty directory, which
+    /// is replaced. The entries beneath a directory move with it.
+    ///
+    /// A recovery comes first.
+    ///
+    /// Errors: `Io` where a call of the device failed. `NoMemory` where memory isn't granted. The
+    /// tree has failed after either.
+    pub fn rename(&mut self, alloc: Global, from: &Path<'_>, to: &Path<'_>) -> Result<(), Error>
+        requires can { CanRename self.old from.now to.now }
+        requires apart { same_path from.now to.now ≡ false }
+        ensures { IsOperation self.old (call.Rename from.now to.now) result self.new }
+    {
+        self.recover(alloc)?;
+        let renamed = rename_at(alloc, &mut self.thread, self.root, from, to);
+        note_error(&mut self.thread, &renamed);
+        renamed
+    }
 }

@@ -5,7 +5,7 @@ ghost use Rattle.std.specs.List.{list_any};
 ghost use Rattle.std.specs.Option.{option_map};
 ghost use Rattle.lfs_model.specs.History.{reads};
 ghost use Rattle.lfs_model.specs.Frame.{pairs_of_path, parents};
-ghost use Rattle.lfs_model.specs.TreeEdits.{attributes_of, bytes_at, same_path};
+ghost use Rattle.lfs_model.specs.TreeEdits.{attributes_of, bytes_at};
 ghost use Rattle.lfs_model.specs.Content.{attribute_of};
 ghost use Rattle.lfs_model.specs.Slots.{no_gstate};
 ghost use Rattle.lfs_model.specs.Thread.{Pair, anchor, gstate_of};
@@ -16,7 +16,7 @@ ghost use Rattle.lfs_mount.specs.Device.{IsMountError};
 ghost use Rattle.lfs_tag.specs.FieldsView.{move_view};
 ghost use Rattle.lfs_thread.specs.Device.{GivesBack, two_of};
 ghost use Rattle.lfs_thread.specs.Kept.{disk_on, kept_view_on};
-ghost use Rattle.lfs_tree.specs.Allowed.{CanCreate, CanMake, CanRemove, CanRemoveAttr, CanRename, CanSetAttr};
+ghost use Rattle.lfs_tree.specs.Allowed.{CanCreate, CanMake, CanRemove, CanRemoveAttr, CanSetAttr};
 ghost use Rattle.lfs_lookup.specs.CachedPairs.{AreSmall};
 ghost use Rattle.lfs_tree.specs.Calls as call;
 ghost use Rattle.lfs_tree.specs.Calls.{IsOperation};
@@ -35,7 +35,6 @@ use crate::lost_recovery::recover_at;
 use crate::mounted::read_root;
 use crate::remounts::{Spare, mounted_again};
 use crate::removals_at::remove_at;
-use crate::renames_at::rename_at;
 use core::mem::replace_with;
 use lfs_device::{BlockDevice, Error, Geometry};
 use lfs_lookup::{
@@ -341,24 +340,6 @@ impl<D: BlockDevice> Tree<D> {
         let removed = remove_at(alloc, &mut self.thread, self.root, path);
         note_error(&mut self.thread, &removed);
         removed
-    }
-
-    /// Gives an entry another path. At that path is no entry, a file, or an empty directory, which
-    /// is replaced. The entries beneath a directory move with it.
-    ///
-    /// A recovery comes first.
-    ///
-    /// Errors: `Io` where a call of the device failed. `NoMemory` where memory isn't granted. The
-    /// tree has failed after either.
-    pub fn rename(&mut self, alloc: Global, from: &Path<'_>, to: &Path<'_>) -> Result<(), Error>
-        requires can { CanRename self.old from.now to.now }
-        requires apart { same_path from.now to.now ≡ false }
-        ensures { IsOperation self.old (call.Rename from.now to.now) result self.new }
-    {
-        self.recover(alloc)?;
-        let renamed = rename_at(alloc, &mut self.thread, self.root, from, to);
-        note_error(&mut self.thread, &renamed);
-        renamed
     }
 
     /// Sets an attribute of an entry, in place of the one of that type, if the entry has one.

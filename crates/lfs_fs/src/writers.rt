@@ -21,7 +21,6 @@ use crate::flags::OpenFlags;
 use crate::owned_path::OwnedPath;
 use bitflags::Flags;
 use lfs_device::{BlockDevice, Error};
-use lfs_lookup::Path;
 use lfs_tree::{Tree, carried_takes_few, contents_stay};
 use lfs_writer::{Contents, forms_keep_step, held_blocks_are_room};
 use std::alloc::Global;
@@ -30,7 +29,7 @@ use std::alloc::Global;
 fn contents_of<D: BlockDevice>(
     alloc: Global,
     tree: &mut Tree<D>,
-    path: &Path<'_>,
+    path: &OwnedPath,
     unsaved: Option<Unsaved>,
 ) -> Result<Contents, Error>
     requires { HasContents tree.old path.now unsaved }
@@ -43,7 +42,7 @@ fn contents_of<D: BlockDevice>(
 {
     match unsaved {
         Some(unsaved) => Ok(unsaved.contents),
-        None => tree.contents(alloc, path),
+        None => tree.contents(alloc, &path.lend()),
     }
 }
 
@@ -73,7 +72,7 @@ pub(crate) fn write_by<D: BlockDevice>(
         unsaved,
         ..
     } = writer;
-    let contents = contents_of(alloc, tree, &path.lend(), unsaved)?;
+    let contents = contents_of(alloc, tree, &path, unsaved)?;
     let contents = tree.write(alloc, contents, place, bytes)?;
     Ok(Writer {
         path,
@@ -113,7 +112,7 @@ pub(crate) fn truncate_by<D: BlockDevice>(
         unsaved,
         ..
     } = writer;
-    let contents = contents_of(alloc, tree, &path.lend(), unsaved)?;
+    let contents = contents_of(alloc, tree, &path, unsaved)?;
     let contents = tree.truncate(alloc, contents, new_size)?;
     Ok(Writer {
         path,

@@ -41,9 +41,9 @@ pub(crate) fn write_zeros<D: BlockDevice>(
     ensures device { LeavesUsed D.BlockDevice map.old dev.old dev.new }
     ensures reports { ReportsMemory D.BlockDevice dev.old dev.new result }
 {
-    let zeros = [0; 512];
     let mut done = 0;
     'zeroing: while done < count {
+        let zeros = [0; 512];
         let part = (count - done).min(512);
         write_on(alloc, dev, map, hand, &zeros[..part as usize])?;
         done += part;

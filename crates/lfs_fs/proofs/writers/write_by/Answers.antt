@@ -1,4 +1,4 @@
-use Rattle.std.proofs.Common.{◌∙◌, Err, ap, subst, sym}
+use Rattle.std.proofs.Common.{◌∙◌, Err, ap, refl, subst, sym}
 use Rattle.std.specs.Prelude.{IfErr}
 use Rattle.std.proofs.lemmas.Result.{err_from_is_err_and}
 use Rattle.lfs_tree.specs.TreeState.{IsError}
@@ -11,7 +11,7 @@ use Rattle.lfs_fs.proofs.writers.write_by.Goals as goal
 pub write-requires : goal.write-requires
 write-requires g c =
     let k = c.in_ok-contents.ensures in
-    can_write c.args.tree.now c.contents_of.new.tree c.args.writer c.args.bytes.now c.place-place.result c.in_ok-contents.contents _ c.requires k.asked c.place-place.ensures k.over c.lend.ensures k.form
+    can_write c.args.tree.now c.contents_of.new.tree c.args.writer c.args.bytes.now c.place-place.result c.in_ok-contents.contents _ c.requires k.asked c.place-place.ensures k.over refl k.form
     c.held_blocks_are_room.ensures.large c.held_blocks_are_room.ensures.write
 
 pub returns-in_err-contents-2-clause-broken : goal.returns-in_err-contents-2-clause-broken
@@ -29,7 +29,7 @@ returns-clause-written g c =
     let k = c.in_ok-contents.ensures in
     let l = c.in_ok-contents-2.ensures in
     has_written c.args.tree.now c.contents_of.new.tree c.write.new.self c.args.writer c.args.bytes.now c.place-place.result c.min.result _ c.has_turned_at-has_turned.result c.in_ok-contents.contents c.in_ok-contents-2.contents _
-    c.requires k.asked c.place-place.ensures k.over c.lend.ensures k.form k.bytes c.forms_keep_step.ensures.written l.writes.beside l.over l.written.bytes l.written.form c.min.ensures c.has_turned_at-has_turned.ensures c.max.ensures
+    c.requires k.asked c.place-place.ensures k.over refl k.form k.bytes c.forms_keep_step.ensures.written l.writes.beside l.over l.written.bytes l.written.form c.min.ensures c.has_turned_at-has_turned.ensures c.max.ensures
 
 pub returns-clause-beside : goal.returns-clause-beside
 returns-clause-beside g c = beside_later c.args.tree.now c.contents_of.new.tree c.write.new.self c.in_ok-contents.ensures.asked c.in_ok-contents-2.ensures.writes.beside

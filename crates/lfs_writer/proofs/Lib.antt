@@ -26,3 +26,4 @@ pub mod Outside
 pub mod Coming
 pub mod Settlement
 pub mod SharedFronts
+pub mod Pieces

@@ -1,10 +1,12 @@
 // Copies of the bytes of a base that follow those in hand.
 
-ghost use Rattle.std.specs.Prelude.{◌≡◌, ◌≤◌, ◌<◌, ◌+◌, ◌-◌, ◌*◌, ◌^◌, ◌++◌, ℕ, length, max, min, take, drop, slice_range, IfOk, IsErrOf, OnOk};
+ghost use Rattle.std.specs.Prelude.{◌≡◌, ◌≤◌, ◌<◌, ◌+◌, ◌-◌, ◌++◌, length, max, min, take, drop, slice_range, IfOk, OnOk};
+ghost use Rattle.lfs_device.specs.Calls.{ReadsOnly};
+ghost use Rattle.lfs_model.specs.Blocks.{block_in};
 ghost use Rattle.lfs_model.specs.BlockSets.{in_flight_count, used_count};
 ghost use Rattle.lfs_model.specs.History.{reads};
-ghost use Rattle.lfs_model.specs.SkipLists.{IsBytePlace, IsList, blocks_for, bytes_of};
-ghost use Rattle.lfs_ctz.specs.Calls.{ReadsList, ReportsMemory};
+ghost use Rattle.lfs_model.specs.SkipLists.{AreListBlocks, blocks_back, blocks_for, bytes_of};
+ghost use Rattle.lfs_ctz.specs.Calls.{ReportsIo, ReportsMemory};
 ghost use Rattle.lfs_ctz.specs.Growing.{IsGrowing, kept_of, pending_of, content_of, end_of};
 ghost use Rattle.lfs_writer.specs.Apart.{IsMarked};
 ghost use Rattle.lfs_writer.specs.Based.{IsBeside};
@@ -14,7 +16,7 @@ ghost use Rattle.lfs_writer.specs.Taken.{Keeps};
 
 use crate::extensions::extend;
 use lfs_alloc::BlockMap;
-use lfs_ctz::{Extender, place, read_at};
+use lfs_ctz::{Extender, blocks_for, head_before, place};
 use lfs_device::{BlockDevice, Error};
 use std::alloc::Global;
 
@@ -65,6 +67,7 @@ fn copy_pieces<D: BlockDevice>(
     chunk: &mut [u8],
 ) -> Result<(), Error>
     requires chunk { length chunk.old ≡ list.old.geometry.block_size }
+    requires behind { end_of list.old < size }
     requires growing { IsGrowing (D.blocks dev.old) list.old }
     requires geometry { D.geometry dev.old ≡ list.old.geometry }
     requires marked { IsMarked map.old (D.blocks dev.old) list.old }
@@ -78,36 +81,65 @@ fn copy_pieces<D: BlockDevice>(
     ensures device { LeavesApart D.BlockDevice map.old (pending_of list.old) dev.old dev.new }
     ensures reports { ReportsMemory D.BlockDevice dev.old dev.new result }
 {
+    let block_size = dev.geometry().block_size;
+    let (from, _) = place(block_size, list.size());
+    let blocks = blocks_from(alloc, dev, head, blocks_for(block_size, size), from)?;
     'copying: while list.size() < size {
         let pos = list.size();
-        let count = read_piece(dev, head, size, pos, chunk)?;
+        let (index, off) = place(block_size, pos);
+        let block = blocks[(index - from) as usize];
+        let count = read_piece(dev, block, off, size - pos, chunk)?;
         extend(alloc, dev, map, list, &chunk[..count])?;
     }
     Ok(())
 }
 
-// Reads a list from a position on, up to the end of the block with that position.
-fn read_piece<D: BlockDevice>(
+// Returns the blocks of a list from an index on. `count` is how many blocks the list has.
+fn blocks_from<D: BlockDevice>(
+    alloc: Global,
     dev: &mut D,
     head: u32,
-    size: u32,
-    pos: u32,
+    count: u32,
+    from: u32,
+) -> Result<Vec<u32>, Error>
+    requires chain { AreListBlocks (D.blocks dev.old) count head }
+    requires within { from ≤ count }
+    ensures blocks { IfOk result (λ v. v.items ≡ drop from (blocks_back (D.blocks dev.old) count head)) }
+    ensures device { ReadsOnly D.BlockDevice dev.old dev.new }
+    ensures reports { ReportsMemory D.BlockDevice dev.old dev.new result }
+    // The list is walked once: one read for each of them.
+    ensures few { OnOk result (reads (D.history dev.new) ≤ reads (D.history dev.old) + (count - from)) }
+{
+    let mut blocks = Vec::from_elem(alloc, 0u32, (count - from) as usize)?;
+    let mut block = head;
+    let mut index = count;
+    'going: while index > from {
+        index -= 1;
+        blocks[(index - from) as usize] = block;
+        block = head_before(dev, block, index - from)?;
+    }
+    Ok(blocks)
+}
+
+// Reads the bytes of a block from an offset on, at most `most` of them.
+fn read_piece<D: BlockDevice>(
+    dev: &mut D,
+    block: u32,
+    off: u32,
+    most: u32,
     buf: &mut [u8],
 ) -> Result<usize, Error>
-    requires some { pos < size }
+    requires in_device { block < (D.geometry dev.old).block_count }
+    requires in_block { off < (D.geometry dev.old).block_size }
+    requires some { 1 ≤ most }
     requires room { length buf.old ≡ (D.geometry dev.old).block_size }
-    ensures count { IfOk result (λ n. (1 ≤ n) × (n ≤ length buf.old) × (pos + n ≤ size)) }
-    ensures whole { (index off : ℕ) → IsBytePlace (D.geometry dev.old).block_size pos index off → IfOk result (λ n. n ≡ min ((D.geometry dev.old).block_size - off) (size - pos)) }
-    ensures bytes { IsList (D.blocks dev.old) (D.geometry dev.old).block_size head size →
-        IfOk result (λ n. take n buf.new ≡ slice_range (bytes_of (D.blocks dev.old) (D.geometry dev.old).block_size head size) pos (pos + n)) }
-    ensures corrupt { IsErrOf result Error.Corrupt → ¬ IsList (D.blocks dev.old) (D.geometry dev.old).block_size head size }
-    ensures reading { ReadsList D.BlockDevice dev.old dev.new result }
-    // The number of steps to the block is at most the logarithm of the list's length. The block
-    // itself takes one read.
-    ensures few { (m : ℕ) → blocks_for (D.geometry dev.old).block_size size ≤ 2 ^ m → OnOk result (reads (D.history dev.new) ≤ reads (D.history dev.old) + 2 * m + 1) }
+    ensures count { IfOk result (λ n. (1 ≤ n) × (n ≤ length buf.old) × (n ≡ min ((D.geometry dev.old).block_size - off) most)) }
+    ensures bytes { IfOk result (λ n. take n buf.new ≡ slice_range (block_in (D.blocks dev.old) block) off (off + n)) }
+    ensures device { ReadsOnly D.BlockDevice dev.old dev.new }
+    ensures reports { ReportsIo D.BlockDevice dev.old dev.new result }
+    ensures few { reads (D.history dev.new) ≡ reads (D.history dev.old) + 1 }
 {
-    let (_, off) = place(dev.geometry().block_size, pos);
-    let end = buf.len() - off as usize;
-    let count = read_at(dev, head, size, pos, &mut buf[..end])?;
+    let count = (buf.len() - off as usize).min(most as usize);
+    dev.read(block, off, &mut buf[..count])?;
     Ok(count)
 }

@@ -1,54 +1,132 @@
-use Rattle.std.proofs.Common.{ℕ, ◌≡◌, ◌+◌, List, ◌++◌, length, take, drop, refl, sym, ap, ◌∙◌, arith}
-use Rattle.std.proofs.lemmas.List.{length-take-le}
-use Rattle.std.proofs.lemmas.Result.{err_from_is_err_and}
+use Rattle.std.proofs.Common.{ℕ, ◌≡◌, ◌+◌, ◌-◌, ◌<◌, ◌≤◌, get_or, List, ◌++◌, length, min, take, drop, slice_index, refl, sym, ap, ◌∙◌, subst, arith}
+use Rattle.std.proofs.lemmas.List.{get_or_read, length-take-le}
 use Rattle.lfs_device.specs.declared.geometry.Geometry.{Geometry}
-use Rattle.lfs_model.specs.Blocks.{Blocks}
-use Rattle.lfs_model.specs.SkipLists.{blocks_for, bytes_of}
+use Rattle.lfs_model.specs.Blocks.{Blocks, IsDivided}
+use Rattle.lfs_model.specs.SkipLists.{IsBytePlace, IsList, blocks_back, blocks_for, bytes_of}
 use Rattle.lfs_model.proofs.ListSizes.{blocks_for-more}
-use Rattle.lfs_ctz.specs.Growing.{content_of, kept_of, size_of}
-use Rattle.lfs_writer.proofs.Called.{apart_on, apart_read, apart_reads, not_read, quiet, reported_as, reported_on}
-use Rattle.lfs_writer.proofs.Copies.{grown_on, copied, listed, none_behind, read_bytes, sized, not_corrupt}
+use Rattle.lfs_ctz.specs.Growing.{IsGrowing, content_of, kept_of, size_of}
+use Rattle.lfs_ctz.proofs.Sizes.{place-lt}
+use Rattle.lfs_writer.specs.Apart.{Grows, IsMarked}
+use Rattle.lfs_writer.specs.Based.{list_blocks}
+use Rattle.lfs_writer.specs.Extended.{IsOwn}
+use Rattle.lfs_writer.proofs.Called.{apart_on, apart_read, apart_reads, quiet}
+use Rattle.lfs_writer.proofs.Copies.{base_list, grown_on, copied, none_behind, sized}
 use Rattle.lfs_writer.proofs.Growth.{Grows-refl, Keeps-refl, Keeps-trans}
+use Rattle.lfs_writer.proofs.Pieces.{among, is_there, on_device, piece, placed_by}
 use Rattle.lfs_writer.proofs.block_copies.copy_pieces.Goals as goal
 
+pub blocks_from-requires-clause-within : goal.blocks_from-requires-clause-within
+blocks_from-requires-clause-within g c =
+    let behind = c.requires.behind in
+    let lt = place-lt c.geometry-block_size.result.block_size c.args.size _ _ _ c.geometry-block_size.result.valid.no_smaller c.place-from.ensures (omega (arith, c.size.ensures)) in
+    omega (arith, lt, c.blocks_for.ensures)
+
+pub returns-in_err-blocks-clause-device : goal.returns-in_err-blocks-clause-device
+returns-in_err-blocks-clause-device g c = apart_reads g.D.BlockDevice _ _ c.blocks_from.ensures.device
+
 pub copying-init : goal.copying-init
-copying-init g c = record {
-  growing = c.requires.growing;
-  same = refl;
-  grown = Grows-refl _ _ _;
-  marked = c.requires.marked;
-  map = Keeps-refl _;
-  device = apart_reads g.D.BlockDevice _ _ (not_read g.D.BlockDevice c.args.dev.now);
-  own = c.requires.own;
-  some = omega arith;
-  top = omega arith;
-  bytes = refl;
-  quiet = refl;
-}
+copying-init g c =
+    let was = c.args.list.now in
+    let map = c.args.map.now in
+    let d : Blocks = g.D.BlockDevice.blocks c.args.dev.now in
+    let block_size : ℕ = c.args.list.now.geometry.block_size in
+    let same = c.blocks_from.ensures.device.same in
+    record {
+      growing = subst (λ x. IsGrowing x was) (sym same) c.requires.growing;
+      same = refl;
+      grown = subst (λ x. Grows map d was map x was) (sym same) (Grows-refl _ _ _);
+      marked = subst (λ x. IsMarked map x was) (sym same) c.requires.marked;
+      map = Keeps-refl _;
+      device = apart_reads g.D.BlockDevice _ _ c.blocks_from.ensures.device;
+      own = subst (λ x. IsOwn x was) (sym same) c.requires.own;
+      some = omega arith;
+      top = omega arith;
+      bytes = ap (λ (x : Blocks). content_of x was ++ drop (size_of block_size was) (bytes_of d block_size c.args.head c.args.size)) same;
+      quiet = quiet g.D.BlockDevice c.in_ok-blocks.ensures.reports.faults;
+    }
+
+-- the blocks that were collected, by the geometry of the list
+collected : (d : Blocks) (geometry made : Geometry) (head size n from : ℕ) (items : List ℕ) → made ≡ geometry → n ≡ blocks_for made.block_size size → items ≡ drop from (blocks_back d n head)
+    → items ≡ drop from (list_blocks d geometry.block_size head size)
+collected d geometry made head size n from items same count is = is ∙ ap (λ k. drop from (blocks_back d k head)) (count ∙ ap (λ (k : Geometry). blocks_for k.block_size size) same)
+
+pub overflow_sub-index : goal.overflow_sub-index
+overflow_sub-index g c =
+    let inv = c.copying.invariant in
+    let d : Blocks = g.D.BlockDevice.blocks c.args.dev.now in
+    let geometry : Geometry = c.args.list.now.geometry in
+    let made = c.geometry-block_size.ensures ∙ c.requires.geometry in
+    let here = sized geometry c.copying.list.geometry c.copying.list inv.same in
+    let some = inv.some in
+    let start = c.size.ensures in
+    let at = c.size-pos.ensures in
+    let test = c.copying-test.true in
+    let len = c.size-in-copying.ensures in
+    (among d geometry.block_size c.args.head c.args.size c.size.result c.place-from.result.0 c.place-from.result.1 c.in_ok-blocks.blocks.items geometry.valid.no_smaller
+    (placed_by geometry _ _ _ _ made c.place-from.ensures) (collected d geometry _ c.args.head c.args.size _ _ _ made c.blocks_for.ensures c.in_ok-blocks.ensures.blocks)
+    c.size-pos.result c.place-index.result.0 c.place-index.result.1 (placed_by geometry _ _ _ _ made c.place-index.ensures) (omega arith) (omega arith)).0
+
+pub index-block-requires : goal.index-block-requires
+index-block-requires g c =
+    let inv = c.copying.invariant in
+    let d : Blocks = g.D.BlockDevice.blocks c.args.dev.now in
+    let geometry : Geometry = c.args.list.now.geometry in
+    let made = c.geometry-block_size.ensures ∙ c.requires.geometry in
+    let here = sized geometry c.copying.list.geometry c.copying.list inv.same in
+    let some = inv.some in
+    let start = c.size.ensures in
+    let at = c.size-pos.ensures in
+    let test = c.copying-test.true in
+    let len = c.size-in-copying.ensures in
+    let lt = (among d geometry.block_size c.args.head c.args.size c.size.result c.place-from.result.0 c.place-from.result.1 c.in_ok-blocks.blocks.items geometry.valid.no_smaller
+    (placed_by geometry _ _ _ _ made c.place-from.ensures) (collected d geometry _ c.args.head c.args.size _ _ _ made c.blocks_for.ensures c.in_ok-blocks.ensures.blocks)
+    c.size-pos.result c.place-index.result.0 c.place-index.result.1 (placed_by geometry _ _ _ _ made c.place-index.ensures) (omega arith) (omega arith)).1 in
+    omega (arith, lt, c.in_ok-blocks.blocks.ok.0)
+
+-- the block that was read of those that were collected
+read_of : (d : Blocks) (geometry made : Geometry) (head size n start from skip pos i off block : ℕ) (items : List ℕ) → made ≡ geometry → n ≡ blocks_for made.block_size size → items ≡ drop from (blocks_back d n head)
+    → IsBytePlace made.block_size start from skip → IsBytePlace made.block_size pos i off → start ≤ pos → pos < size → ((i - from < length items) → block ≡ get_or items (i - from) 0)
+    → block ≡ slice_index (list_blocks d geometry.block_size head size) i
+read_of d geometry made head size n start from skip pos i off block items same count is begins place le lt read =
+    let whole = collected d geometry made head size n from items same count is in
+    let first = placed_by geometry made start from skip same begins in
+    let there = placed_by geometry made pos i off same place in
+    let large = geometry.valid.no_smaller in
+    let both = among d geometry.block_size head size start from skip items large first whole pos i off there le lt in
+    is_there d geometry.block_size head size start from skip items large first whole i block both.0 (read both.1)
+
+shaped : (d : Blocks) (geometry now : Geometry) → now ≡ geometry → IsDivided now.block_size now.block_count d → IsDivided geometry.block_size geometry.block_count d
+shaped d geometry now same shape = subst (λ (k : Geometry). IsDivided k.block_size k.block_count d) same shape
+
+pub read_piece-requires-clause-in_device : goal.read_piece-requires-clause-in_device
+read_piece-requires-clause-in_device g c =
+    let inv = c.copying.invariant in
+    let d : Blocks = g.D.BlockDevice.blocks c.args.dev.now in
+    let geometry : Geometry = c.args.list.now.geometry in
+    let made = c.geometry-block_size.ensures ∙ c.requires.geometry in
+    let here = sized geometry c.copying.list.geometry c.copying.list inv.same in
+    let some = inv.some in
+    let start = c.size.ensures in
+    let at = c.size-pos.ensures in
+    let test = c.copying-test.true in
+    let len = c.size-in-copying.ensures in
+    let list : IsList d geometry.block_size c.args.head c.args.size = base_list d geometry.block_size c.args.head c.args.size (omega arith) c.requires.base.base in
+    let is = read_of d geometry _ c.args.head c.args.size _ c.size.result c.place-from.result.0 c.place-from.result.1 c.size-pos.result c.place-index.result.0 c.place-index.result.1 c.index-block.result.now c.in_ok-blocks.blocks.items
+    made c.blocks_for.ensures c.in_ok-blocks.ensures.blocks c.place-from.ensures c.place-index.ensures (omega arith) (omega arith) (λ lt. get_or_read c.in_ok-blocks.blocks.items _ _ lt c.index-block.ensures 0) in
+    let lt = on_device d geometry.block_size geometry.block_count c.args.head c.args.size geometry.valid.no_smaller (shaped d geometry _ c.requires.geometry (g.met.D.BlockDevice.shape c.args.dev.now)) list
+    c.size-pos.result c.place-index.result.0 c.place-index.result.1 c.index-block.result.now (placed_by geometry _ _ _ _ made c.place-index.ensures) (omega arith) is in
+    subst (λ (k : Geometry). c.index-block.result.now < k.block_count) (sym (inv.device.geometry ∙ c.requires.geometry)) lt
 
 pub returns-in_err-count-clause-device : goal.returns-in_err-count-clause-device
-returns-in_err-count-clause-device g c = apart_read g.D.BlockDevice c.copying.invariant.device c.read_piece.ensures.reading.device
+returns-in_err-count-clause-device g c = apart_read g.D.BlockDevice c.copying.invariant.device c.read_piece.ensures.device
 
-pub returns-in_err-count-clause-reports : goal.returns-in_err-count-clause-reports
-returns-in_err-count-clause-reports g c =
-    let inv = c.copying.invariant in
-    let test = c.copying-test.true in
-    let p = err_from_is_err_and c.from_residual.result c.from_residual.ensures.1 in
-    rw (p.1, p.2) (record {
-      faults = reported_on g.D.BlockDevice c.copying.invariant.quiet (reported_as g.D.BlockDevice c.in_err-count.ensures.reading.faults);
-      errors = not_corrupt {T = ℕ} _ c.in_err-count.ensures.reading.errors (λ is. c.in_err-count.ensures.corrupt is
-          (listed _ _ _ _ c.args.list.now.geometry _ c.args.head c.args.size (inv.device.geometry ∙ c.requires.geometry) inv.device.spared c.requires.base.apart (omega arith) c.requires.base.base));
-    })
+pub returns-in_err-extend-clause-map : goal.returns-in_err-extend-clause-map
+returns-in_err-extend-clause-map g c = Keeps-trans c.copying.invariant.map c.extend.ensures.map
 
 pub returns-in_err-extend-clause-device : goal.returns-in_err-extend-clause-device
 returns-in_err-extend-clause-device g c =
     let inv = c.copying.invariant in
-    apart_on g.D.BlockDevice inv.grown.apart (apart_read g.D.BlockDevice inv.device c.read_piece.ensures.reading.device) c.extend.ensures.device
-
-pub returns-in_err-extend-clause-reports : goal.returns-in_err-extend-clause-reports
-returns-in_err-extend-clause-reports g c =
-    let p = err_from_is_err_and c.from_residual-in_err-extend.result c.from_residual-in_err-extend.ensures.1 in
-    rw (p.1, p.2) (record { faults = reported_on g.D.BlockDevice (quiet g.D.BlockDevice c.in_ok-count.ensures.reading.faults ∙ c.copying.invariant.quiet) (reported_as g.D.BlockDevice c.in_err-extend.ensures.reports.faults); errors = c.in_err-extend.ensures.reports.errors })
+    apart_on g.D.BlockDevice inv.grown.apart (apart_read g.D.BlockDevice inv.device c.read_piece.ensures.device) c.extend.ensures.device
 
 pub extend-requires-clause-room : goal.extend-requires-clause-room
 extend-requires-clause-room g c =
@@ -59,13 +137,13 @@ extend-requires-clause-room g c =
     let n : ℕ = c.in_ok-count.count in
     let at = c.size-pos.ensures in
     let test = c.copying-test.true in
-    let len = c.size.ensures in
+    let len = c.size-in-copying.ensures in
     let here = sized geometry c.copying.list.geometry now inv.same in
     let few = c.in_ok-count.ensures.count in
     let long : length (take n c.read_piece.new.buf) ≡ n = length-take-le n c.read_piece.new.buf (omega (arith, c.read_piece.auto.buf, few)) in
     let more = blocks_for-more block_size (size_of block_size now + length (take n c.read_piece.new.buf)) c.args.size (omega arith) in
     let same = ap (λ (k : Geometry). blocks_for k.block_size (size_of k.block_size now + length (take n c.read_piece.new.buf))) inv.same in
-    let kept = ap (λ (x : Blocks). length (kept_of x now)) c.read_piece.ensures.reading.device.same in
+    let kept = ap (λ (x : Blocks). length (kept_of x now)) c.read_piece.ensures.device.same in
     let count = inv.grown.count in
     let states = inv.map.count in
     let used = inv.map.used in
@@ -83,32 +161,41 @@ copying-preserved g c =
     let new = c.extend.new.list in
     let n : ℕ = c.in_ok-count.count in
     let pos : ℕ = c.size-pos.result in
+    let made = c.geometry-block_size.ensures ∙ c.requires.geometry in
     let more = c.in_ok-extend.ensures.extended in
     let here = sized geometry c.copying.list.geometry now inv.same in
     let there = sized geometry c.extend.new.list.geometry new (more.geometry ∙ inv.same) in
+    let start = c.size.ensures in
     let at = c.size-pos.ensures in
+    let test = c.copying-test.true in
+    let len = c.size-in-copying.ensures in
     let sum = more.sum in
     let few = c.in_ok-count.ensures.count in
     let long : length (take n c.read_piece.new.buf) ≡ n = length-take-le n c.read_piece.new.buf (omega (arith, c.read_piece.auto.buf, few)) in
     let some = inv.some in
-    let chunk = read_bytes _ _ d _ geometry _ c.args.head c.args.size pos (pos + n) (take n c.read_piece.new.buf) (inv.device.geometry ∙ c.requires.geometry) inv.device.spared c.requires.base.apart
-    (c.in_ok-count.ensures.bytes (listed _ _ d _ geometry _ c.args.head c.args.size (inv.device.geometry ∙ c.requires.geometry) inv.device.spared c.requires.base.apart (let test = c.copying-test.true in omega arith) c.requires.base.base)) in
+    let list : IsList d block_size c.args.head c.args.size = base_list d block_size c.args.head c.args.size (omega arith) c.requires.base.base in
+    let is = read_of d geometry _ c.args.head c.args.size _ c.size.result c.place-from.result.0 c.place-from.result.1 pos c.place-index.result.0 c.place-index.result.1 c.index-block.result.now c.in_ok-blocks.blocks.items
+    made c.blocks_for.ensures c.in_ok-blocks.ensures.blocks c.place-from.ensures c.place-index.ensures (omega arith) (omega arith) (λ lt. get_or_read c.in_ok-blocks.blocks.items _ _ lt c.index-block.ensures 0) in
+    let many = few.2 ∙ ap (λ (k : Geometry). min (k.block_size - c.place-index.result.1) (c.args.size - pos)) (inv.device.geometry ∙ c.requires.geometry) in
+    let chunk = piece d block_size geometry.block_count c.args.head c.args.size geometry.valid.no_smaller (shaped d geometry _ c.requires.geometry (g.met.D.BlockDevice.shape c.args.dev.now)) list
+    _ _ _ pos n c.place-index.result.0 c.place-index.result.1 c.index-block.result.now (take n c.read_piece.new.buf) inv.device.spared c.requires.base.apart
+    (placed_by geometry _ _ _ _ made c.place-index.ensures) (omega arith) many is c.in_ok-count.ensures.bytes in
     record {
       growing = more.growing;
       same = more.geometry ∙ inv.same;
-      grown = grown_on _ _ _ _ _ _ _ _ _ _ c.read_piece.ensures.reading.device.same inv.map inv.grown more.grown;
+      grown = grown_on _ _ _ _ _ _ _ _ _ _ c.read_piece.ensures.device.same inv.map inv.grown more.grown;
       marked = more.marked;
       map = Keeps-trans inv.map c.extend.ensures.map;
-      device = apart_on g.D.BlockDevice inv.grown.apart (apart_read g.D.BlockDevice inv.device c.read_piece.ensures.reading.device) c.extend.ensures.device;
+      device = apart_on g.D.BlockDevice inv.grown.apart (apart_read g.D.BlockDevice inv.device c.read_piece.ensures.device) c.extend.ensures.device;
       own = more.own;
       some = omega arith;
       top = omega arith;
-      bytes = ap (λ (l : List ℕ). l ++ drop (size_of block_size new) base) (more.content ∙ ap (λ (x : Blocks). content_of x now ++ take n c.read_piece.new.buf) c.read_piece.ensures.reading.device.same)
+      bytes = ap (λ (l : List ℕ). l ++ drop (size_of block_size new) base) (more.content ∙ ap (λ (x : Blocks). content_of x now ++ take n c.read_piece.new.buf) c.read_piece.ensures.device.same)
           ∙ ap (λ k. content_of (g.D.BlockDevice.blocks c.copying.dev) now ++ take n c.read_piece.new.buf ++ drop k base) (let k : size_of block_size new ≡ pos + n = omega arith in k)
           ∙ copied (content_of (g.D.BlockDevice.blocks c.copying.dev) now) (take n c.read_piece.new.buf) base pos n chunk
           ∙ ap (λ k. content_of (g.D.BlockDevice.blocks c.copying.dev) now ++ drop k base) (let k : pos ≡ size_of block_size now = omega arith in k)
           ∙ inv.bytes;
-      quiet = quiet g.D.BlockDevice c.in_ok-extend.ensures.reports.faults ∙ quiet g.D.BlockDevice c.in_ok-count.ensures.reading.faults ∙ inv.quiet;
+      quiet = quiet g.D.BlockDevice c.in_ok-extend.ensures.reports.faults ∙ quiet g.D.BlockDevice c.in_ok-count.ensures.reports.faults ∙ inv.quiet;
     }
 
 pub returns-clause-extended : goal.returns-clause-extended
@@ -120,7 +207,7 @@ returns-clause-extended g c =
     let now = c.copying.list in
     let here = sized geometry c.copying.list.geometry now inv.same in
     let test = c.copying-test.false in
-    let len = c.size.ensures in
+    let len = c.size-in-copying.ensures in
     let some = inv.some in
     let top = inv.top in
     record {

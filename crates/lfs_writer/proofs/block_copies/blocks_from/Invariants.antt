@@ -1,0 +1,23 @@
+use Rattle.std.proofs.Common.{◌≡◌, ◌≤◌, ◌<◌, ◌+◌, ◌-◌, length, drop, slice_index}
+use Rattle.lfs_device.specs.Calls.{ReadsOnly}
+use Rattle.lfs_model.specs.History.{faults, reads}
+use Rattle.lfs_model.specs.SkipLists.{blocks_back}
+use Rattle.lfs_writer.proofs.block_copies.blocks_from.Given as goal
+
+abbrev pub invariant-going : goal.invariant-going
+invariant-going g l =
+    let old = l.fn.dev in
+    let all = blocks_back (g.D.BlockDevice.blocks old) l.fn.count l.fn.head in
+    record {
+      high : l.index ≤ l.fn.count;
+      low : l.fn.from ≤ l.index;
+      here : l.fn.from < l.index → l.block ≡ slice_index all (l.index - 1);
+      long : length l.blocks.items ≡ l.fn.count - l.fn.from;
+      done : drop (l.index - l.fn.from) l.blocks.items ≡ drop l.index all;
+      device : ReadsOnly g.D.BlockDevice old l.dev;
+      quiet : faults (g.D.BlockDevice.history l.dev) ≡ faults (g.D.BlockDevice.history old);
+      few : reads (g.D.BlockDevice.history l.dev) + l.index ≤ reads (g.D.BlockDevice.history old) + l.fn.count;
+    }
+
+abbrev pub decreases-going : goal.decreases-going
+decreases-going g l = l.index

@@ -1,30 +1,17 @@
 -- Pairs and slots of the code, as the definitions have them.
 use Rattle.std.specs.Prelude.{List, [], map}
 use Rattle.std.specs.Option.{option_map}
-use Rattle.lfs_model.specs.Slots.{Slot, Struct, address_of}
-use Rattle.lfs_model.specs.Slots as slots
+use Rattle.lfs_model.specs.Slots.{Slot, address_of}
 use Rattle.lfs_model.specs.Thread.{Pair}
 use Rattle.lfs_tag.specs.ContentView.{tail_view}
 use Rattle.lfs_tag.specs.FieldsView.{move_view}
-use Rattle.lfs_tool.specs.declared.held.Kind.{Kind}
-use Rattle.lfs_tool.specs.declared.held.Kind.TheVariants as kind
-use Rattle.lfs_tool.specs.declared.held.Struct as held
-use Rattle.lfs_tool.specs.declared.held.Struct.TheVariants as variant
+use Rattle.lfs_tag.specs.KindView.{kind_view}
+use Rattle.lfs_lookup.specs.Items.{structure_view}
 use Rattle.lfs_tool.specs.declared.held.HeldSlot.{HeldSlot}
 use Rattle.lfs_tool.specs.declared.held.HeldPair.{HeldPair}
 
-abbrev pub kind_view : Kind → slots.Kind
-kind_view kind.File = slots.File
-kind_view kind.Directory = slots.Directory
-kind_view kind.Superblock = slots.Superblock
-
-abbrev pub struct_view : held.Struct → Struct
-struct_view (variant.Inline bytes) = slots.Inline bytes.items
-struct_view (variant.Ctz head size) = slots.Ctz head size
-struct_view (variant.Branch to) = slots.Branch (address_of to)
-
 abbrev pub held_view : HeldSlot → Slot
-held_view s = record { kind = kind_view s.kind; name = s.name.items; struct = struct_view s.structure; attributes = [] }
+held_view s = record { kind = kind_view s.kind; name = s.name.items; struct = structure_view s.structure; attributes = [] }
 
 abbrev pub pair_view : HeldPair → Pair
 pair_view p = record {

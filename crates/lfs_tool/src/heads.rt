@@ -8,24 +8,26 @@ ghost use Rattle.lfs_model.specs.Thread.{Pair, superblocks_before};
 ghost use Rattle.lfs_tag.specs.FieldsView.{superblock_view};
 ghost use Rattle.lfs_tool.specs.Broken.{HasFields, IsBroken, IsChained, IsMisstated};
 ghost use Rattle.lfs_tool.specs.Device.{HasSizes};
-ghost use Rattle.lfs_tool.specs.HeldView.{held_view, pair_view, pairs_view, struct_view};
+ghost use Rattle.lfs_lookup.specs.Items.{structure_view};
+ghost use Rattle.lfs_tool.specs.HeldView.{held_view, pair_view, pairs_view};
 
 use crate::findings::{Finding, Stated};
-use crate::held::{HeldPair, HeldSlot, Struct};
+use crate::held::{HeldPair, HeldSlot};
 use crate::roots::starts_with_superblock;
 use crate::superblocks::unlike;
 use lfs_device::Geometry;
+use lfs_lookup::Structure;
 use lfs_tag::{Superblock, superblock_of};
 
 // Returns the fields of a superblock's struct.
-pub(crate) fn fields_of(structure: &Struct) -> Option<Superblock>
-    ensures some { IfSome result (λ fields. HasFields (struct_view structure.now) (superblock_view fields)) }
-    ensures none { result ≡ None → (fields : SuperblockFields) → ¬ HasFields (struct_view structure.now) fields }
+pub(crate) fn fields_of(structure: &Structure) -> Option<Superblock>
+    ensures some { IfSome result (λ fields. HasFields (structure_view structure.now) (superblock_view fields)) }
+    ensures none { result ≡ None → (fields : SuperblockFields) → ¬ HasFields (structure_view structure.now) fields }
 {
     match structure {
-        Struct::Inline(bytes) => fields_in(bytes),
-        Struct::Ctz { .. } => None,
-        Struct::Branch(_) => None,
+        Structure::Inline(bytes) => fields_in(bytes),
+        Structure::Ctz { .. } => None,
+        Structure::Branch(_) => None,
     }
 }
 

@@ -2,44 +2,16 @@
 
 ghost use Rattle.std.specs.Prelude.{◌≡◌, ◌<◌, ◌++◌, IfNone, IfOk, IfSome, None, OnOk, is_some, length, map, true};
 ghost use Rattle.std.specs.Option.{option_map};
-ghost use Rattle.lfs_model.specs.Content.{complete, complete_all, kind_named, slot_of_id, struct_typed};
-ghost use Rattle.lfs_model.specs.LoggedContent.{HasParts, HaveParts, IsPart};
-ghost use Rattle.lfs_tag.specs.ContentView.{part_view, slot_view};
+ghost use Rattle.lfs_model.specs.Content.{complete, complete_all, slot_of_id};
+ghost use Rattle.lfs_model.specs.LoggedContent.{HasParts, HaveParts};
+ghost use Rattle.lfs_tag.specs.ContentView.{slot_view};
 ghost use Rattle.lfs_tool.specs.Held.{plain, plain_among, plain_in};
-ghost use Rattle.lfs_tool.specs.HeldView.{held_view, kind_view, struct_view};
+ghost use Rattle.lfs_tool.specs.HeldView.{held_view};
 
-use crate::held::{HeldSlot, Kind, Struct};
-use lfs_tag::kinds::{CTZ_STRUCT, DIRECTORY_NAME, DIRECTORY_STRUCT, FILE_NAME};
-use lfs_tag::{Part, Slot, ctz_of, pair_of};
+use crate::held::HeldSlot;
+use lfs_lookup::structure_of;
+use lfs_tag::{Kind, Slot};
 use std::alloc::{AllocError, Global};
-
-fn kind_of(name: &Part<'_>) -> Kind
-    ensures { kind_view result ≡ kind_named name.now.kind }
-{
-    match name.kind {
-        FILE_NAME => Kind::File,
-        DIRECTORY_NAME => Kind::Directory,
-        _ => Kind::Superblock,
-    }
-}
-
-// Returns the struct of a slot's part.
-fn struct_of(alloc: Global, part: &Part<'_>) -> Result<Struct, AllocError>
-    requires { IsPart 2 (part_view part.now) }
-    ensures { IfOk result (λ s. struct_view s ≡ struct_typed part.now.kind part.now.bytes.now) }
-{
-    match (part.kind, <&[u8; 8]>::try_from(part.bytes)) {
-        (DIRECTORY_STRUCT, Ok(bytes)) => Ok(Struct::Branch(pair_of(bytes))),
-        (CTZ_STRUCT, Ok(bytes)) => {
-            let (head, size) = ctz_of(bytes);
-            Ok(Struct::Ctz { head, size })
-        }
-        _ => {
-            let bytes = Vec::from_slice(alloc, part.bytes)?;
-            Ok(Struct::Inline(bytes))
-        }
-    }
-}
 
 // Returns a slot, where it has a name and a struct.
 fn hold(alloc: Global, slot: &Slot<'_>) -> Result<Option<HeldSlot>, AllocError>
@@ -49,8 +21,8 @@ fn hold(alloc: Global, slot: &Slot<'_>) -> Result<Option<HeldSlot>, AllocError>
     let (Some(name), Some(part)) = (slot.name, slot.structure) else {
         return Ok(None);
     };
-    let structure = struct_of(alloc, &part)?;
-    let kind = kind_of(&name);
+    let structure = structure_of(alloc, &part)?;
+    let kind = Kind::of(&name);
     let name = Vec::from_slice(alloc, name.bytes)?;
     Ok(Some(HeldSlot {
         kind,

@@ -1,23 +1,11 @@
 // Where the root directory begins.
 
 ghost use Rattle.std.specs.Prelude.{◌≡◌, ◌<◌, ◌+◌, ◌^◌, ◌&&◌, if◌then◌else◌, length, map};
-ghost use Rattle.lfs_model.specs.Slots.{is_superblock};
 ghost use Rattle.lfs_model.specs.Thread.{is_bare, is_hard, leads_on, starts_with_superblock, superblock_or, superblocks_before};
 ghost use Rattle.lfs_tool.specs.HeldView.{held_view, pair_view, pairs_view};
 
-use crate::held::{HeldPair, HeldSlot, Kind};
+use crate::held::{HeldPair, HeldSlot};
 use lfs_tag::is_hard;
-
-// Returns whether a slot is a superblock's.
-pub(crate) fn is_superblock(slot: &HeldSlot) -> bool
-    ensures { result ≡ is_superblock (held_view slot.now) }
-{
-    match slot.kind {
-        Kind::Superblock => true,
-        Kind::File => false,
-        Kind::Directory => false,
-    }
-}
 
 // Returns whether slot 0 is a superblock's.
 pub(crate) fn starts_with_superblock(slots: &[HeldSlot]) -> bool
@@ -25,7 +13,7 @@ pub(crate) fn starts_with_superblock(slots: &[HeldSlot]) -> bool
 {
     match slots {
         [] => false,
-        [first, ..] => is_superblock(first),
+        [first, ..] => first.kind.is_superblock(),
     }
 }
 
@@ -35,7 +23,7 @@ fn superblock_or(slots: &[HeldSlot], later: bool) -> bool
 {
     match slots {
         [] => later,
-        [first, ..] => is_superblock(first),
+        [first, ..] => first.kind.is_superblock(),
     }
 }
 
@@ -45,7 +33,7 @@ fn is_bare(slots: &[HeldSlot]) -> bool
 {
     match slots {
         [] => true,
-        [only] => is_superblock(only),
+        [only] => only.kind.is_superblock(),
         [_, _, ..] => false,
     }
 }

@@ -10,9 +10,9 @@ ghost use Rattle.lfs_tool.specs.Entries.{HasFault};
 ghost use Rattle.lfs_tool.specs.HeldView.{held_view, pair_view, pairs_view};
 
 use crate::findings::{Finding, Place};
-use crate::held::{HeldPair, HeldSlot, Kind, Struct};
-use crate::roots::is_superblock;
-use lfs_tag::is_name;
+use crate::held::{HeldPair, HeldSlot};
+use lfs_lookup::Structure;
+use lfs_tag::{Kind, is_name};
 use std::alloc::{AllocError, Global};
 
 // The cause for which a slot is no entry.
@@ -28,9 +28,9 @@ fn suits(slot: &HeldSlot) -> bool
     ensures { IsTrue result ↔ Suits (held_view slot.now).kind (held_view slot.now).struct }
 {
     match (slot.kind, &slot.structure) {
-        (Kind::File, Struct::Inline(_)) => true,
-        (Kind::File, Struct::Ctz { .. }) => true,
-        (Kind::Directory, Struct::Branch(_)) => true,
+        (Kind::File, Structure::Inline(_)) => true,
+        (Kind::File, Structure::Ctz { .. }) => true,
+        (Kind::Directory, Structure::Branch(_)) => true,
         _ => false,
     }
 }
@@ -39,7 +39,7 @@ fn suits(slot: &HeldSlot) -> bool
 fn fault_of(slot: &HeldSlot) -> Option<EntryFault>
     ensures { IfSome result (HasFault (held_view slot.now)) }
 {
-    if is_superblock(slot) {
+    if slot.kind.is_superblock() {
         return Some(EntryFault::IsSuperblock);
     }
     if !suits(slot) {

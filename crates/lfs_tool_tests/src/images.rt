@@ -621,3 +621,49 @@ fn padding(rt: HostRuntime) -> Result<(), Fail> {
     }
     Ok(())
 }
+
+// Up to which byte of its first two blocks one is inverted in the image in which a file moves, and what
+// is listed then. `bench/image_reader.py` gave these.
+const INVERTED: [(usize, &str); 6] = [
+    (52, CORRUPT),
+    (256, "f 0 /b\n"),
+    (277, ""),
+    (768, "f 0 /b\n"),
+    (780, "f 0 /a\nf 0 /b\n"),
+    (8192, "f 0 /b\n"),
+];
+
+fn invert(image: &mut [u8], at: usize) {
+    if let Some(byte) = image.get_mut(at) {
+        *byte = !*byte;
+    }
+}
+
+// Whether the image is listed so where this byte is inverted. The image is as it was then.
+fn is_listed_inverted(
+    alloc: Global,
+    image: &mut [u8],
+    at: usize,
+    wanted: &str,
+) -> Result<bool, AllocError> {
+    invert(image, at);
+    let text = listed(alloc, &mut Watched::new(&*image), 4096, 256)?;
+    invert(image, at);
+    Ok(text.as_slice() == wanted.as_bytes())
+}
+
+#[test]
+fn inverted_bytes(rt: HostRuntime) -> Result<(), Fail> {
+    let mut image = odd_image(rt.alloc(), Odd::Flipped(0, 0))?;
+    let mut from = 0;
+    for (to, text) in INVERTED {
+        for at in from..to {
+            assert!(rt;
+                is_listed_inverted(rt.alloc(), &mut image, at, text)?,
+                "{at}"
+            );
+        }
+        from = to;
+    }
+    Ok(())
+}

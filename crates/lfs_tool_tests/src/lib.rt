@@ -19,3 +19,5 @@ mod memory;
 mod shown;
 #[cfg(test)]
 mod sources;
+#[cfg(test)]
+mod stopped;

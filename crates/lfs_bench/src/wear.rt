@@ -10,7 +10,7 @@ const FILE: [u8; 700] = [b'x'; 700];
 // Appends to a log, which is removed once it has more than 40,000 bytes.
 fn append_log(alloc: Global, session: &mut Measured, bytes: &[u8]) -> Result<(), Error> {
     append(alloc, session, b"/log", bytes)?;
-    if session.stat(alloc, b"/log")?.unwrap_or(0) > 40000 {
+    if session.stat(alloc, b"/log")?.size > 40000 {
         session.remove(alloc, b"/log")?;
     }
     Ok(())

@@ -64,12 +64,12 @@ stat_refused h bytes p found works is f = rw (works, is, f.parents, f.nothing) r
 size_found : (h : Held) (bytes : List ℕ) (p : Path) (found : Finding) → path_of bytes ≡ Some p → Finds (tree_view h.tree) p found → size_of (tree_view h.tree (as_path bytes)) ≡ size_in found.node
 size_found h bytes p found is f = ap (λ z. size_of (tree_view h.tree (unwrap_or z []))) is ∙ f.sizes
 
-pub stat_checked : (h : Held) (bytes : List ℕ) (p : Path) (found : Finding) (tree : TreeState) (absent : Bool) (a : Option Refusal) (size : Option ℕ) (r : Result (Option ℕ) Error) →
+pub stat_checked : {A : Type 0} (view : A → Option ℕ) (h : Held) (bytes : List ℕ) (p : Path) (found : Finding) (tree : TreeState) (absent : Bool) (a : Option Refusal) (x : A) (r : Result A Error) →
     false ≡ h.tree.failed → Some p ≡ path_of bytes → IsAsked h.tree tree → Finds (tree_view h.tree) p found →
-    absent ≡ is_absent found.node → a ≡ refuse_if absent ops.NoEnt → size ≡ size_in found.node → r ≡ passed_with (first_of (found.fault ∷ a ∷ [])) size →
-    Checks h (ops.Stat bytes) (λ z. size_of (tree_view h.tree (as_path bytes)) ≡ z) r tree
-stat_checked h bytes p found tree absent a size r works is asked f absent_is a_is size_is r_is =
-    decided h (ops.Stat bytes) (λ z. size_of (tree_view h.tree (as_path bytes)) ≡ z) size _ tree r asked (stat_late h bytes p works is)
+    absent ≡ is_absent found.node → a ≡ refuse_if absent ops.NoEnt → view x ≡ size_in found.node → r ≡ passed_with (first_of (found.fault ∷ a ∷ [])) x →
+    Checks h (ops.Stat bytes) (λ z. size_of (tree_view h.tree (as_path bytes)) ≡ view z) r tree
+stat_checked view h bytes p found tree absent a x r works is asked f absent_is a_is size_is r_is =
+    decided h (ops.Stat bytes) (λ z. size_of (tree_view h.tree (as_path bytes)) ≡ view z) x _ tree r asked (stat_late h bytes p works is)
     (stat_refused h bytes p found (sym works) (sym is) f ∙ ap (λ z. first_of (found.fault ∷ z ∷ [])) (sym (a_is ∙ ap (λ b. refuse_if b ops.NoEnt) absent_is)))
     (λ none. size_found h bytes p found (sym is) f ∙ sym size_is) r_is
 

@@ -17,7 +17,7 @@ use Rattle.lfs_model.specs.Headline.{is_question}
 use Rattle.lfs_model.proofs.Histories.{OnlyReads-trans}
 use Rattle.lfs_model.proofs.SessionSteps.{not_remount}
 use Rattle.lfs_lookup.specs.Finds.{list_item_view}
-use Rattle.lfs_lookup.specs.declared.found_entries.ListItem.{ListItem}
+use Rattle.lfs_lookup.specs.declared.kinds.ListItem.{ListItem}
 use Rattle.lfs_lookup.specs.Refusals.{refusal_in}
 use Rattle.lfs_tree.specs.TreeState.{TreeState, IsSound, tree_view, around_of, IsAsked, IsBrokenAsking, IsError}
 use Rattle.lfs_fs.specs.Replies.{reply_in}

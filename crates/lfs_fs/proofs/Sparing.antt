@@ -165,16 +165,16 @@ pub record AsksBy (t : TreeState) (op : Operation) (r : Result Reply Error) (new
   pub none : looks_up op ≡ true → AddsNone t op new.tree
   pub hand : LeavesCached op r new
 
-pub stat_asks : (t : TreeState) (path : List ℕ) (r : Result (Option ℕ) Error) (new : Held) → (new.tree.failed ≡ false → IsAsked t new.tree) → (new.tree.failed ≡ false → IsSound new.tree) → AddsFew t (ops.Stat path) new.tree →
-    AddsNone t (ops.Stat path) new.tree → LeavesCachedBeneath t (ops.Stat path) r new.tree → AsksBy t (ops.Stat path) (reply_in ops.StatIs r) new
-stat_asks t path r new asked sound few none leaves = record { few = λ l. few; none = λ l. none; hand = hand }
+pub stat_asks : {A : Type 0} (reply : A → Reply) (t : TreeState) (path : List ℕ) (r : Result A Error) (new : Held) → (new.tree.failed ≡ false → IsAsked t new.tree) → (new.tree.failed ≡ false → IsSound new.tree) → AddsFew t (ops.Stat path) new.tree →
+    AddsNone t (ops.Stat path) new.tree → LeavesCachedBeneath t (ops.Stat path) r new.tree → AsksBy t (ops.Stat path) (reply_in reply r) new
+stat_asks reply t path r new asked sound few none leaves = record { few = λ l. few; none = λ l. none; hand = hand }
   where
-    hand : LeavesCached (ops.Stat path) (reply_in ops.StatIs r) new
-    hand given reply is same accepted s at ps a small =
+    hand : LeavesCached (ops.Stat path) (reply_in reply r) new
+    hand given answer is same accepted s at ps a small =
         let works = works_at new s at in
         let e : new.tree.pairs ≡ ps = one_thread (content_at new.tree.disk) (block_count new.tree.disk) new.tree.pairs ps (sound works).accepted.thread a.thread in
         let f : new.tree.pairs ≡ t.pairs = ap (λ (z : TreeState). z.pairs) (asked works).same in
-        stat_hand ops.StatIs r (HasCached new.tree (searched (ops.Stat path))) (leaves (subst (λ z. AreSmall z (searched (ops.Stat path))) (sym e ∙ f) small)) given reply same accepted
+        stat_hand reply r (HasCached new.tree (searched (ops.Stat path))) (leaves (subst (λ z. AreSmall z (searched (ops.Stat path))) (sym e ∙ f) small)) given answer same accepted
 
 -- no other operation looks up
 pub asks_not : (t : TreeState) (op : Operation) (r : Result Reply Error) (new : Held) → looks_up op ≡ false → AsksBy t op r new

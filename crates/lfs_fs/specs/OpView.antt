@@ -4,7 +4,7 @@ use Rattle.lfs_device.specs.declared.error.Error.{Error}
 use Rattle.lfs_model.specs.Operations as ops
 use Rattle.lfs_model.specs.Operations.{Operation}
 use Rattle.lfs_lookup.specs.Refusals.{is_refusal, refusal_in}
-use Rattle.lfs_lookup.specs.Finds.{list_item_view}
+use Rattle.lfs_lookup.specs.Finds.{list_item_view, stat_view}
 use Rattle.lfs_fs.specs.GstateView.{gstate_reply}
 use Rattle.lfs_fs.specs.FlagsView.{flags_view}
 use Rattle.lfs_fs.specs.declared.run.Op.{Op}
@@ -40,7 +40,7 @@ reply_view (reply.Fd fd) = ops.Opened fd
 reply_view (reply.Bytes bytes) = ops.Bytes bytes.items
 reply_view (reply.Count count) = ops.Count count
 reply_view (reply.Items items) = ops.Items (map list_item_view items.items)
-reply_view (reply.Stat size) = ops.StatIs size
+reply_view (reply.Stat stat) = ops.StatIs (stat_view stat)
 reply_view (reply.Gstate gstate) = gstate_reply gstate
 reply_view (reply.Yes is) = ops.Yes is
 reply_view (reply.Refused error) = ops.Refused (refusal_in error)

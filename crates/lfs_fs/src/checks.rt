@@ -13,7 +13,7 @@ ghost use Rattle.lfs_model.specs.Content.{attribute_of};
 ghost use Rattle.lfs_fs.specs.EntryPaths.{entry_path};
 ghost use Rattle.lfs_fs.specs.Held.{Checks, ChecksKept, IsOpening, IsReadableAs, IsReady, held_of};
 ghost use Rattle.lfs_fs.specs.LookUps.{AddsFew, AddsNone, LeavesCachedBeneath};
-ghost use Rattle.lfs_lookup.specs.Finds.{list_item_view};
+ghost use Rattle.lfs_lookup.specs.Finds.{list_item_view, stat_view};
 ghost use Rattle.lfs_tree.specs.TreeState.{around_of, tree_view};
 ghost use Rattle.lfs_model.specs.Slots.{Attributes, attributes_size};
 ghost use Rattle.lfs_fs.specs.Replacing.{CanReplace, replaced_size};
@@ -23,7 +23,7 @@ use crate::files::{Files, held_for};
 use crate::flags::OpenFlags;
 use bitflags::Flags;
 use lfs_device::{BlockDevice, Error};
-use lfs_lookup::{FileContents, FoundFile, ListItem, Path, refuse_if};
+use lfs_lookup::{FileContents, FoundFile, ListItem, Path, Stat, refuse_if};
 use lfs_tag::Superblock;
 use lfs_tree::Tree;
 use std::alloc::Global;
@@ -61,14 +61,14 @@ pub(crate) fn lacks<D: BlockDevice>(tree: &Tree<D>, files: &Files, need: u32) ->
     (tree.geometry().block_count as u64) < tree.used_count() as u64 + held + need as u64
 }
 
-/// Returns a file's size in bytes, or None for a directory, where no check refuses the path.
+/// Returns what is at a path, where no check refuses it.
 pub fn check_stat<D: BlockDevice>(
     alloc: Global,
     tree: &mut Tree<D>,
     files: &Files,
     bytes: &[u8],
-) -> Result<Option<u32>, Error>
-    ensures checks { Checks (held_of tree.old files.now) (ops.Stat bytes.now) (λ size. size_of (tree_view tree.old (as_path bytes.now)) ≡ size) result tree.new }
+) -> Result<Stat, Error>
+    ensures checks { Checks (held_of tree.old files.now) (ops.Stat bytes.now) (λ stat. size_of (tree_view tree.old (as_path bytes.now)) ≡ stat_view stat) result tree.new }
     ensures few { AddsFew tree.old (ops.Stat bytes.now) tree.new }
     ensures kept { AddsNone tree.old (ops.Stat bytes.now) tree.new }
     ensures hand { LeavesCachedBeneath tree.old (ops.Stat bytes.now) result tree.new }
@@ -84,7 +84,7 @@ pub fn check_stat<D: BlockDevice>(
         found.fault,
         refuse_if(found.node.is_nothing(), Error::NoEnt),
     ];
-    passed(&checks, found.node.size())
+    passed(&checks, Stat::from_size(found.node.size()))
 }
 
 /// Returns the path at which a directory may be made, where no check refuses it.

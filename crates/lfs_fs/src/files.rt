@@ -20,6 +20,9 @@ use lfs_writer::Contents;
 use std::alloc::Global;
 use std::marker::Model;
 
+/// An open file's number. An operation may name one that no open has answered.
+pub type Fd = u32;
+
 /// A file that is open for reading.
 #[derive(Drop)]
 pub struct Reader {

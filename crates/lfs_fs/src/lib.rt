@@ -15,8 +15,10 @@ mod run;
 mod session;
 mod writers;
 
+pub use files::Fd;
 pub use flags::OpenFlags;
 pub use gstate::Gstate;
 pub use lfs_device::NameOrder;
+pub use lfs_lookup::{Kind, ListItem as Item, Stat};
 pub use run::{Op, Reply};
 pub use session::{Session, format, format_ordered, mount};

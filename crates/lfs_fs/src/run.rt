@@ -2,16 +2,17 @@
 
 ghost use Rattle.std.specs.Prelude.{◌≡◌, map, IfOk};
 ghost use Rattle.lfs_model.specs.Operations as operations;
-ghost use Rattle.lfs_lookup.specs.Finds.{list_item_view};
+ghost use Rattle.lfs_lookup.specs.Finds.{list_item_view, stat_view};
 ghost use Rattle.lfs_lookup.specs.Refusals.{is_refusal};
 ghost use Rattle.lfs_fs.specs.GstateView.{gstate_reply};
 ghost use Rattle.lfs_fs.specs.Replies.{reply_in};
 ghost use Rattle.lfs_fs.specs.OpView.{IsNamed, performed};
 
+use crate::files::Fd;
 use crate::flags::OpenFlags;
 use crate::gstate::Gstate;
 use lfs_device::Error;
-use lfs_lookup::ListItem;
+use lfs_lookup::{ListItem as Item, Stat};
 
 /// An operation of a session. Its name is that of the call, and its fields are the call's
 /// arguments.
@@ -20,17 +21,17 @@ pub enum Op<'a> {
     /// A path, and how the file is opened.
     Open(&'a [u8], OpenFlags),
     /// An open file's number, and how many bytes at most.
-    Read(u32, u32),
+    Read(Fd, u32),
     /// An open file's number, and the bytes.
-    Write(u32, &'a [u8]),
+    Write(Fd, &'a [u8]),
     /// An open file's number, and the position.
-    Seek(u32, u32),
+    Seek(Fd, u32),
     /// An open file's number, and how many bytes it is to have.
-    Truncate(u32, u32),
+    Truncate(Fd, u32),
     /// An open file's number.
-    Sync(u32),
+    Sync(Fd),
     /// An open file's number.
-    Close(u32),
+    Close(Fd),
     /// The path of the new directory.
     Mkdir(&'a [u8]),
     /// A directory's path.
@@ -65,15 +66,15 @@ pub enum Reply {
     /// The operation was applied, and returns nothing.
     Done,
     /// The number under which a file was opened.
-    Fd(u32),
+    Fd(Fd),
     /// The bytes that were read, or those of an attribute.
     Bytes(Vec<u8>),
     /// How many bytes were written, or how many blocks are used.
     Count(u32),
     /// The entries of a directory.
-    Items(Vec<ListItem>),
-    /// A file's size in bytes, or None for a directory.
-    Stat(Option<u32>),
+    Items(Vec<Item>),
+    /// A kind and a size.
+    Stat(Stat),
     /// The global state.
     Gstate(Gstate),
     /// Whether a block is used.
@@ -111,7 +112,7 @@ pub(crate) fn done(answer: Result<(), Error>) -> Result<Reply, Error>
     }
 }
 
-pub(crate) fn fd(answer: Result<u32, Error>) -> Result<Reply, Error>
+pub(crate) fn fd(answer: Result<Fd, Error>) -> Result<Reply, Error>
     ensures seen { performed result ≡ reply_in operations.Opened answer }
     ensures named { IfOk result IsNamed }
 {
@@ -141,7 +142,7 @@ pub(crate) fn count(answer: Result<u32, Error>) -> Result<Reply, Error>
     }
 }
 
-pub(crate) fn items(answer: Result<Vec<ListItem>, Error>) -> Result<Reply, Error>
+pub(crate) fn items(answer: Result<Vec<Item>, Error>) -> Result<Reply, Error>
     ensures seen { performed result ≡ reply_in (λ items. operations.Items (map list_item_view items.items)) answer }
     ensures named { IfOk result IsNamed }
 {
@@ -151,12 +152,12 @@ pub(crate) fn items(answer: Result<Vec<ListItem>, Error>) -> Result<Reply, Error
     }
 }
 
-pub(crate) fn stat(answer: Result<Option<u32>, Error>) -> Result<Reply, Error>
-    ensures seen { performed result ≡ reply_in operations.StatIs answer }
+pub(crate) fn stat(answer: Result<Stat, Error>) -> Result<Reply, Error>
+    ensures seen { performed result ≡ reply_in (λ stat. operations.StatIs (stat_view stat)) answer }
     ensures named { IfOk result IsNamed }
 {
     match answer {
-        Ok(size) => Ok(Reply::Stat(size)),
+        Ok(stat) => Ok(Reply::Stat(stat)),
         Err(error) => refused(error),
     }
 }

@@ -20,7 +20,7 @@ ghost use Rattle.lfs_thread.specs.Device.{two_of};
 ghost use Rattle.lfs_thread.specs.Kept.{disk_on, kept_view};
 ghost use Rattle.lfs_model.specs.Thread.{anchor};
 ghost use Rattle.lfs_model.specs.View.{IsAccepted};
-ghost use Rattle.lfs_lookup.specs.Finds.{list_item_view};
+ghost use Rattle.lfs_lookup.specs.Finds.{list_item_view, stat_view};
 ghost use Rattle.lfs_tree.specs.Formatting.{DeviceComesBack, IsFormatted, WritesFirstTwo};
 ghost use Rattle.lfs_tree.specs.TreeState.{kept_of};
 ghost use Rattle.lfs_fs.specs.GstateView.{gstate_reply};
@@ -35,7 +35,7 @@ use crate::checks::{
     check_truncate, check_write,
 };
 use crate::device_laws::device_meets_laws;
-use crate::files::{Files, OpenFile};
+use crate::files::{Fd, Files, OpenFile};
 use crate::flags::OpenFlags;
 use crate::gstate::{Gstate, gstate_of};
 use crate::left_open::open_files_stay;
@@ -46,7 +46,7 @@ use crate::run::{Op, Reply, bytes, count, done, fd, gstate, items, stat, yes};
 use crate::writers::{begin_new, begin_there, save, truncate_by, write_by};
 use bitflags::Flags;
 use lfs_device::{BlockDevice, Error, NameOrder, Ordered};
-use lfs_lookup::ListItem;
+use lfs_lookup::{ListItem as Item, Stat};
 use lfs_tree::{Tree, mount_either};
 use std::alloc::Global;
 use std::marker::Model;
@@ -79,15 +79,15 @@ impl<D: BlockDevice> Model for Session<D> {
 }
 
 impl<D: BlockDevice> Session<D> {
-    /// Returns a file's size in bytes, or None for a directory. The call reads no more pairs than
-    /// the directories above it have.
+    /// Returns whether a path leads to a file or a directory, and a file's size in bytes. The call
+    /// reads no more pairs than the directories above it have.
     ///
     /// # Errors
     ///
     /// `Invalid` where the path isn't well formed; `NoEnt` or `NotDir` where a parent is missing or
     /// is a file; `NoEnt` where no entry is there.
-    pub fn stat(&mut self, alloc: Global, path: &[u8]) -> Result<Option<u32>, Error>
-        ensures { IsCall self.old (ops.Stat path.now) (reply_in ops.StatIs result) self.new }
+    pub fn stat(&mut self, alloc: Global, path: &[u8]) -> Result<Stat, Error>
+        ensures { IsCall self.old (ops.Stat path.now) (reply_in (λ stat. ops.StatIs (stat_view stat)) result) self.new }
     {
         check_stat(alloc, &mut self.tree, &self.files, path)
     }
@@ -99,7 +99,7 @@ impl<D: BlockDevice> Session<D> {
     ///
     /// `Invalid` where the path isn't well formed; `NoEnt` or `NotDir` where a parent is missing or
     /// is a file; `NoEnt` where no entry is there; `NotDir` where a file is there.
-    pub fn list(&mut self, alloc: Global, path: &[u8]) -> Result<Vec<ListItem>, Error>
+    pub fn list(&mut self, alloc: Global, path: &[u8]) -> Result<Vec<Item>, Error>
         ensures { IsCall self.old (ops.ListAll path.now) (reply_in (λ items. ops.Items (map list_item_view items.items)) result) self.new }
     {
         check_list(alloc, &mut self.tree, &self.files, path)
@@ -286,7 +286,7 @@ impl<D: BlockDevice> Session<D> {
     }
 
     // Opens a file for reading.
-    fn open_reader(&mut self, alloc: Global, path: &[u8], flags: OpenFlags) -> Result<u32, Error>
+    fn open_reader(&mut self, alloc: Global, path: &[u8], flags: OpenFlags) -> Result<Fd, Error>
         requires { (flags_view flags).write ≡ false }
         ensures { IsCall self.old (ops.Open path.now (flags_view flags)) (reply_in ops.Opened result) self.new }
     {
@@ -299,7 +299,7 @@ impl<D: BlockDevice> Session<D> {
     }
 
     // Opens a file for writing.
-    fn open_writer(&mut self, alloc: Global, path: &[u8], flags: OpenFlags) -> Result<u32, Error>
+    fn open_writer(&mut self, alloc: Global, path: &[u8], flags: OpenFlags) -> Result<Fd, Error>
         requires { (flags_view flags).write ≡ true }
         ensures { IsCall self.old (ops.Open path.now (flags_view flags)) (reply_in ops.Opened result) self.new }
     {
@@ -344,7 +344,7 @@ impl<D: BlockDevice> Session<D> {
     /// create `EntryFull` where its name takes too much of a metadata pair; `NoSpace` where fewer
     /// than two blocks are free for a file to create, or with [`TRUNCATE`](OpenFlags::TRUNCATE) too
     /// few for the file anew.
-    pub fn open(&mut self, alloc: Global, path: &[u8], flags: OpenFlags) -> Result<u32, Error>
+    pub fn open(&mut self, alloc: Global, path: &[u8], flags: OpenFlags) -> Result<Fd, Error>
         ensures { IsCall self.old (ops.Open path.now (flags_view flags)) (reply_in ops.Opened result) self.new }
     {
         if flags.contains(OpenFlags::WRITE) {
@@ -363,7 +363,7 @@ impl<D: BlockDevice> Session<D> {
     /// `BadFile` where no file is open for writing under the number; `TooBig` where the file would
     /// have more than 2,147,483,647 bytes; `NoSpace` where too few blocks are free for what the
     /// file would hold.
-    pub fn write(&mut self, alloc: Global, fd: u32, bytes: &[u8]) -> Result<u32, Error>
+    pub fn write(&mut self, alloc: Global, fd: Fd, bytes: &[u8]) -> Result<u32, Error>
         ensures { IsCall self.old (ops.Write fd bytes.now) (reply_in ops.Count result) self.new }
     {
         check_write(&self.tree, &self.files, fd, bytes)?;
@@ -387,7 +387,7 @@ impl<D: BlockDevice> Session<D> {
     ///
     /// `BadFile` where no file is open for writing under the number; `TooBig` for more than
     /// 2,147,483,647 bytes; `NoSpace` where too few blocks are free for what the file would hold.
-    pub fn truncate(&mut self, alloc: Global, fd: u32, size: u32) -> Result<(), Error>
+    pub fn truncate(&mut self, alloc: Global, fd: Fd, size: u32) -> Result<(), Error>
         ensures { IsCall self.old (ops.Truncate fd size) (reply_in (λ _. ops.Done) result) self.new }
     {
         check_truncate(&self.tree, &self.files, fd, size)?;
@@ -409,7 +409,7 @@ impl<D: BlockDevice> Session<D> {
     /// # Errors
     ///
     /// `BadFile` where no file is open under the number.
-    pub fn sync(&mut self, alloc: Global, fd: u32) -> Result<(), Error>
+    pub fn sync(&mut self, alloc: Global, fd: Fd) -> Result<(), Error>
         ensures { IsCall self.old (ops.Sync fd) (reply_in (λ _. ops.Done) result) self.new }
     {
         check_sync(&self.tree, &self.files, fd)?;
@@ -432,7 +432,7 @@ impl<D: BlockDevice> Session<D> {
     /// # Errors
     ///
     /// `BadFile` where no file is open for reading under the number.
-    pub fn read(&mut self, alloc: Global, fd: u32, count: u32) -> Result<Vec<u8>, Error>
+    pub fn read(&mut self, alloc: Global, fd: Fd, count: u32) -> Result<Vec<u8>, Error>
         ensures { IsCall self.old (ops.Read fd count) (reply_in (λ v. ops.Bytes v.items) result) self.new }
     {
         if self.tree.has_failed() {
@@ -454,7 +454,7 @@ impl<D: BlockDevice> Session<D> {
     ///
     /// `BadFile` where no file is open under the number; `Invalid` for a position above
     /// 2,147,483,647.
-    pub fn seek(&mut self, fd: u32, position: u32) -> Result<(), Error>
+    pub fn seek(&mut self, fd: Fd, position: u32) -> Result<(), Error>
         ensures { IsCall self.old (ops.Seek fd position) (reply_in (λ _. ops.Done) result) self.new }
     {
         check_seek(&self.tree, &self.files, fd, position)?;
@@ -467,7 +467,7 @@ impl<D: BlockDevice> Session<D> {
     /// # Errors
     ///
     /// `BadFile` where no file is open under the number.
-    pub fn close(&mut self, alloc: Global, fd: u32) -> Result<(), Error>
+    pub fn close(&mut self, alloc: Global, fd: Fd) -> Result<(), Error>
         ensures { IsCall self.old (ops.Close fd) (reply_in (λ _. ops.Done) result) self.new }
     {
         check_open(&self.tree, &self.files, fd)?;

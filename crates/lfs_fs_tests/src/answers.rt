@@ -1,8 +1,7 @@
 // What an operation is to answer.
 
 use lfs_device::Error;
-use lfs_fs::{Gstate, Op, Reply};
-use lfs_lookup::ListItem;
+use lfs_fs::{Gstate, Item as Listed, Kind, Op, Reply};
 
 /// A name, and a file's size or None for a directory.
 pub type Item<'a> = (&'a [u8], Option<u32>);
@@ -22,12 +21,16 @@ pub enum Answer<'a> {
 /// An operation with its answer.
 pub type Row<'a> = (Op<'a>, Answer<'a>);
 
-fn are_items(items: &[ListItem], rows: &[Item<'_>]) -> bool {
+fn are_items(items: &[Listed], rows: &[Item<'_>]) -> bool {
     if items.len() != rows.len() {
         return false;
     }
     for (item, row) in items.iter().zip(rows) {
-        if item.name.as_slice() != row.0 || item.size != row.1 {
+        let size = match item.kind {
+            Kind::File => Some(item.size),
+            Kind::Dir => None,
+        };
+        if item.name.as_slice() != row.0 || size != row.1 {
             return false;
         }
     }

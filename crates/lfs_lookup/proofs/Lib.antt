@@ -19,6 +19,7 @@ mod LastNames
 pub mod RootPairs
 mod Profiled
 pub mod AtPaths
+mod ListAtNames
 mod ListAtShort
 mod ListAtItems
 mod ShownFindings

@@ -18,7 +18,7 @@ use Rattle.lfs_model.proofs.OneCommit.{slot_there}
 use Rattle.lfs_thread.specs.Kept.{Kept, disk_on}
 use Rattle.lfs_lookup.specs.ByName.{AreByName}
 use Rattle.lfs_lookup.specs.Items.{Shape, shape_of}
-use Rattle.lfs_lookup.specs.ListAt.{AreShort, IsShort, item_listed, size_listed}
+use Rattle.lfs_lookup.specs.ListAt.{AreShort, IsShortEntry, item_listed, size_listed}
 use Rattle.lfs_lookup.specs.Listed.{shapes_from}
 use Rattle.lfs_lookup.specs.Paths.{BeginsOnPath}
 use Rattle.lfs_lookup.proofs.AtPaths.{SizedLists, directory_at_path}
@@ -60,11 +60,11 @@ module _ (disk : Disk) (ps : List Pair) (path : Path) where
 
 -- ---- of a thread
 
-each_short : (slots : List Slot) → AreShort (map shape_of slots) → Each (λ s. IsShort s.struct) slots
+each_short : (slots : List Slot) → AreShort (map shape_of slots) → Each (λ s. IsShortEntry (shape_of s)) slots
 each_short [] h = tt
 each_short (s ∷ slots) h = (h.0, each_short slots h.1)
 
-short_each : (slots : List Slot) → Each (λ s. IsShort s.struct) slots → AreShort (map shape_of slots)
+short_each : (slots : List Slot) → Each (λ s. IsShortEntry (shape_of s)) slots → AreShort (map shape_of slots)
 short_each [] h = tt
 short_each (s ∷ slots) h = (h.0, short_each slots h.1)
 
@@ -80,7 +80,7 @@ module _ (t : Kept) (path : Path) (ok : IsAccepted t.disk t.pairs) (now : List P
   short_there bytes =
       let (slots, (r, is)) = slots_there in
       subst AreShort (sym is)
-      (short_each slots (each_row (λ s. IsShort s.struct) (entries_in t.pairs on.at) slots r (each_short (entries_in t.pairs on.at) (short_entries t.disk t.pairs path on.at bytes ok on.leads))))
+      (short_each slots (each_row (λ s. IsShortEntry (shape_of s)) (entries_in t.pairs on.at) slots r (each_short (entries_in t.pairs on.at) (short_entries t.disk t.pairs path on.at bytes ok on.leads))))
 
   pub listed_there : (listed : List ops.Item) → SizedLists t.disk → listed ≡ map item_listed shapes → listed ≡ items_in (tree_in t.disk t.pairs) path
   listed_there listed lists e = let (slots, (r, is)) = slots_there in e ∙ ap (map item_listed) is ∙ items_listed t.disk t.pairs path on.at slots ok on.leads lists r

@@ -18,8 +18,9 @@ use Rattle.lfs_model.proofs.Counts.{Each, each_joined, each_weaker}
 use Rattle.lfs_model.proofs.Logged.{logged}
 use Rattle.lfs_device.specs.Bytes.{AreBytes, HasBytes}
 use Rattle.lfs_lookup.specs.Items.{shape_of}
-use Rattle.lfs_lookup.specs.ListAt.{AreShort, IsShort}
-use Rattle.lfs_lookup.proofs.Visits.{each_entry}
+use Rattle.lfs_lookup.specs.ListAt.{AreShort, IsShort, IsShortEntry}
+use Rattle.lfs_lookup.proofs.ListAtNames.{name_fits, fitting_names}
+use Rattle.lfs_lookup.proofs.Visits.{each_both, each_entry}
 
 abbrev short_slot : Slot → Type 0
 short_slot s = IsShort s.struct
@@ -89,7 +90,7 @@ short_unmoved g p h = go (g.kind == 0x4ff && same_pair g.pair p.at)
 
 -- ---- the entries of a directory
 
-short_shapes : (slots : List Slot) → Each short_slot slots → AreShort (map shape_of slots)
+short_shapes : (slots : List Slot) → Each (λ s. IsShortEntry (shape_of s)) slots → AreShort (map shape_of slots)
 short_shapes [] h = tt
 short_shapes (s ∷ slots) h = (h.0, short_shapes slots h.1)
 
@@ -98,4 +99,5 @@ short_entries disk ps path at bytes ok leads =
     let pairs : Each (λ p. Each short_slot (unmoved (gstate_of ps) p)) ps =
     each_weaker (λ p. content_at disk p.at ≡ Some p.content) (λ p. Each short_slot (unmoved (gstate_of ps) p)) (λ p e. short_unmoved (gstate_of ps) p (short_pair disk p bytes e)) ps
     (recursion_from_All (λ (p : Pair). content_at disk p.at ≡ Some p.content) ps ok.thread.contents) in
-    short_shapes (entries_in ps at) (each_entry short_slot disk ps path at ok leads (each_joined short_slot (unmoved (gstate_of ps)) ps pairs))
+    short_shapes (entries_in ps at) (each_both short_slot name_fits (λ s. IsShortEntry (shape_of s)) (entries_in ps at) (λ s k l. (k, l))
+    (each_entry short_slot disk ps path at ok leads (each_joined short_slot (unmoved (gstate_of ps)) ps pairs)) (fitting_names disk ps path at ok leads))

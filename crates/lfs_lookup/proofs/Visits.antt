@@ -116,15 +116,19 @@ each_run P (p ∷ ps) h = (h.0, go (is_hard p.content.tail) (each_run P ps h.1))
     go true k = k
     go false k = tt
 
--- what holds of each slot of the pairs holds of those of a directory
-pub each_entry : (Q : Slot → Type 0) (disk : Disk) (ps : List Pair) (P : Path) (a : ℕ × ℕ) → IsAccepted disk ps → Leads ps P a → Each Q (all_slots ps) → Each Q (entries_in ps a)
-each_entry Q disk ps P a ok leads h =
+-- what holds of each slot that the pairs show holds of those of a directory
+pub each_visible : (Q : Slot → Type 0) (disk : Disk) (ps : List Pair) (P : Path) (a : ℕ × ℕ) → IsAccepted disk ps → Leads ps P a → Each (λ p. Each Q (visible (gstate_of ps) p)) ps → Each Q (entries_in ps a)
+each_visible Q disk ps P a ok leads pieces =
     let n = begins_with disk ps P a ok leads in
-    let pieces : Each (λ p. Each Q (visible (gstate_of ps) p)) ps =
-    each_weaker (λ p. Each Q (unmoved (gstate_of ps) p)) (λ p. Each Q (visible (gstate_of ps) p)) (λ p k. each_filter Q (λ s. not (is_superblock s)) (unmoved (gstate_of ps) p) k) ps
-    (each_pieces Q (unmoved (gstate_of ps)) ps h) in
     subst (Each Q) (own_run disk ps P a n.0 ok leads n.1)
     (each_joined Q (visible (gstate_of ps)) (joined_run (drop n.0 ps)) (each_run (λ p. Each Q (visible (gstate_of ps) p)) (drop n.0 ps) (each_drop (λ p. Each Q (visible (gstate_of ps) p)) n.0 ps pieces)))
+
+-- what holds of each slot of the pairs does, too
+pub each_entry : (Q : Slot → Type 0) (disk : Disk) (ps : List Pair) (P : Path) (a : ℕ × ℕ) → IsAccepted disk ps → Leads ps P a → Each Q (all_slots ps) → Each Q (entries_in ps a)
+each_entry Q disk ps P a ok leads h =
+    each_visible Q disk ps P a ok leads
+    (each_weaker (λ p. Each Q (unmoved (gstate_of ps) p)) (λ p. Each Q (visible (gstate_of ps) p)) (λ p k. each_filter Q (λ s. not (is_superblock s)) (unmoved (gstate_of ps) p) k) ps
+    (each_pieces Q (unmoved (gstate_of ps)) ps h))
 
 each_got : {X : Type 0} (P : X → Type 0) (xs : List X) → ((k : ℕ) (x : X) → slice_get xs k ≡ Some x → P x) → Each P xs
 each_got P [] h = tt

@@ -6,9 +6,12 @@ use Rattle.lfs_model.specs.Session.{parent_fault}
 use Rattle.lfs_model.specs.Effects.{size_of}
 use Rattle.lfs_model.specs.Tree.{Path, Tree}
 use Rattle.lfs_lookup.specs.declared.found_entries.Finding.{Finding}
-use Rattle.lfs_lookup.specs.declared.found_entries.ListItem.{ListItem}
+use Rattle.lfs_lookup.specs.declared.kinds.Kind.{Kind}
+use Rattle.lfs_lookup.specs.declared.kinds.Kind.TheVariants as kind
+use Rattle.lfs_lookup.specs.declared.kinds.ListItem.{ListItem}
 use Rattle.lfs_lookup.specs.declared.found_entries.Node.{Node}
 use Rattle.lfs_lookup.specs.declared.found_entries.Node.TheVariants as node
+use Rattle.lfs_lookup.specs.declared.kinds.Stat.{Stat}
 
 abbrev pub is_absent : Node → Bool
 is_absent node.Nothing = true
@@ -42,5 +45,13 @@ pub record Finds (t : Tree) (p : Path) (found : Finding) : Type 0 where
 abbrev pub has_names : Tree → Path → Bool
 has_names t p = nat_lt 0 (length (names_of (t p)))
 
+-- a file's size; a directory has none
+abbrev pub size_by : Kind → ℕ → Option ℕ
+size_by kind.File size = Some size
+size_by kind.Dir size = None
+
+abbrev pub stat_view : Stat → Option ℕ
+stat_view stat = size_by stat.kind stat.size
+
 abbrev pub list_item_view : ListItem → ops.Item
-list_item_view item = record { name = item.name.items; size = item.size }
+list_item_view item = record { name = item.name.items; size = size_by item.kind item.size }

@@ -1,5 +1,6 @@
 -- What a list returns of an entry.
-use Rattle.std.specs.Prelude.{ℕ, ◌<◌, List, [], ◌∷◌, length, Option, Some, None}
+use Rattle.std.specs.Prelude.{ℕ, ◌<◌, ◌≤◌, List, [], ◌∷◌, length, Option, Some, None}
+use Rattle.lfs_model.specs.Names.{name_limit}
 use Rattle.lfs_model.specs.Operations as ops
 use Rattle.lfs_model.specs.Slots.{Struct, Inline, Ctz, Branch}
 use Rattle.lfs_lookup.specs.Items.{Shape}
@@ -19,6 +20,10 @@ IsShort (Inline bytes) = length bytes < 0x3ff
 IsShort (Ctz head size) = Unit {0}
 IsShort (Branch to) = Unit {0}
 
+-- so do names, which are no longer than a new one may be
+abbrev pub IsShortEntry : Shape → Type 0
+IsShortEntry x = IsShort x.struct × (length x.name ≤ name_limit)
+
 abbrev pub AreShort : List Shape → Type 0
 AreShort [] = Unit {0}
-AreShort (x ∷ xs) = IsShort x.struct × AreShort xs
+AreShort (x ∷ xs) = IsShortEntry x × AreShort xs

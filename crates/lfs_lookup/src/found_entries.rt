@@ -1,8 +1,9 @@
 // The results of calls by a path.
 
 ghost use Rattle.std.specs.Prelude.{◌≡◌};
-ghost use Rattle.lfs_lookup.specs.Finds.{is_absent, is_directory_node, is_file_node, size_in};
+ghost use Rattle.lfs_lookup.specs.Finds.{is_absent, is_directory_node, is_file_node, size_in, stat_view};
 
+use crate::kinds::{Kind, ListItem, Stat};
 use crate::refusal::Refusal;
 
 /// The entry that a path leads to.
@@ -78,11 +79,20 @@ pub struct Listing {
     pub items: Vec<ListItem>,
 }
 
-/// An entry of a directory.
-#[derive(Drop)]
-pub struct ListItem {
-    /// The bytes of its name.
-    pub name: Vec<u8>,
-    /// How many bytes a file has. None for a directory.
-    pub size: Option<u32>,
+impl Stat {
+    /// Returns the stat of a file of that size, or of a directory where there is none.
+    pub fn from_size(size: Option<u32>) -> Stat
+        ensures { stat_view result ≡ size }
+    {
+        match size {
+            Some(size) => Stat {
+                kind: Kind::File,
+                size,
+            },
+            None => Stat {
+                kind: Kind::Dir,
+                size: 0,
+            },
+        }
+    }
 }

@@ -1,4 +1,4 @@
-// The entries of the directory at a path, by name and size.
+// The entries of the directory at a path, by name, kind and size.
 
 ghost use Rattle.std.specs.Prelude.{◌≡◌, ◌≤◌, ◌+◌, ◌++◌, ◌∷◌, [], IfOk, false, map, sum_by};
 ghost use Rattle.lfs_model.specs.Frame.{pairs_of_path, parents};
@@ -10,14 +10,16 @@ ghost use Rattle.lfs_model.specs.Shown.{tree_in};
 ghost use Rattle.lfs_lookup.specs.CachedPairs.{AreCachedBeneath};
 ghost use Rattle.lfs_lookup.specs.Finds.{Finds, list_item_view};
 ghost use Rattle.lfs_lookup.specs.Items.{item_view, items_view, structure_view};
-ghost use Rattle.lfs_lookup.specs.ListAt.{AreShort, IsShort, item_listed, size_listed};
+ghost use Rattle.lfs_lookup.specs.ListAt.{AreShort, IsShort, IsShortEntry, item_listed, size_listed};
 ghost use Rattle.lfs_lookup.specs.Reading.{IsReading};
 
 use crate::by_path::{finding_of, first_of, shown_at};
 use crate::directory::entries_from;
-use crate::found_entries::{ListItem, Listing};
+use crate::found_entries::Listing;
 use crate::items::{Item, Structure, sort_by_name};
+use crate::kinds::{ListItem, Stat};
 use crate::path::Path;
+use arrayvec::ArrayVec;
 use lfs_device::{BlockDevice, Error};
 use lfs_thread::Thread;
 use std::alloc::{AllocError, Global};
@@ -34,19 +36,23 @@ fn listed_size(structure: &Structure) -> Option<u32>
     }
 }
 
-// Returns an entry by name and size.
+// Returns an entry by name, kind and size.
 fn listed_item(item: Item) -> ListItem
-    requires { IsShort (structure_view item.structure) }
+    requires { IsShortEntry (item_view item) }
     ensures { list_item_view result ≡ item_listed (item_view item) }
 {
-    let size = listed_size(&item.structure);
-    ListItem {
-        name: item.name,
-        size,
+    let stat = Stat::from_size(listed_size(&item.structure));
+    match ArrayVec::try_from(item.name.as_slice()) {
+        Ok(name) => ListItem {
+            name,
+            kind: stat.kind,
+            size: stat.size,
+        },
+        Err(_) => unreachable!(),
     }
 }
 
-// Returns entries by name and size.
+// Returns entries by name, kind and size.
 fn listed_items(alloc: Global, items: Vec<Item>) -> Result<Vec<ListItem>, AllocError>
     requires { AreShort (items_view items.items) }
     ensures { IfOk result (λ listed. map list_item_view listed.items ≡ map item_listed (items_view items.items)) }

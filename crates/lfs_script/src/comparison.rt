@@ -4,8 +4,7 @@ ghost use Rattle.std.specs.Prelude.{◌≡◌, ◌<◌, ◌≤◌, ◌++◌, ◌
 
 use crate::hand::{Device, NO_FAULT, with_fault};
 use lfs_device::{BlockDevice, Error, Geometry, RamDevice};
-use lfs_fs::{OpenFlags, Reply, Session, mount};
-use lfs_lookup::ListItem;
+use lfs_fs::{Item, Kind, OpenFlags, Reply, Session, mount};
 use lfs_script_lines::{Answer, Difference, Scope};
 use std::alloc::{AllocError, Global};
 
@@ -39,12 +38,14 @@ fn different_block(
     Ok(None)
 }
 
-fn are_same(item: &ListItem, other: &ListItem) -> bool {
-    item.name.as_slice() == other.name.as_slice() && item.size == other.size
+fn are_same(item: &Item, other: &Item) -> bool {
+    item.name.as_slice() == other.name.as_slice()
+        && item.kind == other.kind
+        && item.size == other.size
 }
 
 // Returns the first place where two listings differ.
-fn different_place(items: &[ListItem], others: &[ListItem]) -> Option<usize> {
+fn different_place(items: &[Item], others: &[Item]) -> Option<usize> {
     for (place, (item, other)) in items.iter().zip(others).enumerate() {
         if !are_same(item, other) {
             return Some(place);
@@ -58,7 +59,7 @@ fn different_place(items: &[ListItem], others: &[ListItem]) -> Option<usize> {
 }
 
 // Returns the name of the first entry in which two listings differ.
-fn different_name<'a>(items: &'a [ListItem], others: &'a [ListItem]) -> Option<&'a [u8]> {
+fn different_name<'a>(items: &'a [Item], others: &'a [Item]) -> Option<&'a [u8]> {
     let place = different_place(items, others)?;
     match items.get(place) {
         Some(item) => Some(item.name.as_slice()),
@@ -161,14 +162,14 @@ fn different_kind(
     Ok(None)
 }
 
-// Returns what differs of an entry that both list with this size.
+// Returns what differs of an entry that both list as of this kind.
 fn difference_at(
     alloc: Global,
     session: &mut Session<Device>,
     other: &mut Session<Device>,
     scope: Scope,
     path: &[u8],
-    size: Option<u32>,
+    kind: Kind,
 ) -> Result<Option<Difference>, Error> {
     let (first, last) = match scope {
         Scope::Whole => (0, 255),
@@ -178,7 +179,7 @@ fn difference_at(
     if let Some(kind) = different_kind(alloc, session, other, path, first, last)? {
         return Ok(Some(Difference::Attribute(Vec::from_slice(alloc, path)?, kind)));
     }
-    if size.is_some() && !hold_same(alloc, session, other, path)? {
+    if kind == Kind::File && !hold_same(alloc, session, other, path)? {
         return Ok(Some(Difference::Bytes(Vec::from_slice(alloc, path)?)));
     }
     Ok(None)
@@ -199,12 +200,12 @@ fn difference_in(
         return Ok(Some(Difference::Entry(path_below(alloc, directory, name)?)));
     }
     for item in items.iter() {
-        let path = path_below(alloc, directory, &item.name)?;
-        let difference = difference_at(alloc, session, other, scope, &path, item.size)?;
+        let path = path_below(alloc, directory, item.name.as_slice())?;
+        let difference = difference_at(alloc, session, other, scope, &path, item.kind)?;
         if difference.is_some() {
             return Ok(difference);
         }
-        if item.size.is_none() {
+        if item.kind == Kind::Dir {
             waiting.push(path)?;
         }
     }

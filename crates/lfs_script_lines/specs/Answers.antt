@@ -4,7 +4,9 @@ use Rattle.std.specs.List.{flat_map}
 use Rattle.std.specs.Fmt.{decimal}
 use Rattle.lfs_device.specs.Error.{name_of, number_of}
 use Rattle.lfs_device.specs.declared.error.Error.{Error}
-use Rattle.lfs_lookup.specs.declared.found_entries.ListItem.{ListItem}
+use Rattle.lfs_lookup.specs.declared.kinds.Kind.{Kind}
+use Rattle.lfs_lookup.specs.declared.kinds.Kind.TheVariants as kind
+use Rattle.lfs_lookup.specs.declared.kinds.ListItem.{ListItem}
 use Rattle.lfs_model.specs.Listing.{hex_digit}
 use Rattle.lfs_fs.specs.declared.gstate.Gstate.{Gstate}
 use Rattle.lfs_fs.specs.declared.run.Reply.{Reply}
@@ -23,19 +25,19 @@ abbrev pub error_text : Error → List ℕ
 error_text e = codes " " ++ name_of e ++ number_text (number_of e)
 
 -- the kind and the size of an entry; a directory has size 0
-abbrev pub entry_text : Option ℕ → List ℕ
-entry_text (Some size) = codes " f:" ++ decimal size ++ codes ":"
-entry_text None = codes " d:0:"
+abbrev pub entry_text : Kind → ℕ → List ℕ
+entry_text kind.File size = codes " f:" ++ decimal size ++ codes ":"
+entry_text kind.Dir size = codes " d:0:"
 
 abbrev pub item_text : ListItem → List ℕ
-item_text item = entry_text item.size ++ written item.name.items
+item_text item = entry_text item.kind item.size ++ written item.name.items
 
 abbrev pub items_text : List ListItem → List ℕ
 items_text items = codes "items" ++ number_text (length items) ++ flat_map item_text items
 
-abbrev pub stat_text : Option ℕ → List ℕ
-stat_text (Some size) = codes "stat f" ++ number_text size
-stat_text None = codes "stat d 0"
+abbrev pub stat_text : Kind → ℕ → List ℕ
+stat_text kind.File size = codes "stat f" ++ number_text size
+stat_text kind.Dir size = codes "stat d 0"
 
 -- the pair and the id of a moved slot
 abbrev pub moving_text : Option (List ℕ × ℕ) → List ℕ
@@ -59,7 +61,7 @@ reply_text (reply.Fd fd) = codes "fd" ++ number_text fd
 reply_text (reply.Bytes bytes) = codes "bytes " ++ written bytes.items
 reply_text (reply.Count count) = codes "count" ++ number_text count
 reply_text (reply.Items items) = items_text items.items
-reply_text (reply.Stat size) = stat_text size
+reply_text (reply.Stat stat) = stat_text stat.kind stat.size
 reply_text (reply.Gstate gstate) = gstate_text gstate
 reply_text (reply.Yes is) = yes_text is
 reply_text (reply.Refused error) = codes "refused" ++ error_text error

@@ -6,8 +6,7 @@ ghost use Rattle.lfs_script_lines.specs.Answers.{answer_text, block_text, calls_
 use crate::answer::{Answer, Calls, Difference};
 use crate::written::{hex_digit, push_word};
 use lfs_device::Error;
-use lfs_fs::{Gstate, Reply};
-use lfs_lookup::ListItem;
+use lfs_fs::{Gstate, Item, Kind, Reply};
 use std::alloc::AllocError;
 use std::io::Write;
 
@@ -31,28 +30,28 @@ fn push_error(text: &mut Vec<u8>, error: Error) -> Result<(), AllocError>
 }
 
 // Adds the kind and the size of an entry.
-fn push_entry(text: &mut Vec<u8>, size: Option<u32>) -> Result<(), AllocError>
-    ensures { OnOk result (text.new.items ≡ text.old.items ++ entry_text size) }
+fn push_entry(text: &mut Vec<u8>, kind: Kind, size: u32) -> Result<(), AllocError>
+    ensures { OnOk result (text.new.items ≡ text.old.items ++ entry_text kind size) }
 {
-    match size {
-        Some(size) => {
+    match kind {
+        Kind::File => {
             if write!(text, " f:{}:", size).is_err() {
                 return Err(AllocError);
             }
         }
-        None => text.extend_from_slice(b" d:0:")?,
+        Kind::Dir => text.extend_from_slice(b" d:0:")?,
     }
     Ok(())
 }
 
-fn push_item(text: &mut Vec<u8>, item: &ListItem) -> Result<(), AllocError>
+fn push_item(text: &mut Vec<u8>, item: &Item) -> Result<(), AllocError>
     ensures { OnOk result (text.new.items ≡ text.old.items ++ item_text item.now) }
 {
-    push_entry(text, item.size)?;
-    push_word(text, &item.name)
+    push_entry(text, item.kind, item.size)?;
+    push_word(text, item.name.as_slice())
 }
 
-fn push_items(text: &mut Vec<u8>, items: &[ListItem]) -> Result<(), AllocError>
+fn push_items(text: &mut Vec<u8>, items: &[Item]) -> Result<(), AllocError>
     ensures { OnOk result (text.new.items ≡ text.old.items ++ items_text items.now) }
 {
     text.extend_from_slice(b"items")?;
@@ -63,15 +62,15 @@ fn push_items(text: &mut Vec<u8>, items: &[ListItem]) -> Result<(), AllocError>
     Ok(())
 }
 
-fn push_stat(text: &mut Vec<u8>, size: Option<u32>) -> Result<(), AllocError>
-    ensures { OnOk result (text.new.items ≡ text.old.items ++ stat_text size) }
+fn push_stat(text: &mut Vec<u8>, kind: Kind, size: u32) -> Result<(), AllocError>
+    ensures { OnOk result (text.new.items ≡ text.old.items ++ stat_text kind size) }
 {
-    match size {
-        Some(size) => {
+    match kind {
+        Kind::File => {
             text.extend_from_slice(b"stat f")?;
             push_number(text, u64::from(size))?;
         }
-        None => text.extend_from_slice(b"stat d 0")?,
+        Kind::Dir => text.extend_from_slice(b"stat d 0")?,
     }
     Ok(())
 }
@@ -122,7 +121,7 @@ fn push_reply(text: &mut Vec<u8>, reply: &Reply) -> Result<(), AllocError>
             push_number(text, u64::from(*count))?;
         }
         Reply::Items(items) => push_items(text, items)?,
-        Reply::Stat(size) => push_stat(text, *size)?,
+        Reply::Stat(stat) => push_stat(text, stat.kind, stat.size)?,
         Reply::Gstate(gstate) => push_gstate(text, gstate)?,
         Reply::Yes(true) => text.extend_from_slice(b"yes")?,
         Reply::Yes(false) => text.extend_from_slice(b"no")?,

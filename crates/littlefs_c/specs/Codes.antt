@@ -1,8 +1,11 @@
 -- Results as one number: 0 or more, or minus an error's number.
-use Rattle.std.specs.Prelude.{ℕ, ℤ, ◌≡◌, pos, ◌-ℤ◌, ◌==◌, if◌then◌else◌, Option, Some, None, Result, Ok, Err}
+use Rattle.std.specs.Prelude.{ℕ, ℤ, ◌≡◌, pos, ◌-ℤ◌, ◌==◌, if◌then◌else◌, Result, Ok, Err}
 use Rattle.lfs_device.specs.Error.{number_of}
 use Rattle.lfs_device.specs.declared.error.Error.{Error}
 use Rattle.lfs_device.specs.declared.error.Error.TheVariants.{Invalid}
+use Rattle.lfs_lookup.specs.declared.kinds.Kind.{Kind}
+use Rattle.lfs_lookup.specs.declared.kinds.Kind.TheVariants as kind
+use Rattle.lfs_lookup.specs.declared.kinds.Stat.{Stat}
 use Rattle.lfs_model.specs.declared.order.NameOrder.{NameOrder}
 use Rattle.lfs_model.specs.declared.order.NameOrder.TheVariants.{LongerFirst, ShorterFirst}
 
@@ -15,9 +18,12 @@ abbrev pub order_of : ℕ → Result NameOrder Error
 order_of n = if n == 0 then Ok LongerFirst else (if n == 1 then Ok ShorterFirst else Err Invalid)
 
 -- a file's size, or 2 to the 32nd for a directory
-abbrev pub size_number : Option ℕ → ℕ
-size_number (Some size) = size
-size_number None = 4294967296
+abbrev pub size_by_kind : Kind → ℕ → ℕ
+size_by_kind kind.File size = size
+size_by_kind kind.Dir size = 4294967296
+
+abbrev pub size_number : Stat → ℕ
+size_number stat = size_by_kind stat.kind stat.size
 
 -- the number is the code of a result of which P holds
 abbrev pub SaysDone : ℤ → (Result Unit Error → Type 0) → Type 0
@@ -26,5 +32,5 @@ SaysDone code P = (r : Result Unit Error) × ((code ≡ code_of (λ _. 0) r) × 
 abbrev pub SaysCount : ℤ → (Result ℕ Error → Type 0) → Type 0
 SaysCount code P = (r : Result ℕ Error) × ((code ≡ code_of (λ n. n) r) × P r)
 
-abbrev pub SaysSize : ℤ → (Result (Option ℕ) Error → Type 0) → Type 0
-SaysSize code P = (r : Result (Option ℕ) Error) × ((code ≡ code_of size_number r) × P r)
+abbrev pub SaysSize : ℤ → (Result Stat Error → Type 0) → Type 0
+SaysSize code P = (r : Result Stat Error) × ((code ≡ code_of size_number r) × P r)

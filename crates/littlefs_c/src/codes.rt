@@ -5,6 +5,7 @@ ghost use Rattle.lfs_device.specs.Error.{number_of};
 ghost use Rattle.littlefs_c.specs.Codes.{code_of, size_number};
 
 use lfs_device::Error;
+use lfs_fs::{Kind, Stat};
 
 fn error_code(error: Error) -> i64
     ensures { result ≡ pos 0 -ℤ pos (number_of error) }
@@ -32,12 +33,14 @@ pub(crate) fn count_code(answer: Result<u32, Error>) -> i64
 }
 
 // Returns a file's size, or 2 to the 32nd for a directory.
-pub(crate) fn size_code(answer: Result<Option<u32>, Error>) -> i64
+pub(crate) fn size_code(answer: Result<Stat, Error>) -> i64
     ensures { result ≡ code_of size_number answer }
 {
     match answer {
-        Ok(Some(size)) => i64::from(size),
-        Ok(None) => 4_294_967_296,
+        Ok(stat) => match stat.kind {
+            Kind::File => i64::from(stat.size),
+            Kind::Dir => 4_294_967_296,
+        },
         Err(error) => error_code(error),
     }
 }

@@ -5,6 +5,7 @@ ghost use Rattle.std.specs.Prelude.{◌∷◌, ◌-◌, ◌^◌, [], min, length
 ghost use Rattle.lfs_model.specs.Operations as ops;
 ghost use Rattle.littlefs_c.specs.Buffers.{FillsBuffer};
 ghost use Rattle.littlefs_c.specs.Calls.{Asks, Changes, Checks};
+ghost use Rattle.lfs_lookup.specs.Finds.{stat_view};
 ghost use Rattle.littlefs_c.specs.Codes.{SaysCount, SaysDone, SaysSize};
 ghost use Rattle.littlefs_c.specs.Files.{reading, writing};
 ghost use Rattle.littlefs_c.specs.Starts.{FormatsIn};
@@ -85,7 +86,7 @@ pub extern "C" fn lfs_c_stat(
     page: u32,
     path: &[u8],
 ) -> i64
-    ensures { SaysSize result (λ r. Asks block_size page image.now (ops.Stat path.now ∷ []) ops.StatIs r) }
+    ensures { SaysSize result (λ r. Asks block_size page image.now (ops.Stat path.now ∷ []) (λ stat. ops.StatIs (stat_view stat)) r) }
 {
     size_code(size_at(alloc, image, block_size, page, path))
 }

@@ -2,10 +2,10 @@
 
 ghost use Rattle.std.specs.Prelude.{◌≡◌, ◌++◌, ◌<◌, map, IfOk, OnOk};
 ghost use Rattle.lfs_model.specs.Listing.{escaped, escaped_text, hex_digit};
-ghost use Rattle.lfs_lookup.specs.Finds.{list_item_view};
+ghost use Rattle.lfs_lookup.specs.Finds.{list_item_view, size_by};
 ghost use Rattle.littlefs_c.specs.Buffers.{head_of, line_of, lines_of};
 
-use lfs_lookup::ListItem;
+use lfs_fs::{Item, Kind};
 use std::alloc::{AllocError, Global};
 use std::io::Write;
 
@@ -43,32 +43,32 @@ fn push_name(text: &mut Vec<u8>, name: &[u8]) -> Result<(), AllocError>
 }
 
 // Adds what a line says before the name: a file's size, or that it is a directory.
-fn push_head(text: &mut Vec<u8>, size: Option<u32>) -> Result<(), AllocError>
-    ensures { OnOk result (text.new.items ≡ text.old.items ++ head_of size) }
+fn push_head(text: &mut Vec<u8>, kind: Kind, size: u32) -> Result<(), AllocError>
+    ensures { OnOk result (text.new.items ≡ text.old.items ++ head_of (size_by kind size)) }
 {
-    match size {
-        Some(size) => {
+    match kind {
+        Kind::File => {
             if write!(text, "f {} ", size).is_err() {
                 return Err(AllocError);
             }
         }
-        None => text.extend_from_slice(b"d 0 ")?,
+        Kind::Dir => text.extend_from_slice(b"d 0 ")?,
     }
     Ok(())
 }
 
 // Adds the line of an entry.
-fn push_line(text: &mut Vec<u8>, item: &ListItem) -> Result<(), AllocError>
+fn push_line(text: &mut Vec<u8>, item: &Item) -> Result<(), AllocError>
     ensures { OnOk result (text.new.items ≡ text.old.items ++ line_of (list_item_view item.now)) }
 {
-    push_head(text, item.size)?;
-    push_name(text, &item.name)?;
+    push_head(text, item.kind, item.size)?;
+    push_name(text, item.name.as_slice())?;
     text.push(b'\n')?;
     Ok(())
 }
 
 // Returns the lines of a directory's entries, in their order.
-pub(crate) fn lines_of(alloc: Global, items: &[ListItem]) -> Result<Vec<u8>, AllocError>
+pub(crate) fn lines_of(alloc: Global, items: &[Item]) -> Result<Vec<u8>, AllocError>
     ensures { IfOk result (λ text. text.items ≡ lines_of (map list_item_view items.now)) }
 {
     let mut text = Vec::new(alloc);

@@ -3,25 +3,24 @@
 ghost use Rattle.std.specs.Prelude.{◌∷◌, [], map};
 ghost use Rattle.lfs_model.specs.Operations as ops;
 ghost use Rattle.lfs_fs.specs.Held.{system_state_of};
-ghost use Rattle.lfs_lookup.specs.Finds.{list_item_view};
+ghost use Rattle.lfs_lookup.specs.Finds.{list_item_view, stat_view};
 ghost use Rattle.littlefs_c.specs.Calls.{Asks};
 ghost use Rattle.littlefs_c.specs.Files.{AppliesWithReply, reading};
 
 use crate::image::begin;
 use lfs_device::{Error, RamDevice};
-use lfs_fs::{OpenFlags, Session};
-use lfs_lookup::ListItem;
+use lfs_fs::{Item, OpenFlags, Session, Stat};
 use std::alloc::Global;
 
-// Returns a file's size in bytes, or None for a directory.
+// Returns what is at a path.
 pub(crate) fn size_at(
     alloc: Global,
     image: &[u8],
     block_size: u32,
     page: u32,
     path: &[u8],
-) -> Result<Option<u32>, Error>
-    ensures { Asks block_size page image.now (ops.Stat path.now ∷ []) ops.StatIs result }
+) -> Result<Stat, Error>
+    ensures { Asks block_size page image.now (ops.Stat path.now ∷ []) (λ stat. ops.StatIs (stat_view stat)) result }
 {
     let mut session = begin(alloc, image, block_size, page)?;
     let answer = session.stat(alloc, path);
@@ -52,7 +51,7 @@ pub(crate) fn items_at(
     block_size: u32,
     page: u32,
     path: &[u8],
-) -> Result<Vec<ListItem>, Error>
+) -> Result<Vec<Item>, Error>
     ensures { Asks block_size page image.now (ops.ListAll path.now ∷ []) (λ items. ops.Items (map list_item_view items.items)) result }
 {
     let mut session = begin(alloc, image, block_size, page)?;

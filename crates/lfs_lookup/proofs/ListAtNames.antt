@@ -1,0 +1,84 @@
+-- Names of entries are short.
+use Rattle.std.proofs.Common.{ℕ, zero, suc, ◌≡◌, ◌≤◌, ◌+◌, ◌==◌, ◌&&◌, Bool, true, false, cond, not, List, [], ◌∷◌, filter, length, take, drop, refl}
+use Rattle.std.specs.Prelude.{All, nat_le}
+use Rattle.std.specs.List.{remove}
+use Rattle.std.proofs.lemmas.Bool.{leb-true}
+use Rattle.std.proofs.lemmas.List.Elements.{recursion_from_All}
+use Rattle.lfs_model.specs.Disk.{Disk}
+use Rattle.lfs_model.specs.Names.{is_component, name_limit}
+use Rattle.lfs_model.specs.Slots.{Gstate, Slot, is_superblock, same_pair}
+use Rattle.lfs_model.specs.Thread.{Pair, gstate_of, superblocks_before, unmoved, visible}
+use Rattle.lfs_model.specs.Tree.{Path}
+use Rattle.lfs_model.specs.View.{IsAccepted, IsEntry, MayHaveSuperblock}
+use Rattle.lfs_model.specs.Shown.{Leads, entries_in}
+use Rattle.lfs_model.proofs.Counts.{Each, each_weaker}
+use Rattle.lfs_lookup.proofs.Visits.{each_visible}
+
+abbrev pub name_fits : Slot → Type 0
+name_fits s = length s.name ≤ name_limit
+
+-- of a superblock nothing is said
+abbrev may_fit : Slot → Type 0
+may_fit s = is_superblock s ≡ false → name_fits s
+
+right : (a b : Bool) → (a && b) ≡ true → b ≡ true
+right true b e = e
+right false b e = absurd (cc)
+
+entry_fits : (s : Slot) → IsEntry s → may_fit s
+entry_fits s h k = leb-true (length s.name) name_limit (right (is_component s.name) (nat_le (length s.name) name_limit) h.name)
+
+entries_fit : (slots : List Slot) → All IsEntry slots → Each may_fit slots
+entries_fit slots h = each_weaker IsEntry may_fit entry_fits slots (recursion_from_All IsEntry slots h)
+
+headed_fit : (bytes : List ℕ) (slots : List Slot) → MayHaveSuperblock bytes slots → Each may_fit slots
+headed_fit bytes [] h = tt
+headed_fit bytes (s ∷ slots) h = ((λ k. let e = h.0 in absurd (cc)), entries_fit slots h.2)
+
+-- ---- the pairs of the thread
+
+each_parted : (P : Pair → Type 0) (n : ℕ) (ps : List Pair) → Each P (take n ps) → Each P (drop n ps) → Each P ps
+each_parted P zero ps h k = k
+each_parted P (suc n) [] h k = tt
+each_parted P (suc n) (p ∷ ps) h k = (h.0, each_parted P n ps h.1 k)
+
+pairs_fit : (disk : Disk) (ps : List Pair) → IsAccepted disk ps → Each (λ p. Each may_fit p.content.slots) ps
+pairs_fit disk ps ok =
+    let n = superblocks_before ps + 1 in
+    let s = ok.superblock in
+    each_parted (λ p. Each may_fit p.content.slots) n ps
+    (each_weaker (λ (p : Pair). MayHaveSuperblock s.0 p.content.slots) (λ (p : Pair). Each may_fit p.content.slots) (λ p h. headed_fit s.0 p.content.slots h) (take n ps)
+    (recursion_from_All (λ (p : Pair). MayHaveSuperblock s.0 p.content.slots) (take n ps) s.1.1))
+    (each_weaker (λ (p : Pair). All IsEntry p.content.slots) (λ (p : Pair). Each may_fit p.content.slots) (λ p h. entries_fit p.content.slots h) (drop n ps)
+    (recursion_from_All (λ (p : Pair). All IsEntry p.content.slots) (drop n ps) ok.slots))
+
+-- ---- what they show
+
+fit_removed : (xs : List Slot) (id : ℕ) → Each may_fit xs → Each may_fit (remove xs id)
+fit_removed [] zero h = tt
+fit_removed [] (suc id) h = tt
+fit_removed (x ∷ xs) zero h = h.1
+fit_removed (x ∷ xs) (suc id) h = (h.0, fit_removed xs id h.1)
+
+fit_unmoved : (g : Gstate) (p : Pair) → Each may_fit p.content.slots → Each may_fit (unmoved g p)
+fit_unmoved g p h = go (g.kind == 0x4ff && same_pair g.pair p.at)
+  where
+    go : (b : Bool) → Each may_fit (cond b (remove p.content.slots g.id) p.content.slots)
+    go true = fit_removed p.content.slots g.id h
+    go false = h
+
+fit_shown : (slots : List Slot) → Each may_fit slots → Each name_fits (filter (λ s. not (is_superblock s)) slots)
+fit_shown [] h = tt
+fit_shown (s ∷ slots) h = go (is_superblock s) refl (fit_shown slots h.1)
+  where
+    go : (b : Bool) → is_superblock s ≡ b → Each name_fits (filter (λ s. not (is_superblock s)) slots)
+        → Each name_fits (cond (not b) (s ∷ filter (λ s. not (is_superblock s)) slots) (filter (λ s. not (is_superblock s)) slots))
+    go true e rest = rest
+    go false e rest = (h.0 e, rest)
+
+-- each entry of a directory has a short name
+pub fitting_names : (disk : Disk) (ps : List Pair) (path : Path) (at : ℕ × ℕ) → IsAccepted disk ps → Leads ps path at → Each name_fits (entries_in ps at)
+fitting_names disk ps path at ok leads =
+    each_visible name_fits disk ps path at ok leads
+    (each_weaker (λ (p : Pair). Each may_fit p.content.slots) (λ (p : Pair). Each name_fits (visible (gstate_of ps) p))
+    (λ p h. fit_shown (unmoved (gstate_of ps) p) (fit_unmoved (gstate_of ps) p h)) ps (pairs_fit disk ps ok))

@@ -1,5 +1,10 @@
-//! A file system in memory: makes a directory, writes a file, mounts the device again, and reads it.
+//! File systems in memory. First a directory is made, a file is written, the device is mounted again, and the file is read. Then
+//! come a device of one's own, a loss of power and its recovery, and a list of operations.
 #![tactic(auto)]
+
+mod operations;
+mod own_device;
+mod recovery;
 
 use lfs_device::{Error, Geometry, RamDevice};
 use lfs_fs::{OpenFlags, Session, format};
@@ -29,7 +34,10 @@ fn main(rt: HostRuntime) -> io::Result<()> {
         Ok(bytes) => println!(rt;
             "/log/today: {}",
             str::from_utf8(&bytes).unwrap_or("no text")
-        ),
-        Err(error) => println!(rt; "error {error:?} {}", error.number()),
+        )?,
+        Err(error) => println!(rt; "error {error:?} {}", error.number())?,
     }
+    own_device::show(&rt)?;
+    recovery::show(&rt)?;
+    operations::show(&rt)
 }

@@ -1,0 +1,45 @@
+// A list of operations, which a session carries out in turn.
+
+use lfs_device::{Error, Geometry, RamDevice};
+use lfs_fs::{Op, OpenFlags, Reply, format};
+use std::alloc::Global;
+use std::io;
+
+// The replies to operations on a new file system, a refusal among them.
+fn replies(alloc: Global) -> Result<Vec<Reply>, Error> {
+    let device = RamDevice::blank(alloc, Geometry::new(4096, 256, 16)?)?;
+    let mut session = format(alloc, device).map_err(|(_, error)| error)?;
+    let operations = [
+        Op::Mkdir(b"/log"),
+        Op::Open(b"/log/today", OpenFlags::WRITE | OpenFlags::CREATE),
+        Op::Write(0, b"21.5 degrees"),
+        Op::Close(0),
+        Op::Stat(b"/log/today"),
+        Op::Mkdir(b"/log"),
+    ];
+    session.run(alloc, &operations)
+}
+
+fn show_reply(rt: &HostRuntime, reply: &Reply) -> io::Result<()> {
+    match reply {
+        Reply::Done => println!(rt; "done"),
+        Reply::Fd(file) => println!(rt; "file {file}"),
+        Reply::Count(count) => println!(rt; "count {count}"),
+        Reply::Stat(Some(size)) => println!(rt; "size {size}"),
+        Reply::Refused(error) => println!(rt; "refused {error:?}"),
+        _ => println!(rt; "another reply"),
+    }
+}
+
+/// Shows each reply in a line.
+pub fn show(rt: &HostRuntime) -> io::Result<()> {
+    match replies(rt.alloc()) {
+        Ok(replies) => {
+            for reply in &replies {
+                show_reply(rt, reply)?;
+            }
+            Ok(())
+        }
+        Err(error) => println!(rt; "error {error:?}"),
+    }
+}

@@ -1,0 +1,125 @@
+// A device of one's own, from nothing: a chip in memory, whose erases fill a block with 0xff.
+
+ghost use Rattle.std.specs.Prelude.{◌≡◌, ◌≤◌, ◌<◌, ◌+◌, ◌*◌, length, replicate};
+ghost use Rattle.lfs_model.specs.Blocks.{cut, overwritten};
+ghost use Rattle.lfs_model.specs.Conformance.{AllConform};
+ghost use Rattle.lfs_model.specs.History.{IsNewest};
+ghost use Rattle.lfs_device.specs.Bytes.{AreBytes};
+
+use lfs_device::{BlockDevice, Error, Geometry, Trace};
+use lfs_fs::format;
+use std::alloc::Global;
+use std::io;
+
+// A chip: its bytes, block after block, and the calls that it had, which only proofs see.
+#[derive(Drop)]
+struct Chip {
+    geometry: Geometry,
+    bytes: Vec<u8>,
+    trace: Trace,
+    ghost are_bytes: { AreBytes bytes.items },
+    ghost size: { length bytes.items ≡ geometry.block_size * geometry.block_count },
+    ghost newest: { IsNewest trace.events (cut geometry.block_size geometry.block_count bytes.items) },
+    ghost conforms: { AllConform trace.events },
+}
+
+impl Chip {
+    // A chip that holds 0xff in every byte.
+    fn new(alloc: Global, geometry: Geometry) -> Result<Chip, Error> {
+        let len = geometry.block_size as usize * geometry.block_count as usize;
+        let bytes = Vec::from_elem(alloc, 0xffu8, len)?;
+        Ok(Chip {
+            geometry,
+            bytes,
+            trace: Trace::from_proof(&geometry, &()),
+        })
+    }
+
+    // Where a byte is.
+    fn position(&self, block: u32, off: u32) -> usize
+        requires in_device { block < self.now.geometry.block_count }
+        requires in_block { off ≤ self.now.geometry.block_size }
+        ensures { result ≡ self.now.geometry.block_size * block + off }
+    {
+        self.geometry.block_size as usize * block as usize + off as usize
+    }
+}
+
+// Writes bytes over those from an offset on.
+fn overwrite(all: &mut Vec<u8>, at: usize, bytes: &[u8])
+    requires { at + length bytes.now ≤ length all.old.items }
+    ensures { all.new.items ≡ overwritten all.old.items at bytes.now }
+{
+    all[at..at + bytes.len()].copy_from_slice(bytes);
+}
+
+// Leaves 0xff in so many bytes from an offset on.
+fn fill(all: &mut Vec<u8>, at: usize, len: usize)
+    requires { at + len ≤ length all.old.items }
+    ensures filled { all.new.items ≡ overwritten all.old.items at (replicate len 255) }
+    ensures are_bytes { AreBytes all.old.items → AreBytes all.new.items }
+{
+    all[at..at + len].fill(0xff);
+}
+
+impl BlockDevice for Chip {
+    ghost use Rattle.lfs_model.proofs.Cuts.{IsDivided-cut};
+    ghost use Rattle.lfs_device.specs.ByteLists.{HasBytes-cut};
+
+    ghost geometry = { λ d. d.geometry };
+
+    ghost blocks = { λ d. cut d.geometry.block_size d.geometry.block_count d.bytes.items };
+
+    ghost history = { λ d. d.trace.events };
+
+    ghost shape = { λ d. IsDivided-cut d.geometry.block_size d.geometry.block_count d.bytes.items d.size };
+
+    ghost bytes = { λ d. HasBytes-cut d.geometry.block_size d.geometry.block_count d.bytes.items d.are_bytes };
+
+    ghost newest = { λ d. d.newest };
+
+    ghost conforms = { λ d. d.conforms };
+
+    fn geometry(&self) -> Geometry {
+        self.geometry
+    }
+
+    fn read(&mut self, block: u32, off: u32, buf: &mut [u8]) -> Result<(), Error> {
+        let start = self.position(block, off);
+        buf.copy_from_slice(&self.bytes[start..start + buf.len()]);
+        self.trace = Trace::from_proof(self, &(block, off, buf.len()));
+        Ok(())
+    }
+
+    fn prog(&mut self, block: u32, off: u32, bytes: &[u8]) -> Result<(), Error> {
+        let trace = Trace::from_proof(self, &(block, off, bytes));
+        let start = self.position(block, off);
+        overwrite(&mut self.bytes, start, bytes);
+        self.trace = trace;
+        Ok(())
+    }
+
+    fn erase(&mut self, block: u32) -> Result<(), Error> {
+        let trace = Trace::from_proof(self, &block);
+        let start = self.position(block, 0);
+        fill(&mut self.bytes, start, self.geometry.block_size as usize);
+        self.trace = trace;
+        Ok(())
+    }
+}
+
+// How many blocks are used on a chip with a directory.
+fn used_on_chip(alloc: Global) -> Result<u32, Error> {
+    let chip = Chip::new(alloc, Geometry::new(4096, 256, 16)?)?;
+    let mut session = format(alloc, chip).map_err(|(_, error)| error)?;
+    session.mkdir(alloc, b"/log")?;
+    session.used_count()
+}
+
+/// Shows how many there are.
+pub fn show(rt: &HostRuntime) -> io::Result<()> {
+    match used_on_chip(rt.alloc()) {
+        Ok(count) => println!(rt; "a device of one's own: {count} blocks used"),
+        Err(error) => println!(rt; "error {error:?}"),
+    }
+}

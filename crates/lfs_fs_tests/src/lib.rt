@@ -1,6 +1,10 @@
 //! Tests of sessions whose device or memory fails, and of the lines of scripts.
 #![tactic(auto)]
 
+mod recovery;
+
+pub use recovery::{recover_from_stop, rename_despite_stop};
+
 #[cfg(test)]
 mod answers;
 #[cfg(test)]
@@ -17,5 +21,7 @@ mod played;
 mod scenes;
 #[cfg(test)]
 mod scripts;
+#[cfg(test)]
+mod stopped_rename;
 #[cfg(test)]
 mod stopping;

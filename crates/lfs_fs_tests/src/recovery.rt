@@ -1,0 +1,84 @@
+// A session whose device stops in an operation, and the session that is mounted and recovered then.
+
+ghost use Rattle.std.specs.Prelude.{◌≡◌};
+ghost use Rattle.lfs_model.specs.Disk.{Disk};
+ghost use Rattle.lfs_model.specs.Operations as ops;
+ghost use Rattle.lfs_model.specs.PowerLoss.{IsLeftByStop};
+ghost use Rattle.lfs_model.specs.Premises.{MeetsPremises};
+ghost use Rattle.lfs_model.specs.RepeatedPowerLoss.{IsMounted, SameBytes};
+ghost use Rattle.lfs_model.specs.Tree.{Tree};
+ghost use Rattle.lfs_model.specs.declared.order.NameOrder.{NameOrder};
+ghost use Rattle.lfs_device.specs.RamDevice.{geometry_of, ram_blocks};
+ghost use Rattle.lfs_device.specs.Shown.{disk_of, ordered};
+ghost use Rattle.lfs_fs.specs.Held.{system_state_of};
+ghost use Rattle.lfs_fs_tests.specs.Recovered.{Recovers, RecoversFrom};
+
+use lfs_device::{Error, FaultDevice, RamDevice, ram_devices_are_reliable};
+use lfs_fs::{Session, mount};
+use lfs_model::losses_are_survived;
+use std::alloc::Global;
+
+// The session that a mount began, with nothing left to recover.
+fn recover_session(
+    alloc: Global,
+    mut session: Session<RamDevice>,
+) -> Result<Session<RamDevice>, Error>
+    ensures { (left other : Disk) (before after : Tree) → IsLeftByStop left before after → SameBytes left other → IsMounted other (system_state_of session)
+        → Recovers before after result }
+{
+    losses_are_survived();
+    match session.recover(alloc) {
+        Ok(()) => Ok(session),
+        Err(error) => Err(error),
+    }
+}
+
+// A session over a device with an image, with nothing left to recover.
+fn recover_device(alloc: Global, device: RamDevice) -> Result<Session<RamDevice>, Error>
+    ensures { (order : NameOrder) (before after : Tree) → IsLeftByStop (ordered order (disk_of (geometry_of device) (ram_blocks device))) before after
+        → Recovers before after result }
+{
+    match mount(alloc, device) {
+        Ok(session) => recover_session(alloc, session),
+        Err((_, error)) => Err(error),
+    }
+}
+
+/// A session over what a device holds that stopped, with nothing left to recover.
+///
+/// # Errors
+///
+/// `Invalid` where a program of the device may have been torn, since its bytes are anything then.
+/// `NoMemory` where memory isn't granted.
+pub fn recover_from_stop(
+    alloc: Global,
+    session: Session<FaultDevice<RamDevice>>,
+) -> Result<Session<RamDevice>, Error>
+    ensures { (before after : Tree) → (MeetsPremises session.tree.history → IsLeftByStop session.tree.disk before after) → Recovers before after result }
+{
+    ram_devices_are_reliable();
+    let device = session.unmount();
+    if device.tears() {
+        return Err(Error::Invalid);
+    }
+    device.meets_premises();
+    recover_device(alloc, device.into_inner())
+}
+
+/// Renames, whether or not the device stops in it, and begins a session over what is left: it has
+/// the tree from before the rename, or the one from after it.
+///
+/// # Errors
+///
+/// Those of [`recover_from_stop`].
+pub fn rename_despite_stop(
+    alloc: Global,
+    mut session: Session<FaultDevice<RamDevice>>,
+    from: &[u8],
+    to: &[u8],
+) -> Result<Session<RamDevice>, Error>
+    ensures { RecoversFrom (system_state_of session) (ops.Rename from.now to.now) result }
+{
+    let _ = session.rename(alloc, from, to);
+    recover_from_stop(alloc, session)
+}

@@ -11,14 +11,14 @@ use std::time::Instant;
 
 const BLOCK: u32 = 4096;
 
-// An empty file system on a device in memory.
+// Makes an empty file system on a device in memory.
 fn begun(alloc: Global, blocks: u32) -> Result<Measured, Error> {
     let device = RamDevice::blank(alloc, Geometry::new(BLOCK, 256, blocks)?)?;
     let erased = Vec::from_elem(alloc, 0u32, blocks as usize).map_err(lacks)?;
     format(alloc, Watched::with_blocks(device, erased)).map_err(|(_, error)| error)
 }
 
-// Makes what is there before a row is measured.
+// Makes the files that are there before a row is measured.
 fn prepare(alloc: Global, session: &mut Measured, row: &str, count: u32) -> Result<(), Error> {
     match row {
         "create50" => files::make_directories(alloc, session, 50),
@@ -108,7 +108,7 @@ fn show_counts(rt: &HostRuntime, row: &str, counts: &Counts, nanoseconds: u128) 
     )
 }
 
-// How often each block was erased, a line each.
+// Prints how often each block was erased, a line each.
 fn show_erased(rt: &HostRuntime, session: &Measured) -> io::Result<()> {
     for count in session.device().erased() {
         println!(rt; "{count}")?;
@@ -116,7 +116,7 @@ fn show_erased(rt: &HostRuntime, session: &Measured) -> io::Result<()> {
     Ok(())
 }
 
-// Prepares a session, carries out the row, and prints what that took.
+// Prepares a session, performs the row, and prints its costs.
 fn measure(rt: &HostRuntime, session: &mut Measured, row: &str, count: u32) -> io::Result<()> {
     if let Err(error) = prepare(rt.alloc(), session, row, count) {
         return println!(rt; "{error:?}");
@@ -138,9 +138,9 @@ fn measure(rt: &HostRuntime, session: &mut Measured, row: &str, count: u32) -> i
     show_counts(rt, row, &counts, time.as_nanos())
 }
 
-/// Carries out a row on a device of so many blocks of 4,096 bytes, with so many operations. Prints the
-/// row, its reads, bytes read, programs, bytes programmed, erases and nanoseconds; of a row about wear
-/// also how often each block was erased.
+/// Performs a row on a device of so many blocks of 4,096 bytes, with so many operations. Prints the
+/// row, its reads, bytes read, programs, bytes programmed, erases and nanoseconds. Of a row about
+/// wear it also prints how often each block was erased.
 pub fn show(rt: &HostRuntime, row: &str, blocks: u32, count: u32) -> io::Result<()> {
     let mut session = match begun(rt.alloc(), blocks) {
         Ok(session) => session,

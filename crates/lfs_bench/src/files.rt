@@ -8,7 +8,7 @@ use std::alloc::Global;
 /// The file system that the rows work on.
 pub type Measured = Session<Watched<RamDevice>>;
 
-/// The error in place of one that says no more than that memory isn't there.
+/// Returns the error in place of one that only says that memory isn't there.
 pub fn lacks<T: Drop>(_: T) -> Error {
     Error::NoMemory
 }
@@ -17,7 +17,7 @@ fn digit(number: u32) -> u8 {
     b'0' + (number % 10) as u8
 }
 
-/// The path of a directory of the root, by its number below 1,000.
+/// Returns the path of a directory of the root, by its number below 1,000.
 pub fn directory_path(alloc: Global, number: u32) -> Result<Vec<u8>, Error> {
     let name = [
         b'/',
@@ -29,8 +29,8 @@ pub fn directory_path(alloc: Global, number: u32) -> Result<Vec<u8>, Error> {
     Vec::from_slice(alloc, &name).map_err(lacks)
 }
 
-/// The path of a file by its number below 100,000: in the root where there are no directories, else in
-/// the directory with the number modulo their count.
+/// Returns the path of a file by its number below 100,000. The file is in the root where there are
+/// no directories, else in the directory with the number modulo their count.
 pub fn file_path(alloc: Global, number: u32, directories: u32) -> Result<Vec<u8>, Error> {
     let mut path = match number.checked_rem(directories) {
         Some(directory) => directory_path(alloc, directory)?,
@@ -80,7 +80,7 @@ pub fn make_files(
     Ok(())
 }
 
-/// Asks for the size of each file, every seventh first.
+/// Queries the size of each file, every seventh first.
 pub fn stat_files(
     alloc: Global,
     session: &mut Measured,
@@ -153,7 +153,7 @@ pub fn make_deep(alloc: Global, session: &mut Measured) -> Result<(), Error> {
     put(alloc, session, path.as_slice(), b"hello")
 }
 
-/// Asks for the size of that file, so often.
+/// Queries the size of that file, so often.
 pub fn stat_deep(alloc: Global, session: &mut Measured, count: u32) -> Result<(), Error> {
     for _ in 0..count {
         session.stat(alloc, b"/dd/dd/dd/dd/dd/dd/dd/dd/dd/dd/dd/dd/f")?;

@@ -1,5 +1,5 @@
-// A benchmark of look-ups in a block of 64 KiB. It holds a thousand files, each created in front of
-// the others.
+// A benchmark of look-ups in a block of 64 KiB. It holds a thousand files, each created before the
+// others.
 
 use lfs_device::NameOrder;
 use lfs_tag::kinds::{CREATE, FILE_NAME};

@@ -11,7 +11,7 @@ pub struct Counts {
     pub programs: u64,
     pub program_bytes: u64,
     pub erases: u64,
-    /// The programs of a block from its first byte on right behind its erase, each of a later block
+    /// The programs of a block from its first byte on right after its erase, each of a later block
     /// than the one before.
     pub in_turn: u64,
 }
@@ -26,7 +26,7 @@ impl Counts {
         in_turn: 0,
     };
 
-    /// The calls since a moment whose counts are given.
+    /// The calls since the counts that are given.
     pub fn since(&self, before: &Counts) -> Counts {
         Counts {
             reads: self.reads.saturating_sub(before.reads),
@@ -39,13 +39,13 @@ impl Counts {
     }
 }
 
-// What was called, and in which order.
+// The calls that were made, and their order.
 #[derive(Clone, Copy)]
 struct Turns {
     counts: Counts,
     // The block that was erased last, until it is programmed.
     erased: Option<u32>,
-    // The block of the last program in turn.
+    // The block of the last program in order.
     last: Option<u32>,
 }
 
@@ -75,12 +75,12 @@ impl Turns {
     }
 }
 
-/// A device with the counts of its calls.
+/// Makes a device with the counts of its calls.
 #[derive(Drop)]
 pub struct Watched<D: BlockDevice> {
     inner: D,
     turns: Turns,
-    // How often each block was erased. Of a block past its end that isn't counted.
+    // How often each block was erased. Blocks past its end aren't counted.
     erased: Vec<u32>,
 }
 
@@ -89,7 +89,7 @@ impl<D: BlockDevice> Watched<D> {
         Watched::with_blocks(inner, Vec::new(alloc))
     }
 
-    /// A device with the numbers that the counts of each block's erases begin with.
+    /// Makes a device with the numbers with which the counts of each block's erases begin.
     pub fn with_blocks(inner: D, erased: Vec<u32>) -> Watched<D> {
         Watched {
             inner,
@@ -106,7 +106,7 @@ impl<D: BlockDevice> Watched<D> {
         self.turns.counts
     }
 
-    /// How often each block was erased.
+    /// Borrows the counts of each block's erases.
     pub fn erased(&self) -> &[u32] {
         &self.erased
     }

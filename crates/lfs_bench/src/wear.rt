@@ -1,4 +1,4 @@
-// How a device wears that is mounted again and again.
+// How a device wears that is mounted many times.
 
 use crate::contents::{append, replace};
 use crate::files::{Measured, file_path, make_directories};
@@ -7,7 +7,7 @@ use std::alloc::Global;
 
 const FILE: [u8; 700] = [b'x'; 700];
 
-// Appends to a log, which is removed once it has more than 40,000 bytes.
+// Appends to a log, which is removed after it has more than 40,000 bytes.
 fn append_log(alloc: Global, session: &mut Measured, bytes: &[u8]) -> Result<(), Error> {
     append(alloc, session, b"/log", bytes)?;
     if session.stat(alloc, b"/log")?.size > 40000 {
@@ -16,8 +16,8 @@ fn append_log(alloc: Global, session: &mut Measured, bytes: &[u8]) -> Result<(),
     Ok(())
 }
 
-// One operation that the generator's state picks: a file is written anew, a log is appended to, or a file
-// is removed, where it is there.
+// Performs one operation that the generator's state picks: a file is written anew, a log is
+// appended to, or a file is removed, where it is there.
 fn operate(alloc: Global, session: &mut Measured, state: u32) -> Result<(), Error> {
     let path = file_path(alloc, (state >> 8) % 12, 3)?;
     let kind = (state >> 16) % 10;
@@ -34,7 +34,7 @@ fn operate(alloc: Global, session: &mut Measured, state: u32) -> Result<(), Erro
     }
 }
 
-/// So many operations, with a mount after each 20.
+/// Performs so many operations, with a mount after each 20.
 pub fn operate_often(alloc: Global, session: &mut Measured, count: u32) -> Result<(), Error> {
     make_directories(alloc, session, 3)?;
     let mut state = 1u32;
@@ -48,7 +48,7 @@ pub fn operate_often(alloc: Global, session: &mut Measured, count: u32) -> Resul
     Ok(())
 }
 
-/// So many mounts, each with 100 bytes appended to a log.
+/// Mounts so often, each time with 100 bytes appended to a log.
 pub fn log_at_mounts(alloc: Global, session: &mut Measured, count: u32) -> Result<(), Error> {
     for _ in 0..count {
         session.remount(alloc)?;
@@ -57,7 +57,7 @@ pub fn log_at_mounts(alloc: Global, session: &mut Measured, count: u32) -> Resul
     Ok(())
 }
 
-/// So many mounts, each with a counter that is written anew.
+/// Mounts so often, each time with a counter that is written anew.
 pub fn count_mounts(alloc: Global, session: &mut Measured, count: u32) -> Result<(), Error> {
     for _ in 0..count {
         session.remount(alloc)?;

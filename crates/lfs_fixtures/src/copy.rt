@@ -8,8 +8,9 @@ use std::alloc::Global;
 
 /// Copies the block `from` over the block `to`, which is erased first and programmed a page at a time.
 ///
-/// `NoMemory` where there is none for the bytes of a block; the device is then untouched.
-/// After `Io`, and after a loss of power at any moment, `to` may hold any bytes, and each other block what it held.
+/// Errors: `NoMemory` where memory for the bytes of a block isn't granted; the device is untouched
+/// then. `Io` where the device failed. After `Io`, and after a loss of power at any time, `to` may
+/// hold any bytes, and each other block what it held.
 pub fn copy_block<D: BlockDevice>(
     alloc: Global,
     device: &mut D,

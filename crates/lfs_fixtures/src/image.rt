@@ -1,8 +1,8 @@
-// Images of 16 blocks of 4,096 bytes, in their tags and bytes: nothing of the crates that read them makes them.
+// Images of 16 blocks of 4,096 bytes, made of tags and bytes without the crates that read them.
 
 use std::alloc::{AllocError, Global};
 
-/// What a commit holds: each tag with its bytes.
+/// The entries of a commit: each tag with its bytes.
 pub type Entries<'a> = &'a [(u32, &'a [u8])];
 
 // The superblock's struct: version 2.0, 16 blocks of 4,096 bytes, and three limits.
@@ -10,7 +10,7 @@ const FIELDS: [u8; 24] = [
     0, 0, 2, 0, 0, 16, 0, 0, 16, 0, 0, 0, 255, 0, 0, 0, 255, 255, 255, 127, 254, 3, 0, 0,
 ];
 
-// The checksum, bit by bit.
+// Computes the checksum, bit by bit.
 fn checksum(bytes: &[u8]) -> u32 {
     let mut sum = 0xffff_ffffu32;
     for byte in bytes {
@@ -26,7 +26,8 @@ fn checksum(bytes: &[u8]) -> u32 {
     sum
 }
 
-// Adds a commit behind the last tag, up to the next page of 256 bytes, and gives its own last tag.
+// Adds a commit after the last tag, up to the next page of 256 bytes. Returns the commit's own last
+// tag.
 fn push_commit(bytes: &mut Vec<u8>, last: u32, entries: Entries<'_>) -> Result<u32, AllocError> {
     let start = match bytes.len() {
         4 => 0,
@@ -48,7 +49,7 @@ fn push_commit(bytes: &mut Vec<u8>, last: u32, entries: Entries<'_>) -> Result<u
     Ok(tag)
 }
 
-// A block with the superblock in its first commit, and the last tag of that.
+// Makes a block with the superblock in its first commit. Returns also the last tag of that commit.
 fn begun(alloc: Global, revision: u32) -> Result<(Vec<u8>, u32), AllocError> {
     let mut bytes = Vec::from_slice(alloc, &revision.to_le_bytes())?;
     let superblock = [
@@ -59,7 +60,7 @@ fn begun(alloc: Global, revision: u32) -> Result<(Vec<u8>, u32), AllocError> {
     Ok((bytes, last))
 }
 
-/// A block with the superblock in its first commit, and these commits behind it.
+/// Makes a block with the superblock in its first commit, and these commits after it.
 pub fn first_block(
     alloc: Global,
     revision: u32,
@@ -72,7 +73,7 @@ pub fn first_block(
     Ok(bytes)
 }
 
-/// A block with a commit of these behind the superblock's, where there are any.
+/// Makes a block with a commit of these after the superblock's, where there are any.
 pub fn block_with(
     alloc: Global,
     revision: u32,
@@ -85,14 +86,14 @@ pub fn block_with(
     Ok(bytes)
 }
 
-// A block with one commit of these.
+// Makes a block with one commit of these.
 fn block_of(alloc: Global, entries: Entries<'_>) -> Result<Vec<u8>, AllocError> {
     let mut bytes = Vec::from_slice(alloc, &[1, 0, 0, 0])?;
     push_commit(&mut bytes, 0xffff_ffff, entries)?;
     Ok(bytes)
 }
 
-/// What stands in a block: a commit, or bytes.
+/// What a block holds: a commit, or bytes.
 #[derive(Clone, Copy)]
 pub enum Held<'a> {
     Commit(Entries<'a>),
@@ -120,7 +121,7 @@ fn put_held(
     Ok(())
 }
 
-/// An image: a second commit of its first block, and its other blocks.
+/// Makes an image of a second commit of its first block, and its other blocks.
 pub fn image_with(
     alloc: Global,
     entries: Entries<'_>,
@@ -134,7 +135,7 @@ pub fn image_with(
     Ok(image)
 }
 
-/// An image of which these are the first two blocks.
+/// Makes an image of which these are the first two blocks.
 pub fn image_of(alloc: Global, first: &[u8], second: &[u8]) -> Result<Vec<u8>, AllocError> {
     let mut image = Vec::from_slice(alloc, first)?;
     image.resize(4096, 0xff)?;

@@ -1,5 +1,4 @@
-//! What crosses crates: clients of the layers, proved over any device, and images for the tests of
-//! several crates.
+//! Clients of the layers, proved over any device, and images for the tests of several crates.
 #![tactic(auto)]
 
 mod bytes;

@@ -5,9 +5,10 @@ use lfs_alloc::BlockMap;
 use lfs_ctz::walk;
 use lfs_device::{BlockDevice, Error};
 
-/// Marks the blocks of a file's list in a map, and says whether each of them was there and free.
+/// Marks the blocks of a file's list in a map. Returns whether each of them was there and free.
 ///
-/// `Corrupt` where the list isn't well formed, and `Io` where a read failed. Some blocks may be marked then.
+/// Errors: `Corrupt` where the list isn't well formed. `Io` where a read failed. Some blocks may be
+/// marked then.
 pub fn mark_list<D: BlockDevice>(
     device: &mut D,
     map: &mut BlockMap,

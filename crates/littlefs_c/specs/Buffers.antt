@@ -10,7 +10,7 @@ use Rattle.lfs_model.specs.Run.{SystemState}
 use Rattle.lfs_device.specs.declared.error.Error.{Error}
 use Rattle.littlefs_c.specs.Calls.{Refuses, Runs}
 
--- what a line says before its name: of a file of that size, or of a directory
+-- the part of a line before its name: of a file of that size, or of a directory
 abbrev pub head_of : Option ℕ → List ℕ
 head_of (Some size) = codes "f " ++ decimal size ++ codes " "
 head_of None = codes "d 0 "

@@ -49,7 +49,7 @@ Prevents block_size page image Corrupt = (order : NameOrder) (ps : List Pair) �
 Prevents block_size page image NoMemory = Unit {0}
 Prevents block_size page image other = ⊥
 
--- the image is accepted, or the error says why it isn't
+-- the image is accepted, or the error has its cause
 abbrev pub Checks : {X : Type 0} → ℕ → ℕ → List ℕ → Result X Error → Type 0
 Checks block_size page image (Ok x) = IsImageBegun block_size page image
 Checks block_size page image (Err e) = Prevents block_size page image e
@@ -84,7 +84,7 @@ Refuses block_size page image operations e = Prevents block_size page image e �
 
 -- ---- results
 
--- the reply to the last operation, or the error that says why there is none
+-- the reply to the last operation, or the error with the cause for which there is none
 abbrev pub Asks : {X : Type 0} → ℕ → ℕ → List ℕ → List Operation → (X → Reply) → Result X Error → Type 0
 Asks block_size page image operations reply (Ok x) =
     (replies : List Reply) × ((to : SystemState) × Runs block_size page image operations (replies ++ reply x ∷ []) to)
@@ -97,7 +97,7 @@ pub record Leaves (block_size page : ℕ) (old : List ℕ) (operations : List Op
   pub len : length new ≡ length old
   pub disk : to.disk ≡ disk_of block_size page to.disk.order new
 
--- the image is what the operations leave, or it is as it was, and the error says why
+-- the image is what the operations leave, or it is as it was, and the error has its cause
 abbrev pub Changes : {X : Type 0} → ℕ → ℕ → List ℕ → List Operation → Result X Error → List ℕ → Type 0
 Changes block_size page old operations (Ok x) new = Leaves block_size page old operations new
 Changes block_size page old operations (Err e) new = (new ≡ old) × Refuses block_size page old operations e

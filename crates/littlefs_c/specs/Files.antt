@@ -29,12 +29,12 @@ abbrev pub Ends : Bool → Error → SystemState → Operation → SystemState �
 Ends true e from op to = IsSessionStep from op (ops.Refused (refusal_in e)) to
 Ends false e from op to = FailsBy e from op to
 
--- The operations are carried out one after another, and none is refused.
+-- The operations are applied one after another, and none is refused.
 pub record AreAcceptedWithReplies (from : SystemState) (operations : List Operation) (replies : List Reply) (to : SystemState) : Type 0 where
   pub session_steps : AreSessionSteps from operations replies to
   pub accepted : All (λ r. run.is_refusal r ≡ false) replies
 
--- Some of the operations are carried out, and the next one ends in that error.
+-- Some of the operations are applied, and the next one ends in that error.
 pub record AreEndedBy (e : Error) (from : SystemState) (operations : List Operation) (to : SystemState) : Type 0 where
   pub done : List Operation
   pub next : Operation
@@ -45,7 +45,7 @@ pub record AreEndedBy (e : Error) (from : SystemState) (operations : List Operat
   pub carried : AreAcceptedWithReplies from done replies at
   pub ends : Ends (is_refusal e) e at next to
 
--- the operations are carried out, with this reply to the last one, or end in an error
+-- the operations are applied, with this reply to the last one, or end in an error
 abbrev pub AppliesWithReply : {X : Type 0} → SystemState → List Operation → (X → Reply) → Result X Error → SystemState → Type 0
 AppliesWithReply from operations reply (Ok x) to = (replies : List Reply) × AreAcceptedWithReplies from operations (replies ++ reply x ∷ []) to
 AppliesWithReply from operations reply (Err e) to = AreEndedBy e from operations to

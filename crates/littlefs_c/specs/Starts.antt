@@ -15,7 +15,7 @@ pub record IsFormatted (block_size page : ℕ) (order : NameOrder) (old new : Li
   pub fresh : IsFresh (disk_of block_size page order new)
   pub others : SameButThese (0 ∷ 1 ∷ []) (disk_of block_size page order old).blocks (disk_of block_size page order new).blocks
 
--- the image is formatted, or it is as it was, and the error says why
+-- the image is formatted, or it is as it was, and the error has its cause
 abbrev pub FormatsIn : {X : Type 0} → ℕ → ℕ → ℕ → List ℕ → Result X Error → List ℕ → Type 0
 FormatsIn block_size page number old (Ok x) new = (order : NameOrder) × ((order_of number ≡ Ok order) × IsFormatted block_size page order old new)
 FormatsIn block_size page number old (Err e) new = (new ≡ old) × ((order_of number ≡ Err e) ⊎ Prevents block_size page old e)

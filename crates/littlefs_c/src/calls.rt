@@ -47,7 +47,7 @@ pub(crate) fn format(
             image.copy_from_slice(session.device().bytes());
             Ok(())
         }
-        // The device has met no fault, so memory wasn't granted.
+        // The device had no fault, so memory wasn't granted.
         Err((_device, error)) => Err(error),
     }
 }

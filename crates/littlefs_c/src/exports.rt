@@ -1,5 +1,5 @@
-// The functions that C calls. bindings/c/littlefs_c.h declares them, and says what the caller has
-// to ensure.
+// The functions that C calls. bindings/c/littlefs_c.h declares them, and has the conditions of
+// their caller.
 
 ghost use Rattle.std.specs.Prelude.{◌∷◌, ◌-◌, ◌^◌, [], min, length};
 ghost use Rattle.lfs_model.specs.Operations as ops;

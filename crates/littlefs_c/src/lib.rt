@@ -1,4 +1,4 @@
-//! littlefs over images in memory, to be called from C. Each call carries out one operation of a
+//! littlefs over images in memory, to be called from C. Each call performs one operation of a
 //! session.
 #![tactic(auto)]
 

@@ -42,7 +42,7 @@ fn push_name(text: &mut Vec<u8>, name: &[u8]) -> Result<(), AllocError>
     Ok(())
 }
 
-// Adds what a line says before the name: a file's size, or that it is a directory.
+// Adds the part of a line before the name: a file's size, or that it is a directory.
 fn push_head(text: &mut Vec<u8>, kind: Kind, size: u32) -> Result<(), AllocError>
     ensures { OnOk result (text.new.items ≡ text.old.items ++ head_of (size_by kind size)) }
 {

@@ -1,4 +1,4 @@
-// Questions to an image.
+// Queries of an image.
 
 ghost use Rattle.std.specs.Prelude.{◌∷◌, [], map};
 ghost use Rattle.lfs_model.specs.Operations as ops;
@@ -24,7 +24,7 @@ pub(crate) fn size_at(
 {
     let mut session = begin(alloc, image, block_size, page)?;
     let answer = session.stat(alloc, path);
-    // The device has met no fault.
+    // The device had no fault.
     let _device = session.device();
     answer
 }

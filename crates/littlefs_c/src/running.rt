@@ -42,7 +42,7 @@ fn carry_out(
 {
     let mut session = begin(alloc, image, block_size, page)?;
     let answer = session.run(alloc, ops);
-    // The device has met no fault. So where the run ended in an error, memory wasn't granted.
+    // The device had no fault. So where the run ended in an error, memory wasn't granted.
     let _device = session.device();
     match first_refusal(&answer?) {
         Some(error) => Err(error),

@@ -10,8 +10,9 @@ use std::io::{ErrorKind, Write};
 use std::rt::Files;
 use std::{fs, io};
 
-/// A folder of the real file system, made at the first call where it isn't there. A name that isn't
-/// UTF-8 is a fault. So is a path with something else than a file or a folder, as a symbolic link.
+/// A folder of the real file system. It is made at the first call where it isn't there, and so are the
+/// folders above it. A name that isn't UTF-8 is a fault. So is a path with something else than a file
+/// or a folder, as a symbolic link.
 #[derive(Drop)]
 pub struct TargetFolder<'a, R> {
     rt: &'a R,
@@ -27,6 +28,14 @@ fn make<R: Files>(rt: &R, path: &str) -> io::Result<()> {
     match fs::symlink_metadata(rt, path) {
         Ok(there) if there.is_dir() => Ok(()),
         _ => Err(error),
+    }
+}
+
+// Makes a folder and those above it, unless there is one.
+fn make_with_those_above<R: Files>(rt: &R, path: &str) -> io::Result<()> {
+    match make(rt, path) {
+        Err(error) if error.kind() == ErrorKind::NotFound => fs::create_dir_all(rt, path),
+        other => other,
     }
 }
 
@@ -53,7 +62,7 @@ impl<'a, R: Files + AllocGlobal + Clone + Drop> TargetFolder<'a, R> {
     // Returns the path in the file system, where it is text. The folder itself is there then.
     fn full(&self, path: &[u8]) -> io::Result<String> {
         let full = full_path(self.rt.alloc(), self.root.as_str(), path)?;
-        make(self.rt, self.root.as_str())?;
+        make_with_those_above(self.rt, self.root.as_str())?;
         Ok(full)
     }
 

@@ -340,7 +340,19 @@ const IMAGE: (&str, Before) = ("runs/image", Before::Image(ENTRIES, BELOW));
 const UNPACKING: &[&[&str]] = &[&["-u", "runs/other", "runs/image"]];
 
 // Images that are unpacked.
-const UNPACKED: [Run; 7] = [
+const UNPACKED: [Run; 8] = [
+    // the folders above the target are made
+    Run {
+        before: &[IMAGE],
+        words: &[&["-u", "runs/x/y", "runs/image"]],
+        status: 0,
+        out: "",
+        err: "",
+        behind: &[(
+            "runs/x/y",
+            Behind::Folder(&[(b"/a", Some(b"hello")), (b"/d", None), (b"/d/x", Some(b""))]),
+        )],
+    },
     // a folder where a file is to be, and a file where a folder is to be
     Run {
         before: &[

@@ -6,8 +6,9 @@ use Rattle.std.specs.Io.Buffered.{reader_inner}
 use Rattle.std.specs.declared.io.buffered.BufReader.{BufReader}
 use Rattle.lfs_tool.specs.Watched.{inner_of}
 use Rattle.lfs_tool.specs.declared.watched.Watched.{Watched}
-use Rattle.lfs_tool.specs.declared.new_image.NewImage.{NewImage}
 use Rattle.lfs_tool.specs.declared.old_image.OldImage.{OldImage}
+use Rattle.lfs_tool_folders.specs.Paths.{image_path}
+use Rattle.lfs_tool_folders.specs.declared.new_image.NewImage.{NewImage}
 
 -- one that is read
 abbrev pub old_image_at : {R F D : Type 0} → Watched (BufReader (OldImage R F D) Global) → List ℕ
@@ -15,4 +16,4 @@ old_image_at w = string_bytes (reader_inner (inner_of w)).path
 
 -- one that is made
 abbrev pub new_image_at : {R F D : Type 0} → Watched (NewImage R F D) → List ℕ
-new_image_at w = string_bytes (inner_of w).path
+new_image_at w = image_path (inner_of w)

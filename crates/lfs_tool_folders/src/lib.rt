@@ -1,18 +1,23 @@
-//! Sources and targets of a tree of files: memory, or a folder of the real file system.
+//! Sources and targets of a tree of files: memory, or a folder of the real file system. And the file
+//! of an image that is made: it is whole at its path, or not there at all.
 #![tactic(auto)]
 
+mod beside;
 mod entries;
 mod full_path;
 mod names;
+mod new_image;
 mod source;
 mod source_folder;
 mod source_memory;
+mod standing;
 mod tally;
 mod target;
 mod target_folder;
 mod target_memory;
 
 pub use entries::{Entry, read_tree};
+pub use new_image::NewImage;
 pub use source::{Kind, Listed, Source, SourceError};
 pub use source_folder::Folder;
 pub use source_memory::{Held, MemorySource};

@@ -493,6 +493,70 @@ const LINKED: [Run; 3] = [
     },
 ];
 
+// A source with a file that is longer than an image of 4096 bytes.
+const LONG: (&str, Before) = ("runs/files/c", Before::Image(ENTRIES, BELOW));
+
+const MAKING_SHORT: &[&[&str]] = &[&[
+    "-c",
+    "runs/files",
+    "-b",
+    "1024",
+    "-p",
+    "128",
+    "-s",
+    "4096",
+    "runs/image",
+]];
+
+// Runs with a file that is too long, and with images that are put in their place or written through a link.
+const PLACED: [Run; 4] = [
+    Run {
+        before: &[LONG],
+        words: MAKING_SHORT,
+        status: 1,
+        out: "",
+        err: "error: NoSpace (28)\n",
+        behind: OLD_IMAGE,
+    },
+    // all of the source is read first, but for what is too long
+    Run {
+        before: &[LONG, ("runs/files/d", Before::Link("a"))],
+        words: MAKING_SHORT,
+        status: 3,
+        out: "",
+        err: "error: input\n",
+        behind: OLD_IMAGE,
+    },
+    Run {
+        before: &[
+            ("runs/link", Before::Link("image")),
+            ("runs/empty", Before::Folder),
+        ],
+        words: &[
+            &["-c", "runs/files", "runs/link"],
+            &["-c", "runs/empty", "runs/link"],
+            &["-l", "runs/image"],
+        ],
+        status: 0,
+        out: "",
+        err: "",
+        behind: &[("runs/image", Behind::Len(65536))],
+    },
+    // nothing else is left in its folder
+    Run {
+        before: &[("runs/empty", Before::Folder)],
+        words: &[
+            &["-c", "runs/files", "runs/empty/image"],
+            &["-c", "runs/empty", "-s", "131072", "runs/image"],
+            &["-l", "runs/image"],
+        ],
+        status: 0,
+        out: "f 65536 /image\n",
+        err: "",
+        behind: &[("runs/image", Behind::Len(131_072))],
+    },
+];
+
 // Runs in which an image is checked.
 const CHECKED: [Run; 5] = [
     Run {
@@ -647,6 +711,7 @@ fn runs(rt: HostRuntime) -> Result<(), Fail> {
     assert!(rt; all_hold(&rt, &READ)?);
     assert!(rt; all_hold(&rt, &UNPACKED)?);
     assert!(rt; all_hold(&rt, &LINKED)?);
+    assert!(rt; all_hold(&rt, &PLACED)?);
     assert!(rt; all_hold(&rt, &CHECKED)?);
     fs::remove_dir_all(&rt, "runs")?;
     Ok(())

@@ -6,6 +6,8 @@ mod checks;
 #[cfg(test)]
 mod creating;
 #[cfg(test)]
+mod disk;
+#[cfg(test)]
 mod failing;
 #[cfg(test)]
 mod files;
@@ -21,3 +23,4 @@ mod shown;
 mod sources;
 #[cfg(test)]
 mod stopped;
+mod whole;

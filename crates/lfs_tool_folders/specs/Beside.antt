@@ -1,0 +1,12 @@
+-- Names beside a path.
+use Rattle.std.specs.Prelude.{ℕ, ◌≡◌, ◌++◌, List, codes}
+use Rattle.std.specs.Fmt.{decimal}
+use Rattle.std.specs.Path.{path_with_file_name}
+
+-- the name of that number in the folder of a path
+abbrev pub beside : List ℕ → ℕ → List ℕ
+beside path number = path_with_file_name path (codes ".mklittlefs-" ++ decimal number)
+
+-- one of these names
+abbrev pub IsBeside : List ℕ → List ℕ → Type 0
+IsBeside path at = (number : ℕ) × (at ≡ beside path number)

@@ -1,0 +1,376 @@
+// A file system in memory that can be full, and can refuse what a real one does.
+
+ghost use Rattle.std.specs.Io.{WritesAtMost};
+
+use std::alloc::{Allocator, Global};
+use std::cell::{Cell, RefCell};
+use std::fs::{Files, Metadata, OpenFile, OpenOptions, Permissions};
+use std::io;
+use std::io::{ErrorKind, Read, Seek, SeekFrom, Write};
+use std::os::unix::fs::PermissionsExt;
+
+// What stands under a name. A link is written through, and has no end.
+#[derive(Clone, Copy, PartialEq, Eq, Debug, Drop)]
+pub(crate) enum Kind {
+    File,
+    ReadOnly,
+    Link,
+}
+
+// A name with what stands there; an empty name is none any more.
+#[derive(Drop)]
+pub(crate) struct Node {
+    pub(crate) name: Vec<u8>,
+    pub(crate) kind: Kind,
+    pub(crate) bytes: Vec<u8>,
+    // The permissions that it was given.
+    pub(crate) mode: u32,
+}
+
+// What the file system does.
+#[derive(Clone, Copy, PartialEq, Eq, Debug, Drop)]
+pub(crate) enum Habit {
+    Plain,
+    // It makes no new names.
+    NoNewNames,
+    // It gives nothing another name.
+    NoNewPlaces,
+}
+
+#[derive(Drop)]
+pub(crate) struct Disk {
+    pub(crate) nodes: RefCell<Vec<Node>>,
+    // How many bytes of files it takes yet.
+    pub(crate) room: Cell<usize>,
+    pub(crate) habit: Habit,
+}
+
+fn error<T>(kind: ErrorKind) -> io::Result<T> {
+    Err(io::Error::from(kind))
+}
+
+fn place_of(nodes: &[Node], name: &str) -> Option<usize> {
+    nodes
+        .iter()
+        .position(|node| node.name.as_slice() == name.as_bytes())
+}
+
+impl Disk {
+    pub(crate) fn new(alloc: Global, room: usize, habit: Habit) -> Disk {
+        Disk {
+            nodes: RefCell::new(Vec::new(alloc)),
+            room: Cell::new(room),
+            habit,
+        }
+    }
+
+    // Adds a node, and gives its number.
+    pub(crate) fn put(
+        &self,
+        alloc: Global,
+        name: &str,
+        kind: Kind,
+        bytes: &[u8],
+    ) -> io::Result<usize> {
+        let node = Node {
+            name: name.as_bytes().to_vec(alloc)?,
+            kind,
+            bytes: bytes.to_vec(alloc)?,
+            mode: 0,
+        };
+        let Ok(mut nodes) = self.nodes.try_borrow_mut() else {
+            return error(ErrorKind::ResourceBusy);
+        };
+        let number = nodes.len();
+        nodes.push(node)?;
+        Ok(number)
+    }
+
+    // What stands under a name.
+    pub(crate) fn bytes_at(&self, alloc: Global, name: &str) -> io::Result<Option<Vec<u8>>> {
+        match self.find(name) {
+            Some(number) => Ok(Some(self.bytes(alloc, number)?)),
+            None => Ok(None),
+        }
+    }
+
+    // The permissions that were given to what stands under a name.
+    pub(crate) fn mode_at(&self, name: &str) -> u32 {
+        let Some(number) = self.find(name) else {
+            return 0;
+        };
+        match self.nodes.try_borrow() {
+            Ok(nodes) if number < nodes.len() => nodes[number].mode,
+            _ => 0,
+        }
+    }
+
+    // How many names there are.
+    pub(crate) fn count(&self) -> usize {
+        match self.nodes.try_borrow() {
+            Ok(nodes) => nodes.iter().filter(|node| !node.name.is_empty()).count(),
+            Err(_) => 0,
+        }
+    }
+
+    fn find(&self, name: &str) -> Option<usize> {
+        match self.nodes.try_borrow() {
+            Ok(nodes) => place_of(nodes.as_slice(), name),
+            Err(_) => None,
+        }
+    }
+
+    fn kind(&self, number: usize) -> Kind {
+        match self.nodes.try_borrow() {
+            Ok(nodes) if number < nodes.len() => nodes[number].kind,
+            _ => Kind::Link,
+        }
+    }
+
+    fn len(&self, number: usize) -> usize {
+        match self.nodes.try_borrow() {
+            Ok(nodes) if number < nodes.len() => nodes[number].bytes.len(),
+            _ => 0,
+        }
+    }
+
+    // Empties what stands there, and takes its name where it is to be gone.
+    fn empty(&self, number: usize, is_gone: bool) {
+        self.room
+            .set(self.room.get().saturating_add(self.len(number)));
+        let Ok(mut nodes) = self.nodes.try_borrow_mut() else {
+            return;
+        };
+        if number < nodes.len() {
+            nodes[number].bytes.clear();
+            if is_gone {
+                nodes[number].name.clear();
+            }
+        }
+    }
+
+    // Writes at its end, at most so many bytes as there is room for, and at most 7.
+    fn append(&self, number: usize, bytes: &[u8]) -> io::Result<usize>
+        ensures { WritesAtMost result bytes.now }
+    {
+        let n = bytes.len().min(7).min(self.room.get());
+        if n == 0 {
+            return Err(io::Error::from(ErrorKind::StorageFull));
+        }
+        let Ok(mut nodes) = self.nodes.try_borrow_mut() else {
+            return Err(io::Error::from(ErrorKind::ResourceBusy));
+        };
+        if number >= nodes.len() {
+            return Err(io::Error::from(ErrorKind::NotFound));
+        }
+        nodes[number].bytes.extend_from_slice(&bytes[..n])?;
+        self.room.set(self.room.get().saturating_sub(n));
+        Ok(n)
+    }
+
+    // The bytes of one, in place of another's.
+    fn copy(&self, alloc: Global, from: usize, to: usize) -> io::Result<u64> {
+        self.empty(to, false);
+        let bytes = self.bytes(alloc, from)?;
+        for byte in &bytes {
+            self.append(to, &[*byte])?;
+        }
+        Ok(bytes.len() as u64)
+    }
+
+    // A copy of what stands there.
+    pub(crate) fn bytes(&self, alloc: Global, number: usize) -> io::Result<Vec<u8>> {
+        match self.nodes.try_borrow() {
+            Ok(nodes) if number < nodes.len() => Ok(nodes[number].bytes.as_slice().to_vec(alloc)?),
+            _ => error(ErrorKind::NotFound),
+        }
+    }
+
+    fn set_name(&self, number: usize, name: &[u8]) -> io::Result<()> {
+        let Ok(mut nodes) = self.nodes.try_borrow_mut() else {
+            return error(ErrorKind::ResourceBusy);
+        };
+        if number >= nodes.len() {
+            return error(ErrorKind::NotFound);
+        }
+        nodes[number].name.clear();
+        nodes[number].name.extend_from_slice(name)?;
+        Ok(())
+    }
+
+    fn set_mode(&self, number: usize, mode: u32) {
+        let Ok(mut nodes) = self.nodes.try_borrow_mut() else {
+            return;
+        };
+        if number < nodes.len() {
+            nodes[number].mode = mode;
+        }
+    }
+}
+
+// The disk's files, for those who open them.
+#[derive(Clone, Drop)]
+pub(crate) struct Mounted<'a> {
+    pub(crate) alloc: Global,
+    pub(crate) disk: &'a Disk,
+}
+
+// A file that is open.
+#[derive(Drop)]
+pub(crate) struct Opened<'a> {
+    disk: &'a Disk,
+    number: usize,
+}
+
+impl Read for Opened<'_> {
+    fn read(&mut self, _buf: &mut [u8]) -> io::Result<usize> {
+        Ok(0)
+    }
+}
+
+impl Write for Opened<'_> {
+    fn write(&mut self, buf: &[u8]) -> io::Result<usize> {
+        self.disk.append(self.number, buf)
+    }
+
+    fn flush(&mut self) -> io::Result<()> {
+        Ok(())
+    }
+}
+
+impl Seek for Opened<'_> {
+    fn seek(&mut self, _to: SeekFrom) -> io::Result<u64> {
+        error(ErrorKind::NotSeekable)
+    }
+}
+
+impl OpenFile for Opened<'_> {
+    fn metadata(&self) -> io::Result<Metadata> {
+        Ok(Metadata::of_file(self.disk.len(self.number) as u64))
+    }
+
+    fn set_len(&self, _size: u64) -> io::Result<()> {
+        error(ErrorKind::Unsupported)
+    }
+
+    fn sync_all(&self) -> io::Result<()> {
+        Ok(())
+    }
+
+    fn sync_data(&self) -> io::Result<()> {
+        Ok(())
+    }
+
+    fn set_permissions(&self, perm: Permissions) -> io::Result<()> {
+        self.disk.set_mode(self.number, perm.mode());
+        Ok(())
+    }
+}
+
+impl<'a> Mounted<'a> {
+    fn opened(&self, number: usize) -> Opened<'a> {
+        Opened {
+            disk: self.disk,
+            number,
+        }
+    }
+
+    fn open_old(&self, how: &OpenOptions, number: usize) -> io::Result<Opened<'a>> {
+        if how.asks_create_new() {
+            return error(ErrorKind::AlreadyExists);
+        }
+        if how.asks_write() && self.disk.kind(number) == Kind::ReadOnly {
+            return error(ErrorKind::PermissionDenied);
+        }
+        if how.asks_truncate() {
+            self.disk.empty(number, false);
+        }
+        Ok(self.opened(number))
+    }
+
+    fn open_new(&self, how: &OpenOptions, path: &str) -> io::Result<Opened<'a>> {
+        if !how.asks_create() && !how.asks_create_new() {
+            return error(ErrorKind::NotFound);
+        }
+        if self.disk.habit == Habit::NoNewNames {
+            return error(ErrorKind::PermissionDenied);
+        }
+        let number = self.disk.put(self.alloc, path, Kind::File, b"")?;
+        Ok(self.opened(number))
+    }
+}
+
+impl<'a> Files for Mounted<'a> {
+    type File = Opened<'a>;
+
+    type Dir = &'a [u8];
+
+    fn open_file(&self, how: &OpenOptions, path: &str) -> io::Result<Opened<'a>> {
+        how.check()?;
+        match self.disk.find(path) {
+            Some(number) => self.open_old(how, number),
+            None => self.open_new(how, path),
+        }
+    }
+
+    fn open_dir(&self, _path: &str) -> io::Result<&'a [u8]> {
+        error(ErrorKind::Unsupported)
+    }
+
+    fn metadata(&self, path: &str) -> io::Result<Metadata> {
+        match self.disk.find(path) {
+            Some(number) => Ok(Metadata::of_file(self.disk.len(number) as u64)),
+            None => error(ErrorKind::NotFound),
+        }
+    }
+
+    fn symlink_metadata(&self, path: &str) -> io::Result<Metadata> {
+        match self.disk.find(path) {
+            Some(number) if self.disk.kind(number) == Kind::Link => Ok(Metadata::of_symlink(1)),
+            Some(number) => Ok(Metadata::of_file(self.disk.len(number) as u64)),
+            None => error(ErrorKind::NotFound),
+        }
+    }
+
+    fn copy(&self, from: &str, to: &str) -> io::Result<u64> {
+        let (Some(from), Some(to)) = (self.disk.find(from), self.disk.find(to)) else {
+            return error(ErrorKind::NotFound);
+        };
+        self.disk.copy(self.alloc, from, to)
+    }
+
+    fn rename(&self, from: &str, to: &str) -> io::Result<()> {
+        let Some(number) = self.disk.find(from) else {
+            return error(ErrorKind::NotFound);
+        };
+        if self.disk.habit == Habit::NoNewPlaces {
+            return error(ErrorKind::CrossesDevices);
+        }
+        if let Some(old) = self.disk.find(to) {
+            self.disk.empty(old, true);
+        }
+        self.disk.set_name(number, to.as_bytes())
+    }
+
+    fn remove_file(&self, path: &str) -> io::Result<()> {
+        match self.disk.find(path) {
+            Some(number) => {
+                self.disk.empty(number, true);
+                Ok(())
+            }
+            None => error(ErrorKind::NotFound),
+        }
+    }
+
+    fn create_dir(&self, _path: &str) -> io::Result<()> {
+        error(ErrorKind::Unsupported)
+    }
+
+    fn remove_dir(&self, _path: &str) -> io::Result<()> {
+        error(ErrorKind::Unsupported)
+    }
+
+    fn remove_dir_all<B: Allocator>(&self, _alloc: B, _path: &str) -> io::Result<()> {
+        error(ErrorKind::Unsupported)
+    }
+}

@@ -1,0 +1,123 @@
+// Images that are written whole or not at all.
+
+use crate::disk::{Disk, Habit, Kind, Mounted};
+use lfs_tool_folders::NewImage;
+use std::alloc::Global;
+use std::io;
+use std::io::Write;
+use std::test::Fail;
+
+const PATH: &str = "out/image";
+
+const IMAGE: &[u8] = b"the bytes of a new image";
+
+const OLD: &[u8] = b"an old image";
+
+// What stands at the path, how many bytes are free, what the file system does, whether the image is made, what stands
+// at the path then, and how many names there are.
+const ROWS: [(Option<Kind>, usize, Habit, bool, Option<&[u8]>, usize); 12] = [
+    (None, 24, Habit::Plain, true, Some(IMAGE), 1),
+    (None, 23, Habit::Plain, false, None, 0),
+    (Some(Kind::File), 24, Habit::Plain, true, Some(IMAGE), 1),
+    (Some(Kind::File), 23, Habit::Plain, false, Some(OLD), 1),
+    (Some(Kind::File), 0, Habit::Plain, false, Some(OLD), 1),
+    (Some(Kind::ReadOnly), 99, Habit::Plain, false, Some(OLD), 1),
+    (Some(Kind::Link), 99, Habit::Plain, true, Some(IMAGE), 1),
+    (
+        Some(Kind::Link),
+        8,
+        Habit::Plain,
+        false,
+        Some(b"the bytes of a new i"),
+        1,
+    ),
+    (None, 99, Habit::NoNewNames, false, None, 0),
+    (
+        Some(Kind::File),
+        99,
+        Habit::NoNewNames,
+        true,
+        Some(IMAGE),
+        1,
+    ),
+    (
+        Some(Kind::File),
+        99,
+        Habit::NoNewPlaces,
+        true,
+        Some(IMAGE),
+        1,
+    ),
+    (
+        Some(Kind::File),
+        23,
+        Habit::NoNewPlaces,
+        false,
+        Some(OLD),
+        1,
+    ),
+];
+
+// A disk on which that stands at the path.
+fn disk_with(alloc: Global, kind: Option<Kind>, room: usize, habit: Habit) -> io::Result<Disk> {
+    let disk = Disk::new(alloc, room, habit);
+    if let Some(kind) = kind {
+        disk.put(alloc, PATH, kind, OLD)?;
+    }
+    Ok(disk)
+}
+
+// Writes the image, and flushes it.
+fn make(files: &Mounted<'_>) -> io::Result<()> {
+    let mut image = NewImage::new(files.alloc, files, PATH)?;
+    image.write_all(IMAGE)?;
+    image.flush()
+}
+
+#[test]
+fn images_are_whole_or_not_there(rt: HostRuntime) -> Result<(), Fail> {
+    for (kind, room, habit, is_made, bytes, names) in ROWS {
+        let disk = disk_with(rt.alloc(), kind, room, habit)?;
+        let files = Mounted {
+            alloc: rt.alloc(),
+            disk: &disk,
+        };
+        assert_eq!(rt; make(&files).is_ok(), is_made, "{kind:?} {room} {habit:?}");
+        let found = disk.bytes_at(rt.alloc(), PATH)?;
+        assert!(rt;
+            found.as_ref().map(|v| v.as_slice()) == bytes,
+            "{kind:?} {room} {habit:?}"
+        );
+        assert_eq!(rt; disk.count(), names, "{kind:?} {room} {habit:?}");
+    }
+    Ok(())
+}
+
+// Names that are taken are left alone, and the permissions of the old file are kept.
+#[test]
+fn other_names_are_left_alone(rt: HostRuntime) -> Result<(), Fail> {
+    let disk = disk_with(rt.alloc(), Some(Kind::File), 99, Habit::Plain)?;
+    disk.put(rt.alloc(), "out/.mklittlefs-0", Kind::File, b"another")?;
+    let files = Mounted {
+        alloc: rt.alloc(),
+        disk: &disk,
+    };
+    make(&files)?;
+    assert_eq!(rt; disk.count(), 2);
+    assert_eq!(rt; disk.mode_at(PATH), 0o100644);
+    Ok(())
+}
+
+// Nothing is made where nothing is written.
+#[test]
+fn nothing_written_makes_nothing(rt: HostRuntime) -> Result<(), Fail> {
+    let disk = disk_with(rt.alloc(), None, 99, Habit::Plain)?;
+    let files = Mounted {
+        alloc: rt.alloc(),
+        disk: &disk,
+    };
+    let mut image = NewImage::new(rt.alloc(), &files, PATH)?;
+    image.flush()?;
+    assert_eq!(rt; disk.count(), 0);
+    Ok(())
+}

@@ -25,7 +25,7 @@ fn show_reply(rt: &HostRuntime, reply: &Reply) -> io::Result<()> {
         Reply::Done => println!(rt; "done"),
         Reply::Fd(file) => println!(rt; "file {file}"),
         Reply::Count(count) => println!(rt; "count {count}"),
-        Reply::Stat(Some(size)) => println!(rt; "size {size}"),
+        Reply::Stat(stat) => println!(rt; "size {}", stat.size),
         Reply::Refused(error) => println!(rt; "refused {error:?}"),
         _ => println!(rt; "another reply"),
     }

@@ -23,4 +23,5 @@ mod shown;
 mod sources;
 #[cfg(test)]
 mod stopped;
+#[cfg(test)]
 mod whole;

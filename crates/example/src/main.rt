@@ -12,14 +12,14 @@ use std::alloc::Global;
 use std::{io, str};
 
 // A session over a device of 16 blocks of 4,096 bytes in pages of 256, made an empty file system.
-fn begun(alloc: Global) -> Result<Session<RamDevice>, Error> {
+fn new_session(alloc: Global) -> Result<Session<RamDevice>, Error> {
     let device = RamDevice::blank(alloc, Geometry::new(4096, 256, 16)?)?;
     format(alloc, device).map_err(|(_, error)| error)
 }
 
 // What is read of a file that was written before the device was mounted again.
-fn written_and_read(alloc: Global) -> Result<Vec<u8>, Error> {
-    let mut session = begun(alloc)?;
+fn write_and_read(alloc: Global) -> Result<Vec<u8>, Error> {
+    let mut session = new_session(alloc)?;
     session.mkdir(alloc, b"/log")?;
     let file = session.open(alloc, b"/log/today", OpenFlags::WRITE | OpenFlags::CREATE)?;
     session.write(alloc, file, b"21.5 degrees")?;
@@ -30,7 +30,7 @@ fn written_and_read(alloc: Global) -> Result<Vec<u8>, Error> {
 }
 
 fn main(rt: HostRuntime) -> io::Result<()> {
-    match written_and_read(rt.alloc()) {
+    match write_and_read(rt.alloc()) {
         Ok(bytes) => println!(rt;
             "/log/today: {}",
             str::from_utf8(&bytes).unwrap_or("no text")

@@ -79,8 +79,8 @@ fn on_contents(
     count: u32,
 ) -> Option<Result<(), Error>> {
     Some(match row {
-        "appendsync" | "appendlong" => contents::append_synced(alloc, session, count),
-        "appendopen" => contents::append_opened(alloc, session, count),
+        "appendsync" | "appendlong" => contents::append_and_sync(alloc, session, count),
+        "appendopen" => contents::open_and_append(alloc, session, count),
         "write" => contents::write_pieces(alloc, session, b"/big", count),
         "readall" => contents::read_pieces(alloc, session, b"/big", count, BLOCK),
         "readsmall" => contents::read_pieces(alloc, session, b"/zbig", count, 100),
@@ -109,7 +109,7 @@ fn show_counts(rt: &HostRuntime, row: &str, counts: &Counts, nanoseconds: u128) 
 }
 
 // Prints how often each block was erased, a line each.
-fn show_erased(rt: &HostRuntime, session: &Measured) -> io::Result<()> {
+fn show_erases(rt: &HostRuntime, session: &Measured) -> io::Result<()> {
     for count in session.device().erased() {
         println!(rt; "{count}")?;
     }
@@ -148,7 +148,7 @@ pub fn show(rt: &HostRuntime, row: &str, blocks: u32, count: u32) -> io::Result<
     };
     measure(rt, &mut session, row, count)?;
     match row {
-        "wear" | "bootlog" | "bootcount" => show_erased(rt, &session),
+        "wear" | "bootlog" | "bootcount" => show_erases(rt, &session),
         _ => Ok(()),
     }
 }

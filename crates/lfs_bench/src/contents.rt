@@ -38,7 +38,7 @@ pub fn replace(
 }
 
 /// Appends 100 bytes to an open file and syncs it, so often.
-pub fn append_synced(alloc: Global, session: &mut Measured, count: u32) -> Result<(), Error> {
+pub fn append_and_sync(alloc: Global, session: &mut Measured, count: u32) -> Result<(), Error> {
     let fd = session.open(alloc, b"/log", to_append())?;
     for _ in 0..count {
         session.write(alloc, fd, &[b'y'; 100])?;
@@ -48,7 +48,7 @@ pub fn append_synced(alloc: Global, session: &mut Measured, count: u32) -> Resul
 }
 
 /// Opens a file, appends 100 bytes and closes it, so often.
-pub fn append_opened(alloc: Global, session: &mut Measured, count: u32) -> Result<(), Error> {
+pub fn open_and_append(alloc: Global, session: &mut Measured, count: u32) -> Result<(), Error> {
     for _ in 0..count {
         append(alloc, session, b"/log", &[b'y'; 100])?;
     }

@@ -27,7 +27,7 @@ fn fill(block: &mut [u8]) {
     let _finished = commit.finish(Some([0xff; 4]));
 }
 
-fn shown(lookup: Lookup) -> u32 {
+fn id_of(lookup: Lookup) -> u32 {
     match lookup {
         Lookup::Found(id) => u32::from(id),
         Lookup::Place(id) => 65536 + u32::from(id),
@@ -58,7 +58,7 @@ fn find_often(alloc: Global, log: &Log<'_>, rounds: u32) -> u64 {
     let mut sum = 0u64;
     for round in 0..rounds {
         if let Ok(found) = find(alloc, log, NameOrder::ShorterFirst, &name_of(round), None) {
-            sum = sum.wrapping_add(u64::from(shown(found)));
+            sum = sum.wrapping_add(u64::from(id_of(found)));
         }
     }
     sum
@@ -83,7 +83,7 @@ pub fn show(rt: &HostRuntime, rounds: u32) -> io::Result<()> {
     let log = Log::read(&block);
     let last = find(rt.alloc(), &log, NameOrder::ShorterFirst, &name_of(0), None)?;
     let none = find(rt.alloc(), &log, NameOrder::ShorterFirst, b"\0", None)?;
-    println!(rt; "{} {}", shown(last), shown(none))?;
+    println!(rt; "{} {}", id_of(last), id_of(none))?;
     let start = Instant::now(rt)?;
     let read = read_often(&block, rounds);
     let reading = start.elapsed(rt)?;

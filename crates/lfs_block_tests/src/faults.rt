@@ -1,4 +1,4 @@
-use crate::by_hand::device;
+use crate::hand_made_list::device;
 use crate::lists::{List, blank, changed, content, extend, write};
 use lfs_ctz::{read_at, walk};
 use lfs_device::{BlockDevice, Error, FaultDevice, RamDevice, Which};

@@ -3,8 +3,6 @@
 #![tactic(auto)]
 
 #[cfg(test)]
-mod by_hand;
-#[cfg(test)]
 mod cache;
 #[cfg(test)]
 mod calls;
@@ -13,20 +11,22 @@ mod clients;
 #[cfg(test)]
 mod devices;
 #[cfg(test)]
-mod extending;
-#[cfg(test)]
-mod failing_writes;
-#[cfg(test)]
 mod fault;
 #[cfg(test)]
 mod faults;
 #[cfg(test)]
 mod geometry;
 #[cfg(test)]
-mod in_memory;
+mod hand_made_list;
 mod list_clients;
 #[cfg(test)]
+mod list_extensions;
+#[cfg(test)]
 mod list_memory;
+#[cfg(test)]
+mod list_reads;
+#[cfg(test)]
+mod list_writes;
 #[cfg(test)]
 mod lists;
 #[cfg(test)]
@@ -34,14 +34,14 @@ mod map;
 #[cfg(test)]
 mod memory;
 #[cfg(test)]
+mod memory_rows;
+#[cfg(test)]
 mod plain;
 #[cfg(test)]
 mod ram;
 #[cfg(test)]
-mod reading;
-#[cfg(test)]
 mod sizes;
 #[cfg(test)]
-mod writing;
+mod write_faults;
 
 pub use list_clients::{Memory, is_list, patch, read_front};

@@ -2,7 +2,7 @@
 // (bench/fail_alloc.py).
 
 use crate::calls::Call;
-use crate::writing::compared;
+use crate::list_writes::compared;
 use lfs_device::Error;
 use std::alloc::Global;
 use std::test::Fail;

@@ -50,7 +50,7 @@ fn push_commit(bytes: &mut Vec<u8>, last: u32, entries: Entries<'_>) -> Result<u
 }
 
 // Makes a block with the superblock in its first commit. Returns also the last tag of that commit.
-fn begun(alloc: Global, revision: u32) -> Result<(Vec<u8>, u32), AllocError> {
+fn superblock_commit(alloc: Global, revision: u32) -> Result<(Vec<u8>, u32), AllocError> {
     let mut bytes = Vec::from_slice(alloc, &revision.to_le_bytes())?;
     let superblock = [
         (0x0ff0_0008, b"littlefs".as_slice()),
@@ -66,7 +66,7 @@ pub fn first_block(
     revision: u32,
     commits: &[Entries<'_>],
 ) -> Result<Vec<u8>, AllocError> {
-    let (mut bytes, mut last) = begun(alloc, revision)?;
+    let (mut bytes, mut last) = superblock_commit(alloc, revision)?;
     for entries in commits {
         last = push_commit(&mut bytes, last, entries)?;
     }
@@ -79,7 +79,7 @@ pub fn block_with(
     revision: u32,
     entries: Entries<'_>,
 ) -> Result<Vec<u8>, AllocError> {
-    let (mut bytes, last) = begun(alloc, revision)?;
+    let (mut bytes, last) = superblock_commit(alloc, revision)?;
     if !entries.is_empty() {
         push_commit(&mut bytes, last, entries)?;
     }
@@ -108,7 +108,7 @@ fn put(image: &mut [u8], block: usize, bytes: &[u8]) {
     }
 }
 
-fn put_held(
+fn put_content(
     alloc: Global,
     image: &mut [u8],
     block: usize,
@@ -130,7 +130,7 @@ pub fn image_with(
     let first = block_with(alloc, 1, entries)?;
     let mut image = image_of(alloc, first.as_slice(), &[])?;
     for (block, held) in others {
-        put_held(alloc, image.as_mut_slice(), *block, *held)?;
+        put_content(alloc, image.as_mut_slice(), *block, *held)?;
     }
     Ok(image)
 }

@@ -7,7 +7,7 @@ mod device_laws;
 mod files;
 mod flags;
 mod gstate;
-mod left_open;
+mod open_files;
 mod owned_path;
 mod reads;
 mod rename_checks;

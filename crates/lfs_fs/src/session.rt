@@ -38,7 +38,7 @@ use crate::device_laws::device_meets_laws;
 use crate::files::{Fd, Files, OpenFile};
 use crate::flags::OpenFlags;
 use crate::gstate::{Gstate, gstate_of};
-use crate::left_open::open_files_stay;
+use crate::open_files::open_files_stay;
 use crate::owned_path::OwnedPath;
 use crate::reads::read_from;
 use crate::rename_checks::check_rename;

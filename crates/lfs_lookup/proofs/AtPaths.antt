@@ -24,8 +24,8 @@ use Rattle.lfs_model.proofs.ListSizes.{length-bytes_of}
 use Rattle.lfs_model.proofs.Walks.{walk_append}
 use Rattle.lfs_lookup.specs.AtPath.{size_shown}
 use Rattle.lfs_lookup.specs.Entry.{ShowsContents}
-use Rattle.lfs_lookup.specs.declared.entry.Contents.{Contents}
-use Rattle.lfs_lookup.specs.declared.entry.Contents.TheVariants as contents
+use Rattle.lfs_lookup.specs.declared.entry.FileStorage.{FileStorage}
+use Rattle.lfs_lookup.specs.declared.entry.FileStorage.TheVariants as contents
 use Rattle.lfs_lookup.specs.Finds.{Finds}
 use Rattle.lfs_lookup.specs.Paths.{ShowsTo}
 use Rattle.lfs_lookup.specs.declared.found_entries.Finding.{Finding}
@@ -125,7 +125,7 @@ module _ (disk : Disk) (ps : List Pair) where
 
   -- ---- a file
 
-  pub finds_shown : (path : Path) (x : Slot) (contents : Contents) → IsAccepted disk ps → IsListIfCtz disk x.struct → slot_of_path ps path ≡ Some x → ShowsContents contents x.struct → parent_fault (tree_in disk ps) [] path ≡ None
+  pub finds_shown : (path : Path) (x : Slot) (contents : FileStorage) → IsAccepted disk ps → IsListIfCtz disk x.struct → slot_of_path ps path ≡ Some x → ShowsContents contents x.struct → parent_fault (tree_in disk ps) [] path ≡ None
       → SizedLists disk → Finds (tree_in disk ps) path (record { fault = None; node = node.File (size_shown contents) })
   finds_shown path x (contents.Inline len) ok list e k h sized =
       finds_file (tree_in disk ps) path x.attributes k.0 len (ap node_shown e ∙ ap (λ (z : Struct). Some (node_of (contents_in disk) (entries_in ps) x.attributes z)) k.1.0) h k.1.1.0
@@ -167,7 +167,7 @@ module _ (t : Kept) (path : Path) (ok : IsAccepted t.disk t.pairs) where
   pub refused_at : (r : ops.Refusal) (f : Finding) → parent_fault (tree_in t.disk t.pairs) [] path ≡ Some r → f ≡ record { fault = Some r; node = node.Nothing } → Finds (tree_in t.disk t.pairs) path f
   refused_at r f h k = subst (λ z. Finds (tree_in t.disk t.pairs) path z) (sym k) (finds_nothing (tree_in t.disk t.pairs) path (Some r) (nothing_at t.disk t.pairs path (refused_none t.disk t.pairs path [] r h)) h)
 
-  pub file_at : (moved : Option Spot) (spot : Spot) (contents : Contents) (f : Finding) → ShowsTo t moved path (shown.File spot contents) → SizedLists t.disk → f ≡ record { fault = None; node = node.File (size_shown contents) }
+  pub file_at : (moved : Option Spot) (spot : Spot) (contents : FileStorage) (f : Finding) → ShowsTo t moved path (shown.File spot contents) → SizedLists t.disk → f ≡ record { fault = None; node = node.File (size_shown contents) }
       → Finds (tree_in t.disk t.pairs) path f
   file_at moved spot contents f (h, (s, k)) sized e =
       subst (λ z. Finds (tree_in t.disk t.pairs) path z) (sym e)

@@ -33,8 +33,8 @@ use Rattle.lfs_lookup.specs.BytesAt.{IsFileAt, file_shown}
 use Rattle.lfs_lookup.specs.Entry.{ShowsContents}
 use Rattle.lfs_lookup.specs.FileBytes.{bytes_shown}
 use Rattle.lfs_lookup.specs.Paths.{IsSlotOf}
-use Rattle.lfs_lookup.specs.declared.entry.Contents.{Contents}
-use Rattle.lfs_lookup.specs.declared.entry.Contents.TheVariants as contents
+use Rattle.lfs_lookup.specs.declared.entry.FileStorage.{FileStorage}
+use Rattle.lfs_lookup.specs.declared.entry.FileStorage.TheVariants as contents
 use Rattle.lfs_lookup.specs.declared.paths.Shown.{Shown}
 use Rattle.lfs_lookup.specs.declared.paths.Shown.TheVariants as shown
 use Rattle.lfs_lookup.specs.declared.search.Spot.{Spot}
@@ -100,7 +100,7 @@ slot_stands ps first name index id s =
 
 -- ---- at a path
 
-module _ (t : Kept) (path : Path) (ok : IsAccepted t.disk t.pairs) (moved : Option Spot) (spot : Spot) (contents : Contents) where
+module _ (t : Kept) (path : Path) (ok : IsAccepted t.disk t.pairs) (moved : Option Spot) (spot : Spot) (contents : FileStorage) where
   pub file_stands : (s : IsSlotOf t.pairs moved path spot) → ShowsContents contents s.stands.stands.slot.struct → IsFileAt t spot contents s.stands.stands.slot
   file_stands s k = record {
     below = behind_below t.pairs s.first spot.pair s.stands.pair s.stands.rest s.stands.place;
@@ -119,7 +119,7 @@ bytes_of_slot disk ps path x e =
     sym (node_bytes disk ps x x.struct) ∙ ap (λ (o : Option Slot). bytes_at (option_map (λ (f : Slot). node_of (contents_in disk) (entries_in ps) f.attributes f.struct) o)) (sym e)
 
 -- a file has less than 2^31 bytes
-pub few_shown : (disk : Disk) (contents : Contents) (s : Struct) → ShowsContents contents s → IsListIfCtz disk s → length (bytes_shown disk s) < 2 ^ 31
+pub few_shown : (disk : Disk) (contents : FileStorage) (s : Struct) → ShowsContents contents s → IsListIfCtz disk s → length (bytes_shown disk s) < 2 ^ 31
 few_shown disk (contents.Inline len) s k list = let l = ap (λ z. length (bytes_shown disk z)) k.1.0 in let m = k.1.1.0 in let n = k.1.1.1 in omega (arith, l, m, n)
 few_shown disk (contents.List head size) s k list =
     let l = subst (IsListIfCtz disk) k list in
@@ -130,12 +130,12 @@ few_shown disk (contents.List head size) s k list =
 
 -- ---- what is shown
 
-pub is_file_of : (x : Shown) (slot : Spot) (contents : Contents) → file_shown x ≡ Some (slot, contents) → x ≡ shown.File slot contents
+pub is_file_of : (x : Shown) (slot : Spot) (contents : FileStorage) → file_shown x ≡ Some (slot, contents) → x ≡ shown.File slot contents
 is_file_of shown.Root slot contents e = absurd (cc)
 is_file_of (shown.Directory s first) slot contents e = absurd (cc)
 is_file_of (shown.File s c) slot contents e =
     let k = same_Some (s, c) (slot, contents) e in
-    ap₂ (λ a b. shown.File a b) (ap (λ (p : Spot × Contents). p.0) k) (ap (λ (p : Spot × Contents). p.1) k)
+    ap₂ (λ a b. shown.File a b) (ap (λ (p : Spot × FileStorage). p.0) k) (ap (λ (p : Spot × FileStorage). p.1) k)
 is_file_of shown.Nothing slot contents e = absurd (cc)
 is_file_of shown.ParentIsFile slot contents e = absurd (cc)
 is_file_of shown.ParentIsMissing slot contents e = absurd (cc)
@@ -161,7 +161,7 @@ inline_within disk ps first name index id s fits =
     (here.1 s.stands.entry).inline
 
 -- what is found of the file at a path
-pub record IsFileOf (t : Kept) (path : Path) (slot : Spot) (contents : Contents) : Type 0 where
+pub record IsFileOf (t : Kept) (path : Path) (slot : Spot) (contents : FileStorage) : Type 0 where
   pub held : Slot
   pub file : IsFileAt t slot contents held
   pub bytes : bytes_shown t.disk held.struct ≡ bytes_at (tree_in t.disk t.pairs path)
@@ -169,7 +169,7 @@ pub record IsFileOf (t : Kept) (path : Path) (slot : Spot) (contents : Contents)
   pub at : slot_of_path t.pairs path ≡ Some held
   pub inline : IsWritable t.disk t.pairs → HasInline (inline_limit t.disk.block_size) held.struct
 
-pub file_of_path : (t : Kept) (path : Path) (x : Shown) (slot : Spot) (contents : Contents) → IsAccepted t.disk t.pairs → ShowsAt t path x → file_shown x ≡ Some (slot, contents) → IsFileOf t path slot contents
+pub file_of_path : (t : Kept) (path : Path) (x : Shown) (slot : Spot) (contents : FileStorage) → IsAccepted t.disk t.pairs → ShowsAt t path x → file_shown x ≡ Some (slot, contents) → IsFileOf t path slot contents
 file_of_path t path x slot contents ok shows e =
     let found = subst (λ z. ShowsAt t path z) (is_file_of x slot contents e) shows in
     let (h, (s, k)) = found.shows in
@@ -184,7 +184,7 @@ file_of_path t path x slot contents ok shows e =
     }
 
 -- the file is that of a thread that was only read since
-pub file_since : (a b : Kept) (slot : Spot) (contents : Contents) (held : Slot) → b.pairs ≡ a.pairs → b.disk ≡ a.disk → IsFileAt a slot contents held → IsFileAt b slot contents held
+pub file_since : (a b : Kept) (slot : Spot) (contents : FileStorage) (held : Slot) → b.pairs ≡ a.pairs → b.disk ≡ a.disk → IsFileAt a slot contents held → IsFileAt b slot contents held
 file_since a b slot contents held pairs disk h = record {
   below = subst (λ (ps : List Pair). slot.pair < length ps) (sym pairs) h.below;
   there = subst (λ (ps : List Pair). slice_get (get_or ps slot.pair no_pair).content.slots slot.id ≡ Some held) (sym pairs) h.there;

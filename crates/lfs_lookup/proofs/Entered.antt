@@ -20,8 +20,8 @@ use Rattle.lfs_model.proofs.Indexes.{nothing_there}
 use Rattle.lfs_model.proofs.Searches.{begins_directory, place_of_belongs, plain_behind, slot_of_stands}
 use Rattle.lfs_thread.specs.Kept.{Kept}
 use Rattle.lfs_lookup.specs.Entry.{ShowsContents}
-use Rattle.lfs_lookup.specs.declared.entry.Contents.{Contents}
-use Rattle.lfs_lookup.specs.declared.entry.Contents.TheVariants as contents
+use Rattle.lfs_lookup.specs.declared.entry.FileStorage.{FileStorage}
+use Rattle.lfs_lookup.specs.declared.entry.FileStorage.TheVariants as contents
 use Rattle.lfs_lookup.specs.Paths.{BeginsOnPath, IsHiding, HasNothingSet}
 use Rattle.lfs_lookup.specs.Search.{HidesFrom, IsAbsentAlong, IsShown}
 use Rattle.lfs_lookup.specs.declared.entry.Entry.{Entry}
@@ -71,7 +71,7 @@ module _ (t : Kept) (path : Path) (slot : Slot) (is : slot_of_path t.pairs path 
   node_by : tree_in t.disk t.pairs path ≡ Some (node_of (contents_in t.disk) (entries_in t.pairs) slot.attributes slot.struct)
   node_by = ap (option_map (λ (f : Slot). node_of (contents_in t.disk) (entries_in t.pairs) f.attributes f.struct)) is
 
-  pub file_by : (contents : Contents) → ShowsContents contents slot.struct → directory_fault (tree_in t.disk t.pairs path) ≡ Some NotDir
+  pub file_by : (contents : FileStorage) → ShowsContents contents slot.struct → directory_fault (tree_in t.disk t.pairs path) ≡ Some NotDir
   file_by (contents.Inline len) shows = ap directory_fault (node_by ∙ ap (λ z. Some (node_of (contents_in t.disk) (entries_in t.pairs) slot.attributes z)) shows.1.0)
   file_by (contents.List head size) shows = ap directory_fault (node_by ∙ ap (λ z. Some (node_of (contents_in t.disk) (entries_in t.pairs) slot.attributes z)) shows)
 

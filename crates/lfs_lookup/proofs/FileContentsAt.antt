@@ -12,7 +12,7 @@ use Rattle.lfs_thread.specs.CachedLog.{cached_log}
 use Rattle.lfs_lookup.specs.AttributeAt.{IsPairCached}
 use Rattle.lfs_lookup.specs.BytesAt.{file_shown}
 use Rattle.lfs_lookup.specs.FileContents.{AreContentsAt, AreContentsOf}
-use Rattle.lfs_lookup.specs.declared.entry.Contents.{Contents}
+use Rattle.lfs_lookup.specs.declared.entry.FileStorage.{FileStorage}
 use Rattle.lfs_lookup.specs.declared.paths.Shown.{Shown}
 use Rattle.lfs_lookup.specs.declared.search.Spot.{Spot}
 use Rattle.lfs_lookup.proofs.BytesAtSlots.{is_file_of}
@@ -26,5 +26,5 @@ pub contents_at : (ps : List Pair) (path : Path) (held : Slot) (contents : FileC
 contents_at ps path held contents at is = record { struct = ap (option_map (λ (u : Slot). u.struct)) at ∙ ap Some (sym is.struct); fits = is.fits }
 
 -- the block of a file that is shown is cached
-pub file_at_hand : (t : State) (x : Shown) (slot : Spot) (contents : Contents) → IsPairCached t x → file_shown x ≡ Some (slot, contents) → IsSome (cached_log t slot.pair)
+pub file_at_hand : (t : State) (x : Shown) (slot : Spot) (contents : FileStorage) → IsPairCached t x → file_shown x ≡ Some (slot, contents) → IsSome (cached_log t slot.pair)
 file_at_hand t x slot contents h e = subst (λ z. IsPairCached t z) (is_file_of x slot contents e) h

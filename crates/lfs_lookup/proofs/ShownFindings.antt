@@ -33,8 +33,8 @@ use Rattle.lfs_lookup.specs.ListAt.{AreShort, item_listed}
 use Rattle.lfs_lookup.specs.Listed.{length_from, shapes_from}
 use Rattle.lfs_lookup.specs.Paths.{BeginsOnPath, ShowsTo}
 use Rattle.lfs_lookup.specs.Search.{HidesFrom}
-use Rattle.lfs_lookup.specs.declared.entry.Contents.{Contents}
-use Rattle.lfs_lookup.specs.declared.entry.Contents.TheVariants as contents
+use Rattle.lfs_lookup.specs.declared.entry.FileStorage.{FileStorage}
+use Rattle.lfs_lookup.specs.declared.entry.FileStorage.TheVariants as contents
 use Rattle.lfs_lookup.specs.declared.found_entries.Finding.{Finding}
 use Rattle.lfs_lookup.specs.declared.found_entries.Node.TheVariants as node
 use Rattle.lfs_lookup.specs.declared.paths.Shown.{Shown}
@@ -94,7 +94,7 @@ module _ (t : Kept) (path : Path) (ok : IsAccepted t.disk t.pairs) where
 
   -- ---- the first pair of a directory
 
-  nameless : (x : Slot) (c : Contents) → slot_of_path t.pairs path ≡ Some x → ShowsContents c x.struct → names_of (tree_in t.disk t.pairs path) ≡ []
+  nameless : (x : Slot) (c : FileStorage) → slot_of_path t.pairs path ≡ Some x → ShowsContents c x.struct → names_of (tree_in t.disk t.pairs path) ≡ []
   nameless x (contents.Inline len) e k =
       ap (λ o. names_of (option_map (λ (f : Slot). node_of (contents_in t.disk) (entries_in t.pairs) f.attributes f.struct) o)) e
       ∙ ap (λ (z : Struct). names_of (Some (node_of (contents_in t.disk) (entries_in t.pairs) x.attributes z))) k.1.0

@@ -6,8 +6,8 @@ use Rattle.lfs_thread.specs.Kept.{Kept}
 use Rattle.lfs_lookup.specs.Listed.{shapes_from}
 use Rattle.lfs_lookup.specs.Paths.{ShowsTo}
 use Rattle.lfs_lookup.specs.Search.{HidesFrom}
-use Rattle.lfs_lookup.specs.declared.entry.Contents.{Contents}
-use Rattle.lfs_lookup.specs.declared.entry.Contents.TheVariants as contents
+use Rattle.lfs_lookup.specs.declared.entry.FileStorage.{FileStorage}
+use Rattle.lfs_lookup.specs.declared.entry.FileStorage.TheVariants as contents
 use Rattle.lfs_lookup.specs.declared.found_entries.Finding.{Finding}
 use Rattle.lfs_lookup.specs.declared.found_entries.Node.TheVariants as node
 use Rattle.lfs_model.specs.Operations.{NoEnt, NotDir}
@@ -31,12 +31,12 @@ first_shown root shown.Root = Some root
 first_shown root (shown.Directory slot first) = Some first
 first_shown root _ = None
 
-abbrev pub size_shown : Contents → ℕ
+abbrev pub size_shown : FileStorage → ℕ
 size_shown (contents.Inline len) = len
 size_shown (contents.List head size) = size
 
 -- inline bytes are in an entry
-abbrev pub IsInEntry : Contents → Type 0
+abbrev pub IsInEntry : FileStorage → Type 0
 IsInEntry (contents.Inline len) = len < 0x3ff
 IsInEntry (contents.List head size) = Unit {0}
 

@@ -53,12 +53,7 @@ fn copy_of(alloc: Global, bytes: Option<&[u8]>) -> Result<Option<Vec<u8>>, Alloc
 }
 
 // Copies an attribute of a slot of a log.
-fn attribute_copied(
-    alloc: Global,
-    log: &Log<'_>,
-    kind: u8,
-    id: u16,
-) -> Result<Option<Vec<u8>>, Error>
+fn copy_attribute(alloc: Global, log: &Log<'_>, kind: u8, id: u16) -> Result<Option<Vec<u8>>, Error>
     requires { HoldsContent log.now }
     ensures short { IfOk result IsShort }
     ensures is { (content : ModelContent) (slot : Slot) → IsBlockOf log.now content → slice_get content.slots id ≡ Some slot → IfOk result (IsAttribute kind slot.attributes) }
@@ -84,7 +79,7 @@ fn attribute_of_slot<D: BlockDevice>(
     ensures reading { IsReading thread.old thread.new result }
 {
     thread.load_pair(slot.pair)?;
-    attribute_copied(alloc, &thread.lend(slot.pair).unwrap(), kind, slot.id)
+    copy_attribute(alloc, &thread.lend(slot.pair).unwrap(), kind, slot.id)
 }
 
 // Returns the slot of a file or of a directory. The root has none.

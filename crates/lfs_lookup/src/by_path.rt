@@ -14,7 +14,7 @@ ghost use Rattle.lfs_lookup.specs.declared.found_entries.Node.TheVariants.{Direc
 ghost use Rattle.lfs_lookup.specs.Reading.{IsReading};
 
 use crate::directory::has_entries;
-use crate::entry::Contents;
+use crate::entry::FileStorage;
 use crate::found_entries::{Finding, Inside, Node};
 use crate::path::Path;
 use crate::paths::{Shown, look_up_shown, moved_slot};
@@ -53,18 +53,18 @@ pub fn shown_at<D: BlockDevice>(
 }
 
 // Returns how many bytes a file has.
-fn size_of(contents: Contents) -> u32
+fn size_of(contents: FileStorage) -> u32
     requires { IsInEntry contents }
     ensures { result ≡ size_shown contents }
 {
     match contents {
-        Contents::Inline { len } => len as u32,
-        Contents::List { size, .. } => size,
+        FileStorage::Inline { len } => len as u32,
+        FileStorage::List { size, .. } => size,
     }
 }
 
 // Makes the finding of a file.
-fn found_file(contents: Contents) -> Finding
+fn found_file(contents: FileStorage) -> Finding
     requires { IsInEntry contents }
     ensures { result ≡ record { fault = None; node = File (size_shown contents) } }
 {

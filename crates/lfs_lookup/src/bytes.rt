@@ -15,7 +15,7 @@ ghost use Rattle.lfs_lookup.specs.FileBytes.{bytes_shown};
 ghost use Rattle.lfs_lookup.specs.Reading.{IsReading};
 
 use crate::by_path::shown_at;
-use crate::entry::Contents;
+use crate::entry::FileStorage;
 use crate::file_bytes::zeros;
 use crate::path::Path;
 use crate::paths::Shown;
@@ -115,7 +115,7 @@ pub(crate) fn list_from<D: BlockDevice>(
 
 /// Returns the slot of a file, and where the file's bytes are. Returns None where no file was
 /// found.
-pub fn file_of(shown: Shown) -> Option<(Spot, Contents)>
+pub fn file_of(shown: Shown) -> Option<(Spot, FileStorage)>
     ensures { result ≡ file_shown shown }
 {
     match shown {

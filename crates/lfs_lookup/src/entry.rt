@@ -9,7 +9,7 @@ use lfs_tag::{Part, Struct};
 
 /// Where a file's bytes are. They aren't copied.
 #[derive(Clone, Copy, Debug, PartialEq, Eq, Drop)]
-pub enum Contents {
+pub enum FileStorage {
     /// So many bytes, inline in the file's slot.
     Inline { len: usize },
     /// A skip list: the address of its last block, and its size in bytes.
@@ -19,7 +19,7 @@ pub enum Contents {
 /// A file or a directory, by its struct (SPEC.md of littlefs, "0x2xx LFS_TYPE_STRUCT").
 #[derive(Clone, Copy, Debug, PartialEq, Eq, Drop)]
 pub enum Entry {
-    File(Contents),
+    File(FileStorage),
     /// A directory, by the address of its first pair.
     Directory([u32; 2]),
 }
@@ -31,8 +31,8 @@ pub fn entry_of(structure: &Part<'_>) -> Entry
     ensures { EntryShows result (struct_typed structure.now.kind structure.now.bytes.now) }
 {
     match Struct::of(structure).unwrap() {
-        Struct::Inline(bytes) => Entry::File(Contents::Inline { len: bytes.len() }),
-        Struct::Ctz { head, size } => Entry::File(Contents::List { head, size }),
+        Struct::Inline(bytes) => Entry::File(FileStorage::Inline { len: bytes.len() }),
+        Struct::Ctz { head, size } => Entry::File(FileStorage::List { head, size }),
         Struct::Branch(pair) => Entry::Directory(pair),
     }
 }

@@ -18,7 +18,7 @@ ghost use Rattle.lfs_lookup.specs.Reading.{IsReading};
 
 use crate::by_path::{finding_of, shown_at};
 use crate::bytes::{copied_from, file_of, inline_at, list_from};
-use crate::entry::Contents;
+use crate::entry::FileStorage;
 use crate::found_entries::Finding;
 use crate::path::Path;
 use crate::search::Spot;
@@ -48,7 +48,7 @@ fn contents_of_slot<D: BlockDevice>(
     alloc: Global,
     thread: &mut Thread<D>,
     slot: Spot,
-    contents: Contents,
+    contents: FileStorage,
 ) -> Result<FileContents, Error>
     requires works { thread.old.failed ≡ false }
     requires cached_log { IsSome (cached_log thread.old slot.pair) }
@@ -58,11 +58,11 @@ fn contents_of_slot<D: BlockDevice>(
     ensures reading { IsReading thread.old thread.new result }
 {
     match contents {
-        Contents::Inline { len } => {
+        FileStorage::Inline { len } => {
             let bytes = inline_at(alloc, thread, slot, 0, len)?;
             Ok(FileContents::Inline(bytes))
         }
-        Contents::List { head, size } => Ok(FileContents::List { head, size }),
+        FileStorage::List { head, size } => Ok(FileContents::List { head, size }),
     }
 }
 

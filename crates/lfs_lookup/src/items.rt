@@ -68,7 +68,7 @@ fn item_of(alloc: Global, slot: &Slot<'_>) -> Result<Option<Item>, AllocError>
 }
 
 // Adds the entry of a slot.
-fn push_shown(alloc: Global, items: &mut Vec<Item>, slot: &Slot<'_>) -> Result<(), AllocError>
+fn push_entry(alloc: Global, items: &mut Vec<Item>, slot: &Slot<'_>) -> Result<(), AllocError>
     requires { HasParts (slot_view slot.now) }
     ensures { OnOk result (items_view items.new.items ≡ items_view items.old.items ++ listed (shown_raw (slot_view slot.now))) }
 {
@@ -85,13 +85,13 @@ fn items_among(alloc: Global, slots: &[Slot<'_>]) -> Result<Vec<Item>, AllocErro
 {
     let mut items = Vec::new(alloc);
     for slot in slots {
-        push_shown(alloc, &mut items, slot)?;
+        push_entry(alloc, &mut items, slot)?;
     }
     Ok(items)
 }
 
 // Removes the slot of an id, if there is one.
-fn remove_moved(slots: &mut Vec<Slot<'_>>, moved: Option<usize>)
+fn remove_moved_slot(slots: &mut Vec<Slot<'_>>, moved: Option<usize>)
     ensures { map slot_view slots.new.items ≡ without moved (map slot_view slots.old.items) }
 {
     if let Some(id) = moved {
@@ -112,7 +112,7 @@ pub(crate) fn items_in(
     ensures errors { IfErr result (λ e. e ≡ Error.NoMemory) }
 {
     let mut content = Content::read(alloc, log)?;
-    remove_moved(&mut content.slots, moved);
+    remove_moved_slot(&mut content.slots, moved);
     let items = items_among(alloc, &content.slots)?;
     Ok(items)
 }

@@ -17,7 +17,7 @@ ghost use Rattle.lfs_lookup.specs.Reading.{IsReading};
 ghost use Rattle.lfs_lookup.specs.Search.{HidesFrom};
 ghost use Rattle.lfs_lookup.specs.Paths.{BeginsOnPath, Descends, Enters, IsHiding, HasNothingSet, IsShownAt, IsThere, LeadsTo, ShowsTo, fault_of};
 
-use crate::entry::{Contents, Entry};
+use crate::entry::{Entry, FileStorage};
 use crate::search::{Sought, Spot, find_name, find_shown};
 use lfs_device::{BlockDevice, Error};
 use lfs_tag::MoveState;
@@ -52,7 +52,7 @@ pub enum Found {
     File {
         parent: usize,
         slot: Spot,
-        contents: Contents,
+        contents: FileStorage,
     },
     /// No entry. The name belongs before the slot `place`.
     Nothing {
@@ -74,7 +74,7 @@ pub enum Shown {
     /// A directory, which begins with the pair of number `first`.
     Directory { slot: Spot, first: usize },
     /// A file.
-    File { slot: Spot, contents: Contents },
+    File { slot: Spot, contents: FileStorage },
     /// No entry.
     Nothing,
     /// A component before the last is a file.

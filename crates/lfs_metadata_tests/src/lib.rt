@@ -7,19 +7,19 @@
 mod blocks;
 #[cfg(test)]
 mod checksums;
+#[cfg(test)]
+mod client_runs;
 mod clients;
 #[cfg(test)]
 mod commits;
 #[cfg(test)]
-mod committing;
-#[cfg(test)]
 mod contents;
 #[cfg(test)]
-mod fetching;
+mod fetches;
 #[cfg(test)]
 mod fields;
 #[cfg(test)]
-mod formatting;
+mod formats;
 #[cfg(test)]
 mod fresh;
 #[cfg(test)]
@@ -27,7 +27,7 @@ mod images;
 #[cfg(test)]
 mod logs;
 #[cfg(test)]
-mod looking;
+mod look;
 #[cfg(test)]
 mod memory;
 #[cfg(test)]
@@ -35,28 +35,28 @@ mod mounts;
 #[cfg(test)]
 mod names;
 #[cfg(test)]
+mod pair_commits;
+#[cfg(test)]
 mod pair_images;
 #[cfg(test)]
 mod paths;
-#[cfg(test)]
-mod reading;
 #[cfg(test)]
 mod rows;
 #[cfg(test)]
 mod scripts;
 #[cfg(test)]
-mod splitting;
+mod splits;
 #[cfg(test)]
-mod stepping;
+mod steps;
 #[cfg(test)]
-mod stopping;
+mod stops;
 #[cfg(test)]
 mod storable;
 #[cfg(test)]
 mod tags;
 #[cfg(test)]
-mod trial;
+mod thread_reads;
 #[cfg(test)]
-mod using;
+mod trial;
 
 pub use clients::{commit_or_stop, split_before};

@@ -5,7 +5,7 @@ ghost use Rattle.std.specs.Prelude.{◌≡◌, false};
 
 use crate::images::{Entries, device};
 use crate::scripts::{Line, SCRIPT, rows_of, run, small};
-use crate::stepping::{Step, carry_out};
+use crate::steps::{Step, carry_out};
 use lfs_device::{BlockDevice, Erased, Error, FaultDevice, Geometry, RamDevice, Which};
 use lfs_pair::{Change, Outcome};
 use lfs_tag::kinds::{FILE_NAME, INLINE_STRUCT, SUPERBLOCK_NAME};

@@ -3,7 +3,7 @@
 ghost use Rattle.std.specs.Prelude.{◌≡◌, false};
 
 use crate::images::{FILE_A, device};
-use crate::stepping::{Step, carry_out};
+use crate::steps::{Step, carry_out};
 use lfs_device::{BlockDevice, Erased, Error, Geometry, RamDevice};
 use lfs_pair::{Change, Outcome};
 use lfs_tag::kinds::{DIRECTORY_NAME, DIRECTORY_STRUCT, FILE_NAME, INLINE_STRUCT};

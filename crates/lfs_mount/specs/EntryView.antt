@@ -1,7 +1,7 @@
 -- An entry of the code as one of the definitions.
 use Rattle.lfs_tag.specs.StructView.{struct_view}
 use Rattle.lfs_mount.specs.Entries as entries
-use Rattle.lfs_mount.specs.declared.entry.Entry.{Entry}
+use Rattle.lfs_mount.specs.declared.entry.NamedStruct.{NamedStruct}
 
-abbrev pub entry_view : Entry → entries.Entry
+abbrev pub entry_view : NamedStruct → entries.Entry
 entry_view e = (e.name.now, entries.stand_of (struct_view e.target))

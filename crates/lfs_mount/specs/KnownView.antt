@@ -3,7 +3,7 @@ use Rattle.lfs_model.specs.Names.{Name}
 use Rattle.lfs_model.specs.declared.order.NameOrder.{NameOrder}
 use Rattle.lfs_mount.specs.Reaching.{Vertex}
 use Rattle.lfs_mount.specs.DirectoryView.{vertex_of}
-use Rattle.lfs_mount.specs.declared.known.Known.{Known}
+use Rattle.lfs_mount.specs.declared.directory_scan.Known.{Known}
 
 abbrev pub known_view : NameOrder → Known → Name × Vertex
 known_view order k = (k.last.items, vertex_of order k.directory)

@@ -11,7 +11,7 @@ use lfs_tag::{Kind, Part, Slot, Struct, is_name};
 
 // An entry of a directory: its name and what it names.
 #[derive(Clone, Copy, Drop)]
-pub(crate) struct Entry<'a> {
+pub(crate) struct NamedStruct<'a> {
     pub name: &'a [u8],
     pub target: Struct<'a>,
 }
@@ -34,7 +34,7 @@ fn target_of<'a>(name: &Part<'_>, structure: &Part<'a>) -> Option<Struct<'a>>
 // Reads the entry in a slot of a directory (SPEC.md of littlefs, "Metadata types"). Returns None
 // exactly where the slot has no name that a directory may have, or no struct that suits the type of
 // its name.
-pub(crate) fn entry_of<'a>(slot: &Slot<'a>) -> Option<Entry<'a>>
+pub(crate) fn entry_of<'a>(slot: &Slot<'a>) -> Option<NamedStruct<'a>>
     ensures { option_map entry_view result ≡ entry_in (slot_view slot.now) }
 {
     let (Some(name), Some(structure)) = (slot.name, slot.structure) else {
@@ -44,7 +44,7 @@ pub(crate) fn entry_of<'a>(slot: &Slot<'a>) -> Option<Entry<'a>>
         return None;
     }
     match target_of(&name, &structure) {
-        Some(target) => Some(Entry {
+        Some(target) => Some(NamedStruct {
             name: name.bytes,
             target,
         }),

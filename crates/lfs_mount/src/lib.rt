@@ -4,16 +4,16 @@
 
 mod accepted_images;
 mod check;
-mod either;
+mod directory_scan;
 mod entry;
 mod head;
-mod known;
 mod lists;
 mod members;
 mod moves;
+mod order_choice;
 mod orders;
 mod pass;
 mod reachability;
 
 pub use accepted_images::mount;
-pub use either::mount_either;
+pub use order_choice::mount_either;

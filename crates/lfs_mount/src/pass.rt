@@ -18,8 +18,8 @@ ghost use Rattle.lfs_mount.specs.Reads.{pair_reads};
 ghost use Rattle.lfs_mount.specs.Taken.{Takes, behind_superblock, unmoved_of};
 ghost use Rattle.lfs_tag.specs.ContentView.{slot_view};
 
+use crate::directory_scan::Known;
 use crate::entry::entry_of;
-use crate::known::Known;
 use crate::lists::mark_lists;
 use crate::reachability::Directory;
 use lfs_alloc::BlockMap;
@@ -42,7 +42,7 @@ pub(crate) struct Member {
 }
 
 // Removes the slot that a set move names. Corrupt exactly where it is no entry.
-fn take_moved(slots: &mut Vec<Slot<'_>>, moved: Option<u32>) -> Result<(), Error>
+fn take_moved_slot(slots: &mut Vec<Slot<'_>>, moved: Option<u32>) -> Result<(), Error>
     ensures ok { OnOk result (unmoved_of moved (map slot_view slots.old.items) ≡ Some (map slot_view slots.new.items)) }
     ensures corrupt { IfErr result (λ e. (e ≡ Error.Corrupt) × (unmoved_of moved (map slot_view slots.old.items) ≡ None)) }
 {
@@ -100,7 +100,7 @@ fn take_pair<D: BlockDevice>(
     let bytes = read_block(alloc, device, member.active)?;
     let log = Log::read(&bytes);
     let mut slots = Content::read(alloc, &log)?.slots;
-    take_moved(&mut slots, member.moved)?;
+    take_moved_slot(&mut slots, member.moved)?;
     take_superblock(&mut slots, member.has_superblock)?;
     known.scan(places, &slots)?;
     mark_lists(device, map, &slots)?;

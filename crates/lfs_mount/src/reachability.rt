@@ -71,7 +71,7 @@ fn reached(alloc: Global, directories: &[Directory], order: NameOrder) -> Result
 // Checks the directories of a thread in an order of names. Those that are reached from the root,
 // which is the first, are sound, and none is reached twice. Unless the sync bit is set, all are
 // reached. Corrupt exactly where that isn't so.
-fn check_reached(
+fn check_reachability(
     alloc: Global,
     directories: &[Directory],
     order: NameOrder,
@@ -102,7 +102,7 @@ fn are_right(
     ensures right { IfOk result (λ right. (ps : List Pair) → GraphShows order (graph_of order directories.now) sync ps → (right ≡ true) ↔ AreRight order ps) }
     ensures error { IfErr result (λ e. e ≡ Error.NoMemory) }
 {
-    match check_reached(alloc, directories, order, sync) {
+    match check_reachability(alloc, directories, order, sync) {
         Ok(()) => Ok(true),
         Err(Error::Corrupt) => Ok(false),
         Err(error) => Err(error),

@@ -54,7 +54,7 @@ fn unlink<D: BlockDevice>(
 }
 
 // Returns the number of a pair after another one was dropped.
-fn renumbered(other: usize, pair: usize) -> usize
+fn number_after_drop(other: usize, pair: usize) -> usize
     ensures { result ≡ number_without other pair }
 {
     if other < pair { pair - 1 } else { pair }
@@ -104,7 +104,12 @@ fn remove_with_pair<D: BlockDevice>(
         (tree_in thread.old.kept.disk thread.old.kept.pairs) (without_file thread.old.kept take.can.path take.can.name) }
 {
     drop_at(alloc, thread, pair, &sync_bit())?;
-    drop_at(alloc, thread, renumbered(pair, gone), &MoveState::none())?;
+    drop_at(
+        alloc,
+        thread,
+        number_after_drop(pair, gone),
+        &MoveState::none(),
+    )?;
     Ok(())
 }
 

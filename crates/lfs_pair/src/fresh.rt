@@ -15,9 +15,9 @@ ghost use Rattle.lfs_pair.specs.Writing.{ChangesReading, WritesBlock, WritesOnly
 ghost use Rattle.lfs_pair.specs.Fresh.{CanBeFresh, ClearsLogs, FailsUntouched, HoldsFresh, IsFresh};
 
 use crate::change::Change;
-use crate::making::made_of_nothing;
+use crate::contents::made_of_nothing;
 use crate::pair::Pair;
-use crate::writing::write_anew;
+use crate::programs::write_anew;
 use lfs_device::{BlockDevice, Error};
 use lfs_tag::{Content, Log};
 use std::alloc::Global;

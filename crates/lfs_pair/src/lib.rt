@@ -2,21 +2,21 @@
 #![tactic(auto)]
 
 mod change;
-mod committing;
+mod commits;
+mod contents;
 mod cut;
 mod entries;
-mod fetching;
+mod fetches;
 mod fresh;
-mod making;
+mod heads;
 mod pair;
-mod reading;
+mod programs;
 mod size;
-mod splitting;
-mod writing;
+mod splits;
 
 pub use change::{Change, apply_all};
-pub use committing::{Outcome, commit, commit_in};
-pub use fetching::fetch;
+pub use commits::{Outcome, commit, commit_in};
+pub use fetches::fetch;
 pub use pair::{Pair, is_same_pair};
 pub use size::{attributes_size, fits};
-pub use splitting::{split, split_in};
+pub use splits::{split, split_in};

@@ -6,7 +6,7 @@ ghost use Rattle.lfs_model.specs.Slots.{address_of, same_pair};
 ghost use Rattle.lfs_tag.specs.ContentView.{content_view, slot_view};
 ghost use Rattle.lfs_pair.specs.Pair.{EndsWith, SumsUp, other_in};
 
-use crate::writing::Written;
+use crate::programs::Written;
 use lfs_tag::{Content, MoveState, Slot, Tag, Tail};
 
 // Returns whether each slot has a name and a struct.

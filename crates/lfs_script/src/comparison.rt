@@ -9,7 +9,7 @@ use lfs_script_lines::{Answer, Difference, Scope};
 use std::alloc::{AllocError, Global};
 
 // Begins a session on a device that holds these bytes.
-fn mounted(alloc: Global, geometry: Geometry, bytes: Vec<u8>) -> Result<Session<Device>, Error> {
+fn mount_copy(alloc: Global, geometry: Geometry, bytes: Vec<u8>) -> Result<Session<Device>, Error> {
     let device = RamDevice::from_bytes(geometry, bytes)?;
     match mount(alloc, with_fault(device, NO_FAULT)) {
         Ok(session) => Ok(session),
@@ -242,7 +242,7 @@ fn difference(
 ) -> Result<Option<Difference>, Error> {
     let gstate = session.gstate()?;
     let geometry = session.device().geometry();
-    let mut other = mounted(alloc, geometry, bytes)?;
+    let mut other = mount_copy(alloc, geometry, bytes)?;
     if gstate != other.gstate()? {
         return Ok(Some(Difference::Gstate));
     }

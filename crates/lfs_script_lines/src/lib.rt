@@ -2,7 +2,7 @@
 #![tactic(auto)]
 
 mod answer;
-mod answered;
+mod answer_text;
 mod command;
 mod lines;
 mod numbers;
@@ -10,7 +10,7 @@ mod words;
 mod written;
 
 pub use answer::{Answer, Calls, Difference};
-pub use answered::push_answer;
+pub use answer_text::push_answer;
 pub use command::{Command, Operation, Scope};
 pub use lines::{LineError, read_line};
 pub use words::read_word;

@@ -128,7 +128,7 @@ fn repetition(word: &[u8]) -> Option<(u64, &[u8])>
 }
 
 // Returns the bytes so many times.
-fn repeated(alloc: Global, bytes: &[u8], count: u64) -> Result<Vec<u8>, AllocError>
+fn repeat_bytes(alloc: Global, bytes: &[u8], count: u64) -> Result<Vec<u8>, AllocError>
     ensures bytes { IfOk result (λ v. v.items ≡ repeat count bytes.now) }
     ensures room { IfOk result (λ v. length v.items < 2 ^ 63) }
 {
@@ -156,6 +156,6 @@ pub fn read_word(alloc: Global, word: &[u8]) -> Result<Option<Vec<u8>>, AllocErr
     if count == 1 {
         Ok(Some(bytes))
     } else {
-        Ok(Some(repeated(alloc, &bytes, count)?))
+        Ok(Some(repeat_bytes(alloc, &bytes, count)?))
     }
 }

@@ -13,7 +13,7 @@ ghost use Rattle.lfs_tag.specs.Builder.{with_entry, padded_end, checksum_tag as 
 
 use crate::crc;
 use crate::kinds::{CHECKSUM, TURNED_CHECKSUM};
-use crate::pushed::Pushed;
+use crate::pushed_commit::Pushed;
 use crate::tag::Tag;
 use byteorder::{BigEndian, ByteOrder, LittleEndian};
 use lfs_device::Error;

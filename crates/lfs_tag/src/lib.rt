@@ -13,7 +13,7 @@ pub mod kinds;
 mod log;
 mod lookup;
 mod names;
-mod pushed;
+mod pushed_commit;
 mod revision;
 mod search;
 mod slot_kind;

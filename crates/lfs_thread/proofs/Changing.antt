@@ -21,8 +21,8 @@ use Rattle.lfs_model.proofs.Histories.{unprogrammed-reads}
 use Rattle.lfs_device.specs.declared.error.Error.{Error}
 use Rattle.lfs_device.specs.declared.geometry.Geometry.{Geometry}
 use Rattle.lfs_device.specs.Shown.{disk_of}
-use Rattle.lfs_pair.specs.declared.committing.Outcome.{Outcome}
-use Rattle.lfs_pair.specs.declared.committing.Outcome.TheVariants.{Done, Full}
+use Rattle.lfs_pair.specs.declared.commits.Outcome.{Outcome}
+use Rattle.lfs_pair.specs.declared.commits.Outcome.TheVariants.{Done, Full}
 use Rattle.lfs_pair.specs.Pair.{address_in}
 use Rattle.lfs_pair.specs.Commit.{CanCommit, Commits, NowHolds, IsAddressOn, OutsideKeeps, OutsideStays, IsMade, IsStill, LeftByChange, made_at}
 use Rattle.lfs_model.specs.View.{superblock_entry}

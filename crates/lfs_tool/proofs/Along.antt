@@ -12,7 +12,7 @@ use Rattle.lfs_tool.specs.Held.{plain_pair}
 use Rattle.lfs_tool.specs.HeldView.{pair_view, pairs_view}
 use Rattle.lfs_tool.specs.Leading.{IsNamed, LinksTo}
 use Rattle.lfs_tool.specs.Reading.{AreHeld, IsHeld}
-use Rattle.lfs_tool.specs.declared.held.HeldPair.{HeldPair}
+use Rattle.lfs_tool.specs.declared.held_parts.HeldPair.{HeldPair}
 
 links_more : (from next : Option (ℕ × ℕ)) (ps : List Pair) (p : Pair) → LinksTo from ps next → next ≡ Some p.at → LinksTo from (ps ++ p ∷ []) (next_of p.content.tail)
 links_more from next [] p l e = (l ∙ e, refl)

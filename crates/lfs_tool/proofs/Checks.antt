@@ -4,10 +4,10 @@ use Rattle.std.specs.Prelude.{IfSome}
 use Rattle.std.proofs.lemmas.List.{length-take, take_all}
 use Rattle.lfs_model.specs.Disk.{IsImage}
 use Rattle.lfs_tool.specs.Checked.{IsCheckedAs, IsGiven}
-use Rattle.lfs_tool.specs.declared.checked.Checked.{Checked}
-use Rattle.lfs_tool.specs.declared.checked.Checked.TheVariants as checked
-use Rattle.lfs_tool.specs.declared.checked.Given.{Given}
-use Rattle.lfs_tool.specs.declared.checked.Reason.TheVariants as reason
+use Rattle.lfs_tool.specs.declared.check_result.Checked.{Checked}
+use Rattle.lfs_tool.specs.declared.check_result.Checked.TheVariants as checked
+use Rattle.lfs_tool.specs.declared.check_result.Given.{Given}
+use Rattle.lfs_tool.specs.declared.check_result.Reason.TheVariants as reason
 use Rattle.lfs_tool.proofs.Images.{image_fits, most}
 
 -- one text behind another

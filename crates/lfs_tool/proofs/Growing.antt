@@ -15,50 +15,50 @@ use Rattle.lfs_model.proofs.Counts.{Each, each_append, each_both, each_weaker}
 use Rattle.lfs_model.proofs.Paths.{append_step, cancel, not_longer}
 use Rattle.lfs_tool_folders.specs.InMemory.{items_by}
 use Rattle.lfs_tool_folders.specs.Entries.{AreAll, AreRead, AreWithin, HoldsSource, Place, places_in}
-use Rattle.lfs_tool_folders.specs.declared.entries.Entry.{Entry}
+use Rattle.lfs_tool_folders.specs.declared.entries.SourceEntry.{SourceEntry}
 use Rattle.lfs_tool.specs.Applied.{node_by}
 use Rattle.lfs_tool.proofs.NamesGiven.{Rising, before_it, each_given, each_names, kind_moved, less_unlike, name_at_end, none_given, rising_from, rising_right}
 use Rattle.lfs_tool.proofs.PathPlaces.{AreComponents, added_above, added_aside, added_there, path_more, read_back}
 
 -- ---- entries that come
 
-abbrev pub grown : Entry → Tree → Tree
+abbrev pub grown : SourceEntry → Tree → Tree
 grown e t = added (as_path e.path.items) (node_by (items_by e.bytes)) t
 
-abbrev pub tree_after : List Entry → Tree → Tree
+abbrev pub tree_after : List SourceEntry → Tree → Tree
 tree_after [] t = t
 tree_after (e ∷ es) t = tree_after es (grown e t)
 
 -- nothing is at the path at which each comes
-abbrev pub AreNew : List Entry → Tree → Type 0
+abbrev pub AreNew : List SourceEntry → Tree → Type 0
 AreNew [] t = Unit {0}
 AreNew (e ∷ es) t = (t (as_path e.path.items) ≡ None) × AreNew es (grown e t)
 
-tree_append : (xs ys : List Entry) (t : Tree) → tree_after (xs ++ ys) t ≡ tree_after ys (tree_after xs t)
+tree_append : (xs ys : List SourceEntry) (t : Tree) → tree_after (xs ++ ys) t ≡ tree_after ys (tree_after xs t)
 tree_append [] ys t = refl
 tree_append (e ∷ xs) ys t = tree_append xs ys (grown e t)
 
-new_append : (xs ys : List Entry) (t : Tree) → AreNew xs t → AreNew ys (tree_after xs t) → AreNew (xs ++ ys) t
+new_append : (xs ys : List SourceEntry) (t : Tree) → AreNew xs t → AreNew ys (tree_after xs t) → AreNew (xs ++ ys) t
 new_append [] ys t h k = k
 new_append (e ∷ xs) ys t h k = (h.0, new_append xs ys (grown e t) h.1 k)
 
 -- ---- what was read, in two parts
 
-record Parted (known : Option Source) (ps qs : List Place) (es : List Entry) : Type 0 where
-  front : List Entry
-  back : List Entry
+record Parted (known : Option Source) (ps qs : List Place) (es : List SourceEntry) : Type 0 where
+  front : List SourceEntry
+  back : List SourceEntry
   joined : es ≡ front ++ back
   first : AreRead known ps front
   second : AreRead known qs back
 
-parted : (known : Option Source) (ps qs : List Place) (es : List Entry) → AreRead known (ps ++ qs) es → Parted known ps qs es
+parted : (known : Option Source) (ps qs : List Place) (es : List SourceEntry) → AreRead known (ps ++ qs) es → Parted known ps qs es
 parted known [] qs es h = record { front = []; back = es; joined = refl; first = tt; second = h }
 parted known (p ∷ ps) qs [] h = absurd h
 parted known (p ∷ ps) qs (e ∷ es) (path, (within, (holds, rest))) =
     let k = parted known (places_in p.0 within ++ ps) qs es (subst (λ xs. AreRead known xs es) (sym (append_assoc (places_in p.0 within) ps qs)) rest) in
     record { front = e ∷ k.front; back = k.back; joined = ap (λ z. e ∷ z) k.joined; first = (path, (within, (holds, k.first))); second = k.second }
 
-none_read : (known : Option Source) (ps : List Place) (es : List Entry) → ps ≡ [] → AreRead known ps es → es ≡ []
+none_read : (known : Option Source) (ps : List Place) (es : List SourceEntry) → ps ≡ [] → AreRead known ps es → es ≡ []
 none_read known [] [] e h = refl
 none_read known [] (x ∷ es) e h = absurd h
 none_read known (p ∷ ps) es e h = absurd (cc)
@@ -91,7 +91,7 @@ whole_shows s f within new w h (m ∷ rest) =
 -- ---- what comes into a folder
 
 -- The folder has the names so far, the names that come are greater, and nothing is there yet.
-record IsSourceBegun (s : Source) (f : Path) (ns : List Name) (gs : List (Name × Bool)) (es : List Entry) (t : Tree) : Type 0 where
+record IsSourceBegun (s : Source) (f : Path) (ns : List Name) (gs : List (Name × Bool)) (es : List SourceEntry) (t : Tree) : Type 0 where
   read : AreRead (Some s) (places_in (path_bytes f) gs) es
   folder : t f ≡ Some (DirectoryNode [] ns)
   rising : Rising (ns ++ given_names gs)
@@ -99,27 +99,27 @@ record IsSourceBegun (s : Source) (f : Path) (ns : List Name) (gs : List (Name �
   components : Each (λ g. is_component g.0 ≡ true) gs
   empty : Each (λ g. (rest : Path) → t (f ++ g.0 ∷ rest) ≡ None) gs
 
-record HasGrown (s : Source) (f : Path) (ns : List Name) (gs : List (Name × Bool)) (es : List Entry) (t : Tree) : Type 0 where
+record HasGrown (s : Source) (f : Path) (ns : List Name) (gs : List (Name × Bool)) (es : List SourceEntry) (t : Tree) : Type 0 where
   folder : tree_after es t f ≡ Some (DirectoryNode [] (ns ++ given_names gs))
   below : Each (ShowsName s f (tree_after es t)) gs
   others : (q : Path) → (q ≡ f → ⊥) → Each (λ g. (rest : Path) → q ≡ f ++ g.0 ∷ rest → ⊥) gs → tree_after es t q ≡ t q
   new : AreNew es t
 
 -- What comes at a path and beneath it.
-record HasCome (s : Source) (p : Path) (is_folder : Bool) (es : List Entry) (t : Tree) : Type 0 where
+record HasCome (s : Source) (p : Path) (is_folder : Bool) (es : List SourceEntry) (t : Tree) : Type 0 where
   below : (rest : Path) → IsNodeOf (beneath s (path_bytes p) rest is_folder) (tree_after es t (p ++ rest))
   others : (q : Path) → ((rest : Path) → q ≡ p ++ rest → ⊥) → tree_after es t q ≡ t q
   new : AreNew es t
 
 abbrev Grows : ℕ → Type 0
-Grows n = (s : Source) (f : Path) (ns : List Name) (gs : List (Name × Bool)) (es : List Entry) (t : Tree) → length es ≤ n → IsSourceBegun s f ns gs es t → HasGrown s f ns gs es t
+Grows n = (s : Source) (f : Path) (ns : List Name) (gs : List (Name × Bool)) (es : List SourceEntry) (t : Tree) → length es ≤ n → IsSourceBegun s f ns gs es t → HasGrown s f ns gs es t
 
 a_file : (s : Source) (p : Path) (bytes : List ℕ) (t : Tree) → bytes ≡ s.bytes (path_bytes p) → t p ≡ Some (FileNode [] bytes) → ((m : Name) (rest : Path) → t (p ++ m ∷ rest) ≡ None)
     → (rest : Path) → IsNodeOf (file_at s (path_bytes p) rest) (t (p ++ rest))
 a_file s p bytes t is there none [] = subst (IsNodeOf (Some (AFile (s.bytes (path_bytes p))))) (sym (ap t (append-nil p) ∙ there)) (refl, is)
 a_file s p bytes t is there none (m ∷ rest) = subst (IsNodeOf None) (sym (none m rest)) tt
 
-come : (n : ℕ) → Grows n → (s : Source) (p : Path) (is_folder : Bool) (o : Option (List ℕ)) (within : List (Name × Bool)) (es : List Entry) (t : Tree) → length es ≤ n → HoldsSource (Some s) (path_bytes p) is_folder o within
+come : (n : ℕ) → Grows n → (s : Source) (p : Path) (is_folder : Bool) (o : Option (List ℕ)) (within : List (Name × Bool)) (es : List SourceEntry) (t : Tree) → length es ≤ n → HoldsSource (Some s) (path_bytes p) is_folder o within
     → AreRead (Some s) (places_in (path_bytes p) within) es → AreComponents p → t p ≡ Some (node_by o) → ((m : Name) (rest : Path) → t (p ++ m ∷ rest) ≡ None) → HasCome s p is_folder es t
 come n ih s p false None within es t few holds read path there none = absurd holds
 come n ih s p false (Some bytes) within es t few holds read path there none =
@@ -154,12 +154,12 @@ come n ih s p true None within es t few holds read path there none =
     each_away q away (g ∷ gs) = ((λ rest e. away (g.0 ∷ rest) e), each_away q away gs)
 come n ih s p true (Some bytes) within es t few holds read path there none = absurd holds
 
-nothing_grows : (s : Source) (f : Path) (ns : List Name) (es : List Entry) (t : Tree) → IsSourceBegun s f ns [] es t → HasGrown s f ns [] es t
+nothing_grows : (s : Source) (f : Path) (ns : List Name) (es : List SourceEntry) (t : Tree) → IsSourceBegun s f ns [] es t → HasGrown s f ns [] es t
 nothing_grows s f ns es t b =
     let nothing : es ≡ [] = none_read (Some s) [] es refl b.read in
     subst (λ xs. HasGrown s f ns [] xs t) (sym nothing) (record { folder = b.folder ∙ ap (λ xs. Some (DirectoryNode [] xs)) (sym (append-nil ns)); below = tt; others = λ q a h. refl; new = tt })
 
-module _ (n : ℕ) (ih : Grows n) (s : Source) (f : Path) (ns : List Name) (g : Name × Bool) (gs : List (Name × Bool)) (e : Entry) (es : List Entry) (t : Tree) (few : length es ≤ n) (b : IsSourceBegun s f ns (g ∷ gs) (e ∷ es) t) where
+module _ (n : ℕ) (ih : Grows n) (s : Source) (f : Path) (ns : List Name) (g : Name × Bool) (gs : List (Name × Bool)) (e : SourceEntry) (es : List SourceEntry) (t : Tree) (few : length es ≤ n) (b : IsSourceBegun s f ns (g ∷ gs) (e ∷ es) t) where
   abbrev p : Path
   p = f ++ g.0 ∷ []
 
@@ -257,11 +257,11 @@ grows (suc n) s f ns (g ∷ gs) (e ∷ es) t few b = more_grows n (grows n) s f 
 
 -- ---- all of the source
 
-pub record IsCarriedTree (s : Source) (es : List Entry) : Type 0 where
+pub record IsCarriedTree (s : Source) (es : List SourceEntry) : Type 0 where
   pub tree : IsTreeOf s (tree_after es empty_tree)
   pub new : AreNew es empty_tree
 
-pub carried_tree : (s : Source) (es : List Entry) → AreAll (Some s) es → IsCarriedTree s es
+pub carried_tree : (s : Source) (es : List SourceEntry) → AreAll (Some s) es → IsCarriedTree s es
 carried_tree s es (top, (w, read)) =
     let h = grows (length es) s [] [] top es empty_tree (omega arith) (record {
       read = read;

@@ -4,7 +4,7 @@ use Rattle.std.specs.Prelude.{slice_get}
 use Rattle.lfs_model.specs.Thread.{Pair}
 use Rattle.lfs_tool.specs.Held.{plain_pair, plain_pairs}
 use Rattle.lfs_tool.specs.HeldView.{pair_view, pairs_view}
-use Rattle.lfs_tool.specs.declared.held.HeldPair.{HeldPair}
+use Rattle.lfs_tool.specs.declared.held_parts.HeldPair.{HeldPair}
 
 -- the pair of which that is held
 pub held_there : (held : List HeldPair) (ps : List Pair) (i : ℕ) (h : HeldPair) → pairs_view held ≡ plain_pairs ps → i < length held → h ≡ get_or held i h

@@ -6,8 +6,8 @@ use Rattle.lfs_model.specs.Thread.{Pair}
 use Rattle.lfs_tool.specs.Broken.{HasAt, IsEntrySlot}
 use Rattle.lfs_tool.specs.HeldView.{held_view, pair_view, pairs_view}
 use Rattle.lfs_tool.specs.declared.findings.Place.{Place}
-use Rattle.lfs_tool.specs.declared.held.HeldPair.{HeldPair}
-use Rattle.lfs_tool.specs.declared.held.HeldSlot.{HeldSlot}
+use Rattle.lfs_tool.specs.declared.held_parts.HeldPair.{HeldPair}
+use Rattle.lfs_tool.specs.declared.held_parts.HeldSlot.{HeldSlot}
 use Rattle.lfs_model.specs.Slots.{address_of}
 
 there : {X Y : Type 0} (f : X → Y) (xs : List X) (i : ℕ) (x : X) → i < length xs → x ≡ get_or xs i x → slice_get (map f xs) i ≡ Some (f x)

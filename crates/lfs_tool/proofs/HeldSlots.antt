@@ -14,7 +14,7 @@ use Rattle.lfs_tag.specs.FieldsView.{move_view}
 use Rattle.lfs_tool.specs.Held.{listed, plain, plain_among}
 use Rattle.lfs_tool.specs.HeldView.{held_view}
 use Rattle.lfs_tool.specs.Reading.{IsHeld}
-use Rattle.lfs_tool.specs.declared.held.HeldPair.{HeldPair}
+use Rattle.lfs_tool.specs.declared.held_parts.HeldPair.{HeldPair}
 
 parts_of : {X : Type 0} (f : X → RawSlot) (xs : List X) (i : ℕ) (d : X) → HaveParts (map f xs) → i < length xs → HasParts (f (get_or xs i d))
 parts_of f [] i d h l = absurd (omega arith)

@@ -27,7 +27,7 @@ use Rattle.lfs_model.proofs.Kept.{fresh_defined, fresh_settled, fresh_true}
 use Rattle.lfs_model.proofs.Uniqueness.{one_thread}
 use Rattle.lfs_fs.specs.Held.{Held, system_state_of}
 use Rattle.lfs_tool_folders.specs.Entries.{AreAll}
-use Rattle.lfs_tool_folders.specs.declared.entries.Entry.{Entry}
+use Rattle.lfs_tool_folders.specs.declared.entries.SourceEntry.{SourceEntry}
 use Rattle.lfs_tool.specs.Applied.{AreAllAccepted, IsFirstRefusal, operations_of, operations_of_all}
 use Rattle.lfs_tool.specs.Made.{AreLeft, Begins, IsMade, IsRefused}
 use Rattle.lfs_tool.proofs.Growing.{carried_tree, tree_after}
@@ -69,7 +69,7 @@ some_bytes : (g : Geometry) → 1 ≤ g.block_size
 some_bytes g = let least : 1024 ≤ g.block_size = g.valid.no_smaller in omega (arith, least)
 
 -- what the run left in the device
-pub left : (g : Geometry) (from to : SystemState) (es : List Entry) (d : RamDevice) (bytes : List ℕ) → Begins g from → AreAllAccepted from (operations_of_all es) to
+pub left : (g : Geometry) (from to : SystemState) (es : List SourceEntry) (d : RamDevice) (bytes : List ℕ) → Begins g from → AreAllAccepted from (operations_of_all es) to
     → device.ordered to.disk.order (device.disk_of (geometry_of d) (ram_blocks d)) ≡ to.disk
     → bytes ≡ bytes_of d → AreLeft g es bytes
 left g from to es d bytes b c shown is =
@@ -99,7 +99,7 @@ same_session s t e = ap or_else e
     or_else HasFailed = s
     or_else (Healthy z) = z
 
-pub made : (g : Geometry) (known : Option Source) (es : List Entry) (bytes : List ℕ) → AreAll known es → AreLeft g es bytes → IsMade g known bytes
+pub made : (g : Geometry) (known : Option Source) (es : List SourceEntry) (bytes : List ℕ) → AreAll known es → AreLeft g es bytes → IsMade g known bytes
 made g known es bytes all l = record {
   len = l.len;
   image = record {
@@ -137,10 +137,10 @@ made g known es bytes all l = record {
 
 -- ---- what is passed on
 
-pub refused : {X : Type 0} (r : Result X Error) (e : Error) (g : Geometry) (from : SystemState) (es : List Entry) → IsErrAnd r (λ f. f ≡ e) → Begins g from → (e ≢ NoMemory → IsFirstRefusal from (operations_of_all es) e)
+pub refused : {X : Type 0} (r : Result X Error) (e : Error) (g : Geometry) (from : SystemState) (es : List SourceEntry) → IsErrAnd r (λ f. f ≡ e) → Begins g from → (e ≢ NoMemory → IsFirstRefusal from (operations_of_all es) e)
     → IfErr r (λ f. f ≢ NoMemory → IsRefused g es f)
 refused (Ok x) e g from es is b h = tt
 refused (Err f) e g from es is b h = λ other. record { from = from; begins = b; first = subst (IsFirstRefusal from (operations_of_all es)) (sym is) (h (λ x. other (is ∙ x))) }
 
-pub passed : (g : Geometry) (es slice : List Entry) (image written : List ℕ) → slice ≡ es → written ≡ image → AreLeft g slice image → AreLeft g es written
+pub passed : (g : Geometry) (es slice : List SourceEntry) (image written : List ℕ) → slice ≡ es → written ≡ image → AreLeft g slice image → AreLeft g es written
 passed g es slice image written same is l = subst (λ xs. AreLeft g es xs) (sym is) (subst (λ xs. AreLeft g xs image) same l)

@@ -19,7 +19,7 @@ use Rattle.lfs_model.proofs.Kept.{fresh_defined}
 use Rattle.lfs_fs.specs.Held.{FailsBy}
 use Rattle.lfs_lookup.specs.Refusals as refusals
 use Rattle.lfs_tool_folders.specs.InMemory.{items_by}
-use Rattle.lfs_tool_folders.specs.declared.entries.Entry.{Entry}
+use Rattle.lfs_tool_folders.specs.declared.entries.SourceEntry.{SourceEntry}
 use Rattle.lfs_tool.specs.Applied.{AreAllAccepted, AreEndedBy, Ends, HasNoFile, IsFirstRefusal, node_by, operations_of}
 use Rattle.lfs_tool.proofs.Runs.{ended_before, ended_on}
 use Rattle.lfs_tool.proofs.Stepping.{HasCarried, carried_from}
@@ -37,11 +37,11 @@ comes from to operations f c = record { from = from; fresh = f.fresh; mounts = f
 abbrev pub anywhere : Surroundings
 anywhere = record { writable = true; block_size = 0; page = 0; block_count = 0; used = []; gstate = no_gstate }
 
-pub has_carried : (from to : SystemState) (es : List Entry) (f : IsFromFresh from) (c : AreAllAccepted from (flat_map operations_of es) to) →
+pub has_carried : (from to : SystemState) (es : List SourceEntry) (f : IsFromFresh from) (c : AreAllAccepted from (flat_map operations_of es) to) →
     HasCarried (session_after_all anywhere (mounted empty_tree) (flat_map operations_of es) c.replies) es empty_tree
 has_carried from to es f c = carried_from anywhere es empty_tree [] c.replies from to tt (recursion_from_All (λ r. is_refusal r ≡ false) c.replies c.accepted) c.session_steps
 
-pub no_file : (from to : SystemState) (es : List Entry) → IsFromFresh from → AreAllAccepted from (flat_map operations_of es) to → HasNoFile to
+pub no_file : (from to : SystemState) (es : List SourceEntry) → IsFromFresh from → AreAllAccepted from (flat_map operations_of es) to → HasNoFile to
 no_file from to es f c = record {
   session = session_after_all anywhere (mounted empty_tree) (flat_map operations_of es) c.replies;
   healthy = fresh_defined (flat_map operations_of es) c.replies to anywhere (comes from to (flat_map operations_of es) f c);
@@ -50,7 +50,7 @@ no_file from to es f c = record {
 
 -- ---- errors
 
-no_remount : (e : Entry) → Each (λ op. is_remount op ≡ false) (operations_of e)
+no_remount : (e : SourceEntry) → Each (λ op. is_remount op ≡ false) (operations_of e)
 no_remount e = go (items_by e.bytes)
   where
     go : (o : Option (List ℕ)) → Each (λ op. is_remount op ≡ false) (operations_for e.path.items (node_by o))
@@ -80,13 +80,13 @@ refusal_first e from to operations k is = record {
 }
 
 -- the entries that come before one and behind it
-parts : (es : List Entry) (i : ℕ) (d : Entry) → i < length es → flat_map operations_of es ≡ (flat_map operations_of (take i es) ++ operations_of (get_or es i d)) ++ flat_map operations_of (drop (i + 1) es)
+parts : (es : List SourceEntry) (i : ℕ) (d : SourceEntry) → i < length es → flat_map operations_of es ≡ (flat_map operations_of (take i es) ++ operations_of (get_or es i d)) ++ flat_map operations_of (drop (i + 1) es)
 parts es i d lt =
     ap (flat_map operations_of) (sym (take-append-drop i es) ∙ ap (λ zs. take i es ++ zs) (drop-cons es i d lt ∙ ap (λ n. get_or es i d ∷ drop n es) (sym (add-one i))))
     ∙ flat_map-append operations_of (take i es) (get_or es i d ∷ drop (i + 1) es)
     ∙ sym (append_assoc (flat_map operations_of (take i es)) (operations_of (get_or es i d)) (flat_map operations_of (drop (i + 1) es)))
 
-pub first_refused : (e : Error) (es : List Entry) (i : ℕ) (d : Entry) (from at to : SystemState) → i < length es → IsFromFresh from → AreAllAccepted from (flat_map operations_of (take i es)) at
+pub first_refused : (e : Error) (es : List SourceEntry) (i : ℕ) (d : SourceEntry) (from at to : SystemState) → i < length es → IsFromFresh from → AreAllAccepted from (flat_map operations_of (take i es)) at
     → AreEndedBy e at (operations_of (get_or es i d)) to → faults to.calls ≡ 0 → e ≢ NoMemory → IsFirstRefusal from (flat_map operations_of es) e
 first_refused e es i d from at to lt f c k none not_memory = go (refusals.is_refusal e) refl
   where

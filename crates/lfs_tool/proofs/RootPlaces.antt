@@ -3,7 +3,7 @@ use Rattle.std.proofs.Common.{ℕ, zero, suc, ◌≡◌, ◌+◌, ◌-◌, ◌<�
 use Rattle.lfs_model.specs.Thread.{directory_pairs, meets_superblock, superblocks_before}
 use Rattle.lfs_model.specs.View.{first_slots}
 use Rattle.lfs_tool.specs.HeldView.{pair_view, pairs_view}
-use Rattle.lfs_tool.specs.declared.held.HeldPair.{HeldPair}
+use Rattle.lfs_tool.specs.declared.held_parts.HeldPair.{HeldPair}
 
 -- the pairs from an index on
 pub seen_from : (pairs : List HeldPair) (i j : ℕ) (h : HeldPair) → j ≡ suc i → i < length pairs → h ≡ get_or pairs i h → pairs_view (drop i pairs) ≡ pair_view h ∷ pairs_view (drop j pairs)

@@ -16,7 +16,7 @@ use Rattle.lfs_fs.specs.Held.{Answers, Held, system_state_of}
 use Rattle.lfs_fs.specs.Replies.{reply_in}
 use Rattle.lfs_lookup.specs.Refusals as refusals
 use Rattle.lfs_lookup.specs.Refusals.{refusal_in}
-use Rattle.lfs_tool_folders.specs.declared.entries.Entry.{Entry}
+use Rattle.lfs_tool_folders.specs.declared.entries.SourceEntry.{SourceEntry}
 use Rattle.lfs_tool.specs.Applied.{AreAllAccepted, AreEndedBy, AppliesAll, Ends, HasNoFile, operations_of}
 use Rattle.lfs_tool.proofs.Stepping.{opened_first}
 
@@ -128,12 +128,12 @@ closes old between written new path bytes fd count r o turn h =
 
 -- ---- entries in turn
 
-pub entry_more : (es : List Entry) (i : ℕ) (d : Entry) (a b c : SystemState) → i < length es → AreAllAccepted a (flat_map operations_of (take i es)) b → AreAllAccepted b (operations_of (get_or es i d)) c
+pub entry_more : (es : List SourceEntry) (i : ℕ) (d : SourceEntry) (a b c : SystemState) → i < length es → AreAllAccepted a (flat_map operations_of (take i es)) b → AreAllAccepted b (operations_of (get_or es i d)) c
     → AreAllAccepted a (flat_map operations_of (take (i + 1) es)) c
 entry_more es i d a b c lt h k =
     let more : flat_map operations_of (take (i + 1) es) ≡ flat_map operations_of (take i es) ++ operations_of (get_or es i d) =
     ap (flat_map operations_of) (take_more es i d lt) ∙ flat_map-append operations_of (take i es) (get_or es i d ∷ []) ∙ ap (λ zs. flat_map operations_of (take i es) ++ zs) (append-nil (operations_of (get_or es i d))) in
     subst (λ xs. AreAllAccepted a xs c) (sym more) (carried_on (flat_map operations_of (take i es)) (operations_of (get_or es i d)) a b c h k)
 
-pub all_entries : (es : List Entry) (i : ℕ) (a b : SystemState) → length es ≤ i → AreAllAccepted a (flat_map operations_of (take i es)) b → AreAllAccepted a (flat_map operations_of es) b
+pub all_entries : (es : List SourceEntry) (i : ℕ) (a b : SystemState) → length es ≤ i → AreAllAccepted a (flat_map operations_of (take i es)) b → AreAllAccepted a (flat_map operations_of es) b
 all_entries es i a b h k = subst (λ xs. AreAllAccepted a (flat_map operations_of xs) b) (take_all i es h) k

@@ -16,7 +16,7 @@ use Rattle.lfs_model.specs.Run.{AreSessionSteps, IsSessionStep, SystemState, is_
 use Rattle.lfs_model.specs.Headline.{session_after_all}
 use Rattle.lfs_model.proofs.Counts.{Each}
 use Rattle.lfs_tool_folders.specs.InMemory.{items_by}
-use Rattle.lfs_tool_folders.specs.declared.entries.Entry.{Entry}
+use Rattle.lfs_tool_folders.specs.declared.entries.SourceEntry.{SourceEntry}
 use Rattle.lfs_tool.specs.Applied.{AreClosed, node_by, operations_of}
 use Rattle.lfs_tool.proofs.Growing.{AreNew, grown, tree_after}
 
@@ -137,11 +137,11 @@ stepped around path (Some bytes) more = file_stepped around path bytes more
 
 -- ---- entries in turn
 
-pub record HasCarried (s : Session) (es : List Entry) (t : Tree) : Type 0 where
+pub record HasCarried (s : Session) (es : List SourceEntry) (t : Tree) : Type 0 where
   pub closed : AreClosed s.files
   pub tree : AreNew es t → s.tree ≡ tree_after es t
 
-pub carried_from : (around : Surroundings) (es : List Entry) (t : Tree) (files : Files) (replies : List Reply) (from to : SystemState) → AreClosed files → Accepted replies
+pub carried_from : (around : Surroundings) (es : List SourceEntry) (t : Tree) (files : Files) (replies : List Reply) (from to : SystemState) → AreClosed files → Accepted replies
     → AreSessionSteps from (flat_map operations_of es) replies to → HasCarried (session_after_all around (with_files t files) (flat_map operations_of es) replies) es t
 carried_from around [] t files [] from to closed accepted h = record { closed = closed; tree = λ e. refl }
 carried_from around [] t files (reply ∷ replies) from to closed accepted h = absurd h

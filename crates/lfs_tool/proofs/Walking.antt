@@ -19,7 +19,7 @@ use Rattle.lfs_model.proofs.Names.{greater}
 use Rattle.lfs_model.proofs.Paths.{append_step}
 use Rattle.lfs_tool_folders.specs.Entries.{AreAll, AreRead, AreWithin, HoldsSource, Place, places_in}
 use Rattle.lfs_tool_folders.specs.InMemory.{items_by}
-use Rattle.lfs_tool_folders.specs.declared.entries.Entry.{Entry}
+use Rattle.lfs_tool_folders.specs.declared.entries.SourceEntry.{SourceEntry}
 use Rattle.lfs_tool.specs.Applied.{node_by, operations_of, operations_of_all}
 use Rattle.lfs_tool.specs.Made.{CarryOver}
 use Rattle.lfs_tool.proofs.Growing.{beneath, carried_tree, tree_after}
@@ -110,8 +110,8 @@ kinds_within s folder within w =
 
 -- ---- the walk
 
-record IsWalked (tree : Tree) (qs : List Path) (es : List Entry) : Type 0 where
-  entries : List listing.Entry
+record IsWalked (tree : Tree) (qs : List Path) (es : List SourceEntry) : Type 0 where
+  entries : List listing.SourceEntry
   walk : IsWalk tree qs entries
   same : flat_map operations_of es ≡ flat_map listing.operations_of entries
 
@@ -159,7 +159,7 @@ met s tree q folder true None within shows stands holds =
     met_folder s tree q folder within (tree q) refl stands.bytes stands.leads holds (subst (λ x. IsNodeOf x (tree q)) (ap (standing s []) (sym (append-nil q)) ∙ stands.leads []) (shows q))
 met s tree q folder true (Some bytes) within shows stands holds = absurd holds
 
-walked : (s : Source) (tree : Tree) → IsTreeOf s tree → (es : List Entry) (qs : List Path) (ps : List Place) → AllStand s qs ps → AreRead (Some s) ps es → IsWalked tree qs es
+walked : (s : Source) (tree : Tree) → IsTreeOf s tree → (es : List SourceEntry) (qs : List Path) (ps : List Place) → AllStand s qs ps → AreRead (Some s) ps es → IsWalked tree qs es
 walked s tree shows [] [] [] h read = record { entries = []; walk = tt; same = refl }
 walked s tree shows [] (q ∷ qs) [] h read = absurd h
 walked s tree shows [] qs (p ∷ ps) h read = absurd read
@@ -174,7 +174,7 @@ walked s tree shows (e ∷ es) (q ∷ qs) (p ∷ ps) h (path, (within, (holds, r
       same = ap₂ (λ (xs ys : List Operation). xs ++ ys) (ap (λ f. operations_for f (node_by (items_by e.bytes))) path ∙ m.operations) w.same;
     }
 
-pub carry_over : (known : Option Source) (es : List Entry) → AreAll known es → CarryOver known (operations_of_all es)
+pub carry_over : (known : Option Source) (es : List SourceEntry) → AreAll known es → CarryOver known (operations_of_all es)
 carry_over None es all = tt
 carry_over (Some s) es (top, (w, read)) =
     let whole = carried_tree s es (top, (w, read)) in

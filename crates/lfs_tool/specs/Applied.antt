@@ -13,7 +13,7 @@ use Rattle.lfs_model.specs.Tree.{Node, FileNode, DirectoryNode}
 use Rattle.lfs_fs.specs.Held.{FailsBy}
 use Rattle.lfs_lookup.specs.Refusals.{is_refusal, refusal_in}
 use Rattle.lfs_tool_folders.specs.InMemory.{items_by}
-use Rattle.lfs_tool_folders.specs.declared.entries.Entry.{Entry}
+use Rattle.lfs_tool_folders.specs.declared.entries.SourceEntry.{SourceEntry}
 
 -- ---- the operations
 
@@ -23,10 +23,10 @@ node_by None = DirectoryNode [] []
 node_by (Some bytes) = FileNode [] bytes
 
 -- the operations that copy an entry
-abbrev pub operations_of : Entry → List Operation
+abbrev pub operations_of : SourceEntry → List Operation
 operations_of e = operations_for e.path.items (node_by (items_by e.bytes))
 
-abbrev pub operations_of_all : List Entry → List Operation
+abbrev pub operations_of_all : List SourceEntry → List Operation
 operations_of_all entries = flat_map operations_of entries
 
 -- ---- a session that takes them

@@ -6,11 +6,11 @@ use Rattle.lfs_tool.specs.Verdict.{IsAcceptedWith, IsRefused, IsVerdict}
 use Rattle.lfs_tool.specs.declared.verdict.Verdict.{Verdict}
 use Rattle.lfs_model.specs.Disk.{Disk, IsImage, disk_of}
 use Rattle.lfs_model.specs.declared.order.NameOrder.{NameOrder}
-use Rattle.lfs_tool.specs.declared.checked.Checked.{Checked}
-use Rattle.lfs_tool.specs.declared.checked.Checked.TheVariants as checked
-use Rattle.lfs_tool.specs.declared.checked.Given.{Given}
-use Rattle.lfs_tool.specs.declared.checked.Reason.{Reason}
-use Rattle.lfs_tool.specs.declared.checked.Reason.TheVariants as reason
+use Rattle.lfs_tool.specs.declared.check_result.Checked.{Checked}
+use Rattle.lfs_tool.specs.declared.check_result.Checked.TheVariants as checked
+use Rattle.lfs_tool.specs.declared.check_result.Given.{Given}
+use Rattle.lfs_tool.specs.declared.check_result.Reason.{Reason}
+use Rattle.lfs_tool.specs.declared.check_result.Reason.TheVariants as reason
 
 -- the bytes are an image, and this holds of its disk, whatever its order of names
 abbrev pub OfDisk : ℕ → ℕ → List ℕ → (Disk → Type 0) → Type 0

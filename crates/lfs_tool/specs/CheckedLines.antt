@@ -8,14 +8,14 @@ use Rattle.lfs_tool.specs.declared.findings.Stated.{Stated}
 use Rattle.lfs_tool.specs.declared.findings.Stated.TheVariants as stated
 use Rattle.lfs_model.specs.Listing.{escaped_text, newline}
 use Rattle.lfs_model.specs.Slots.{address_of}
-use Rattle.lfs_tool.specs.declared.checked.Given.{Given}
+use Rattle.lfs_tool.specs.declared.check_result.Given.{Given}
 use Rattle.lfs_tool.specs.declared.verdict.Orders.{Orders}
 use Rattle.lfs_tool.specs.declared.verdict.Orders.TheVariants as orders
-use Rattle.lfs_tool.specs.declared.checked.Reason.{Reason}
-use Rattle.lfs_tool.specs.declared.checked.Reason.TheVariants as reason
+use Rattle.lfs_tool.specs.declared.check_result.Reason.{Reason}
+use Rattle.lfs_tool.specs.declared.check_result.Reason.TheVariants as reason
 use Rattle.lfs_tool.specs.declared.verdict.Summary.{Summary}
-use Rattle.lfs_tool.specs.declared.checked.Checked.{Checked}
-use Rattle.lfs_tool.specs.declared.checked.Checked.TheVariants as checked
+use Rattle.lfs_tool.specs.declared.check_result.Checked.{Checked}
+use Rattle.lfs_tool.specs.declared.check_result.Checked.TheVariants as checked
 
 -- ---- an accepted image
 

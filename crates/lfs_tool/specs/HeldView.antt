@@ -7,8 +7,8 @@ use Rattle.lfs_tag.specs.ContentView.{tail_view}
 use Rattle.lfs_tag.specs.FieldsView.{move_view}
 use Rattle.lfs_tag.specs.KindView.{kind_view}
 use Rattle.lfs_lookup.specs.Items.{structure_view}
-use Rattle.lfs_tool.specs.declared.held.HeldSlot.{HeldSlot}
-use Rattle.lfs_tool.specs.declared.held.HeldPair.{HeldPair}
+use Rattle.lfs_tool.specs.declared.held_parts.HeldSlot.{HeldSlot}
+use Rattle.lfs_tool.specs.declared.held_parts.HeldPair.{HeldPair}
 
 abbrev pub held_view : HeldSlot → Slot
 held_view s = record { kind = kind_view s.kind; name = s.name.items; struct = structure_view s.structure; attributes = [] }

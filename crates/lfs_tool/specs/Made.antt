@@ -21,7 +21,7 @@ use Rattle.lfs_tool.specs.declared.errors.ToolError.TheVariants.{Input}
 use Rattle.lfs_tool.specs.Known.{AppendsBeginning}
 use Rattle.lfs_tool.specs.Applied.{AreAllAccepted, IsFirstRefusal, operations_of_all}
 use Rattle.lfs_tool_folders.specs.Entries.{AreAll, FailsOr, HasBadNames}
-use Rattle.lfs_tool_folders.specs.declared.entries.Entry.{Entry}
+use Rattle.lfs_tool_folders.specs.declared.entries.SourceEntry.{SourceEntry}
 
 -- ---- a run
 
@@ -35,7 +35,7 @@ pub record Begins (geometry : Geometry) (from : SystemState) : Type 0 where
   pub mounts : from.state ≡ Healthy (mounted empty_tree)
 
 -- These are the bytes of the disk that the operations of the entries leave, none of them refused.
-pub record AreLeft (geometry : Geometry) (entries : List Entry) (bytes : List ℕ) : Type 0 where
+pub record AreLeft (geometry : Geometry) (entries : List SourceEntry) (bytes : List ℕ) : Type 0 where
   pub from : SystemState
   pub begins : Begins geometry from
   pub to : SystemState
@@ -44,7 +44,7 @@ pub record AreLeft (geometry : Geometry) (entries : List Entry) (bytes : List �
   pub disk : to.disk ≡ disk_of geometry.block_size geometry.page geometry.order bytes
 
 -- An operation of the entries is refused, and this is the first refusal.
-pub record IsRefused (geometry : Geometry) (entries : List Entry) (e : Error) : Type 0 where
+pub record IsRefused (geometry : Geometry) (entries : List SourceEntry) (e : Error) : Type 0 where
   pub from : SystemState
   pub begins : Begins geometry from
   pub first : IsFirstRefusal from (operations_of_all entries) e
@@ -68,7 +68,7 @@ pub record IsMade (geometry : Geometry) (known : Option Source) (bytes : List �
 
 -- all that the source has is copied, and what is known to be written grew by one image of it
 abbrev pub IsCreated : Geometry → Option Source → Option (List ℕ) → Option (List ℕ) → Type 0
-IsCreated geometry known old new = (entries : List Entry) × (AreAll known entries
+IsCreated geometry known old new = (entries : List SourceEntry) × (AreAll known entries
     × (CarryOver known (operations_of_all entries) × ((image : List ℕ) × (AreLeft geometry entries image × (IsMade geometry known image × Appends old new image)))))
 
 -- what is known to be written grew by a beginning of an image of the source
@@ -77,7 +77,7 @@ IsBeginningOfImage geometry known old new = (image : List ℕ) × (IsMade geomet
 
 -- an operation that copies what the source has is refused, and this is the first refusal
 abbrev pub HasRefusal : Geometry → Option Source → Error → Type 0
-HasRefusal geometry known e = (entries : List Entry) × (AreAll known entries × (CarryOver known (operations_of_all entries) × IsRefused geometry entries e))
+HasRefusal geometry known e = (entries : List SourceEntry) × (AreAll known entries × (CarryOver known (operations_of_all entries) × IsRefused geometry entries e))
 
 -- `Input` comes where the source fails, which it does once, or where it doesn't and a folder in it has bad names. After any other
 -- result it has failed as often as before.

@@ -5,7 +5,7 @@ use Rattle.std.specs.String.{string_bytes}
 use Rattle.std.specs.Io.Buffered.{reader_inner}
 use Rattle.std.specs.declared.io.buffered.BufReader.{BufReader}
 use Rattle.lfs_tool.specs.Watched.{inner_of}
-use Rattle.lfs_tool.specs.declared.watched.Watched.{Watched}
+use Rattle.lfs_tool.specs.declared.watched_stream.Watched.{Watched}
 use Rattle.lfs_tool.specs.declared.old_image.OldImage.{OldImage}
 use Rattle.lfs_tool_folders.specs.Paths.{image_path}
 use Rattle.lfs_tool_folders.specs.declared.new_image.NewImage.{NewImage}

@@ -9,7 +9,7 @@ use Rattle.lfs_tool.specs.Made.{HasRefusal, IsCreated}
 use Rattle.lfs_tool.specs.Unpacked.{IsDoneOfImage}
 use Rattle.lfs_tool.specs.Checked.{IsCheckedAs, is_accepted}
 use Rattle.lfs_tool.specs.CheckedLines.{checked_text}
-use Rattle.lfs_tool.specs.declared.checked.Checked.{Checked}
+use Rattle.lfs_tool.specs.declared.check_result.Checked.{Checked}
 use Rattle.lfs_tool_line.specs.declared.line.Line.{Line}
 use Rattle.lfs_tool_line.specs.declared.line.Mode.{Mode}
 use Rattle.lfs_tool_line.specs.declared.line.Mode.TheVariants as mode

@@ -8,7 +8,7 @@ use Rattle.lfs_tool.specs.Found.{IsUnread}
 use Rattle.lfs_tool.specs.Held.{plain_pair, plain_pairs}
 use Rattle.lfs_tool.specs.HeldView.{pair_view, pairs_view}
 use Rattle.lfs_tool.specs.Leading.{BeginsWith, IsNamed}
-use Rattle.lfs_tool.specs.declared.held.HeldPair.{HeldPair}
+use Rattle.lfs_tool.specs.declared.held_parts.HeldPair.{HeldPair}
 use Rattle.lfs_tool.specs.declared.thread_walk.Followed.{Followed}
 use Rattle.lfs_tool.specs.declared.thread_walk.Followed.TheVariants as followed
 use Rattle.lfs_tool.specs.declared.pairs.Read.{Read}

@@ -1,6 +1,6 @@
 -- What contracts see of a reader or a writer of std that is watched.
 use Rattle.std.specs.Prelude.{ℕ}
-use Rattle.lfs_tool.specs.declared.watched.Watched.{Watched}
+use Rattle.lfs_tool.specs.declared.watched_stream.Watched.{Watched}
 
 -- the reader or the writer itself
 abbrev pub inner_of : {T : Type 0} → Watched T → T

@@ -8,7 +8,7 @@ ghost use Rattle.lfs_tool.specs.Leading.{IsNamed};
 ghost use Rattle.lfs_tool.specs.Reading.{AreHeld};
 
 use crate::findings::Finding;
-use crate::held::HeldPair;
+use crate::held_parts::HeldPair;
 
 // Returns what is wrong with the two addresses of a pair by themselves.
 pub(crate) fn range_fault(count: u32, pair: [u32; 2]) -> Option<Finding>

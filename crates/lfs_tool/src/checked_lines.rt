@@ -6,7 +6,7 @@ ghost use Rattle.lfs_model.specs.Slots.{address_of};
 ghost use Rattle.std.specs.Fmt.{decimal};
 ghost use Rattle.lfs_tool.specs.CheckedLines.{address_text, blocks_text, count_line, finding_text, no_image_text, order_line, pair_text, place_text, range_text, reason_text, recover_line, slot_text, stated_text, summary_text, twice_text, used_line, checked_text, writable_line};
 
-use crate::checked::{Checked, Given, Reason};
+use crate::check_result::{Checked, Given, Reason};
 use crate::escape::escape_path;
 use crate::findings::{Finding, Place, Stated};
 use crate::verdict::{Orders, Summary};
@@ -54,7 +54,7 @@ fn push_count(text: &mut Vec<u8>, label: &str, count: usize) -> Result<(), Alloc
 
 // ---- an accepted image
 
-fn push_used(text: &mut Vec<u8>, used: u32, blocks: u32) -> Result<(), AllocError>
+fn push_usage(text: &mut Vec<u8>, used: u32, blocks: u32) -> Result<(), AllocError>
     ensures { OnOk result (text.new.items ≡ text.old.items ++ used_line used blocks) }
 {
     push_two(text, "used ", used as usize, " of ", blocks as usize)?;
@@ -66,7 +66,7 @@ fn push_blocks(text: &mut Vec<u8>, summary: &Summary) -> Result<(), AllocError>
     ensures { OnOk result (text.new.items ≡ text.old.items ++ blocks_text summary.now) }
 {
     let free = summary.blocks.saturating_sub(summary.used);
-    push_used(text, summary.used, summary.blocks)?;
+    push_usage(text, summary.used, summary.blocks)?;
     push_count(text, "free ", free as usize)?;
     Ok(())
 }
@@ -132,7 +132,7 @@ fn push_two(
     Ok(())
 }
 
-fn push_stated(text: &mut Vec<u8>, given: &Given, stated: Stated) -> Result<(), AllocError>
+fn push_wrong_number(text: &mut Vec<u8>, given: &Given, stated: Stated) -> Result<(), AllocError>
     ensures { OnOk result (text.new.items ≡ text.old.items ++ stated_text given.now stated) }
 {
     match stated {
@@ -247,7 +247,7 @@ fn push_other_fields(
     ensures { OnOk result (text.new.items ≡ text.old.items ++ (pair_text (address_of pair) ++ codes ", " ++ stated_text given.now stated)) }
 {
     push_at_pair(text, pair, ", ")?;
-    push_stated(text, given, stated)?;
+    push_wrong_number(text, given, stated)?;
     Ok(())
 }
 
@@ -297,7 +297,7 @@ fn push_reason(text: &mut Vec<u8>, given: &Given, reason: &Reason) -> Result<(),
     ensures { OnOk result (text.new.items ≡ text.old.items ++ reason_text given.now reason.now) }
 {
     match reason {
-        Reason::Stated(stated) => push_stated(text, given, *stated),
+        Reason::Stated(stated) => push_wrong_number(text, given, *stated),
         Reason::NoImage => push_no_image(text, given),
         Reason::Broken(finding) => push_finding(text, given, finding),
         Reason::Other => push_text(text, "no single rule was found"),

@@ -14,7 +14,7 @@ use std::alloc::Global;
 /// # Errors
 /// - `Fs(Invalid)` where the image isn't a whole number of blocks, or its geometry is out of range.
 /// - Those of `lfs_tool::create`, at the same times.
-pub fn create_asked<S: Source, W: Writer>(
+pub fn create_by_line<S: Source, W: Writer>(
     alloc: Global,
     line: &Line<'_>,
     source: &mut S,

@@ -16,7 +16,7 @@ fn digit(value: u8) -> u8
     }
 }
 
-fn push_escaped(text: &mut Vec<u8>, byte: u8) -> Result<(), AllocError>
+fn push_byte(text: &mut Vec<u8>, byte: u8) -> Result<(), AllocError>
     ensures { OnOk result (text.new.items ≡ text.old.items ++ escaped byte) }
 {
     if (0x20..=0x7e).contains(&byte) && byte != b'\\' {
@@ -33,7 +33,7 @@ pub(crate) fn escape_path(text: &mut Vec<u8>, path: &[u8]) -> Result<(), AllocEr
     ensures { OnOk result (text.new.items ≡ text.old.items ++ escaped_text path.now) }
 {
     for byte in path {
-        push_escaped(text, *byte)?;
+        push_byte(text, *byte)?;
     }
     Ok(())
 }

@@ -6,7 +6,7 @@ ghost use Rattle.lfs_tool.specs.Checked.{AreRefused, IsCheckedAs, IsGiven, IsJud
 ghost use Rattle.lfs_tool.specs.Known.{FailsToRead};
 ghost use Rattle.lfs_tool.specs.Reported.{IsReadToEnd};
 
-use crate::checked::{Checked, Given, Reason};
+use crate::check_result::{Checked, Given, Reason};
 use crate::findings::Stated;
 use crate::image_devices::device_of;
 use crate::input::{IMAGE_MAX, read_image};

@@ -12,7 +12,7 @@ ghost use Rattle.lfs_lookup.specs.Items.{structure_view};
 ghost use Rattle.lfs_tool.specs.HeldView.{held_view, pair_view, pairs_view};
 
 use crate::findings::{Finding, Stated};
-use crate::held::{HeldPair, HeldSlot};
+use crate::held_parts::{HeldPair, HeldSlot};
 use crate::roots::starts_with_superblock;
 use crate::superblocks::unlike;
 use lfs_device::Geometry;
@@ -42,7 +42,7 @@ fn fields_in(bytes: &[u8]) -> Option<Superblock>
 }
 
 // Returns which of these fields is wrong for the image.
-pub(crate) fn misstated(geometry: &Geometry, fields: &Superblock) -> Option<Stated>
+pub(crate) fn wrong_number(geometry: &Geometry, fields: &Superblock) -> Option<Stated>
     ensures { IfSome result (λ stated. (disk : Disk) → HasSizes disk geometry.now → IsMisstated disk (superblock_view fields.now) stated) }
 {
     unlike(geometry.block_size, geometry.block_count as usize, fields)
@@ -52,7 +52,7 @@ pub(crate) fn misstated(geometry: &Geometry, fields: &Superblock) -> Option<Stat
 fn fields_fault(geometry: &Geometry, pair: [u32; 2], fields: &Superblock) -> Option<Finding>
     ensures { IfSome result (λ f. (disk : Disk) (ps : List Pair) (s : ModelStruct) → HasSizes disk geometry.now → IsChained ps (address_of pair) s → HasFields s (superblock_view fields.now) → IsBroken disk ps f) }
 {
-    match misstated(geometry, fields) {
+    match wrong_number(geometry, fields) {
         Some(stated) => Some(Finding::OtherFields { pair, stated }),
         None => None,
     }

@@ -8,7 +8,7 @@ ghost use Rattle.lfs_tag.specs.ContentView.{slot_view};
 ghost use Rattle.lfs_tool.specs.Held.{plain, plain_among, plain_in};
 ghost use Rattle.lfs_tool.specs.HeldView.{held_view};
 
-use crate::held::HeldSlot;
+use crate::held_parts::HeldSlot;
 use lfs_lookup::structure_of;
 use lfs_tag::{Kind, Slot};
 use std::alloc::{AllocError, Global};
@@ -32,7 +32,11 @@ fn hold(alloc: Global, slot: &Slot<'_>) -> Result<Option<HeldSlot>, AllocError>
 }
 
 // Adds a slot, where it has a name and a struct.
-fn push_held(alloc: Global, all: &mut Vec<HeldSlot>, slot: &Slot<'_>) -> Result<(), AllocError>
+fn push_complete_slot(
+    alloc: Global,
+    all: &mut Vec<HeldSlot>,
+    slot: &Slot<'_>,
+) -> Result<(), AllocError>
     requires { HasParts (slot_view slot.now) }
     ensures { OnOk result (map held_view all.new.items ≡ map held_view all.old.items ++ plain_in (slot_view slot.now)) }
 {
@@ -49,7 +53,7 @@ pub(crate) fn hold_all(alloc: Global, slots: &[Slot<'_>]) -> Result<Vec<HeldSlot
 {
     let mut all = Vec::new(alloc);
     for slot in slots {
-        push_held(alloc, &mut all, slot)?;
+        push_complete_slot(alloc, &mut all, slot)?;
     }
     Ok(all)
 }

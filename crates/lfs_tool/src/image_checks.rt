@@ -7,7 +7,7 @@ ghost use Rattle.lfs_tool.specs.Reported.{IsReadToEnd, ReportsOnce, ReportsWrite
 ghost use Rattle.lfs_tool.specs.Checked.{IsCheckedAs, is_accepted};
 ghost use Rattle.lfs_tool.specs.CheckedLines.{checked_text};
 
-use crate::checked::Checked;
+use crate::check_result::Checked;
 use crate::checked_lines::checked_lines;
 use crate::examination::examine;
 use crate::output::write_bytes;

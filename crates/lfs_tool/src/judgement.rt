@@ -66,7 +66,7 @@ fn finding_on(alloc: Global, device: &mut RamDevice) -> Result<Option<Finding>, 
 }
 
 // Returns what a mounted image has.
-fn judge_mounted(alloc: Global, mut thread: Thread<Ordered<RamDevice>>) -> Result<Verdict, Error>
+fn judge_thread(alloc: Global, mut thread: Thread<Ordered<RamDevice>>) -> Result<Verdict, Error>
     requires works { thread.failed ≡ false }
     requires accepted { IsAccepted thread.kept.disk thread.kept.pairs }
     requires used { AreUsed thread.kept.map (used_blocks thread.kept.disk thread.kept.pairs) }
@@ -91,7 +91,7 @@ pub fn judge(alloc: Global, device: RamDevice) -> Result<Verdict, Error>
     ensures err { IfErr result (λ e. e ≡ Error.NoMemory) }
 {
     match mount_either(alloc, device) {
-        Ok(thread) => judge_mounted(alloc, thread),
+        Ok(thread) => judge_thread(alloc, thread),
         Err((mut device, Error::Corrupt)) => {
             let found = finding_on(alloc, &mut device)?;
             Ok(Verdict::Refused(found))

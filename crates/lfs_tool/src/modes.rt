@@ -5,7 +5,8 @@ ghost use Rattle.lfs_tool.specs.Reported.{ReportsWriter};
 ghost use Rattle.lfs_tool.specs.Placed.{By, ChecksAt, EndsWell, FailsAt, FailsToRead, ListsAt, MakesAt, RefusesAt, RefusesToMake, UnpacksAt, writes_lines};
 
 use crate::{
-    Line, Mode, Places, ToolError, Writer, check_asked, create_asked, list_asked, unpack_asked,
+    Line, Mode, Places, ToolError, Writer, check_by_line, create_by_line, list_by_line,
+    unpack_by_line,
 };
 use lfs_device::Error;
 use std::alloc::Global;
@@ -23,7 +24,7 @@ fn list_at<P: Places, W: Writer>(
     ensures input { IsErrOf result ToolError.Input → FailsAt P.image_path P.Image.faults line.now.image.now }
 {
     match places.image(line.image) {
-        Ok(mut image) => list_asked(alloc, line, &mut image, out),
+        Ok(mut image) => list_by_line(alloc, line, &mut image, out),
         Err(error) => Err(ToolError::Fs(error)),
     }
 }
@@ -41,7 +42,7 @@ fn check_at<P: Places, W: Writer>(
     ensures input { IsErrOf result ToolError.Input → FailsAt P.image_path P.Image.faults line.now.image.now }
 {
     match places.image(line.image) {
-        Ok(mut image) => check_asked(alloc, line, &mut image, out),
+        Ok(mut image) => check_by_line(alloc, line, &mut image, out),
         Err(error) => Err(ToolError::Fs(error)),
     }
 }
@@ -60,7 +61,7 @@ fn create_at<P: Places>(
 {
     let mut source = places.folder(folder)?;
     let mut image = places.new_image(line.image)?;
-    create_asked(alloc, line, &mut source, &mut image)
+    create_by_line(alloc, line, &mut source, &mut image)
 }
 
 // Unpacks the image into a folder.
@@ -77,7 +78,7 @@ fn unpack_at<P: Places>(
 {
     let mut image = places.image(line.image)?;
     let mut target = places.new_folder(folder)?;
-    unpack_asked(alloc, line, &mut image, &mut target)
+    unpack_by_line(alloc, line, &mut image, &mut target)
 }
 
 // Does what a command line requests. Returns false where it is a check, of an image that isn't

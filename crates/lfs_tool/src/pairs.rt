@@ -14,7 +14,7 @@ ghost use Rattle.lfs_tool.specs.Leading.{IsNamed};
 ghost use Rattle.lfs_tool.specs.Reading.{IsRead};
 
 use crate::findings::{Finding, Place};
-use crate::held::HeldPair;
+use crate::held_parts::HeldPair;
 use crate::held_slots::{first_incomplete, hold_all};
 use lfs_device::{BlockDevice, Error, read_block};
 use lfs_tag::{Content, ContentError, Log, Slot, is_later};

@@ -18,7 +18,7 @@ use std::alloc::Global;
 ///
 /// # Errors
 /// Those of `lfs_tool::list`, at the same times.
-pub fn list_asked<R: Reader, W: Writer>(
+pub fn list_by_line<R: Reader, W: Writer>(
     alloc: Global,
     line: &Line<'_>,
     image: &mut R,
@@ -46,7 +46,7 @@ pub fn list_asked<R: Reader, W: Writer>(
 ///
 /// # Errors
 /// Those of `lfs_tool::check`, at the same times.
-pub fn check_asked<R: Reader, W: Writer>(
+pub fn check_by_line<R: Reader, W: Writer>(
     alloc: Global,
     line: &Line<'_>,
     image: &mut R,
@@ -72,7 +72,7 @@ pub fn check_asked<R: Reader, W: Writer>(
 ///
 /// # Errors
 /// Those of `lfs_tool::unpack`, at the same times.
-pub fn unpack_asked<R: Reader, T: Target>(
+pub fn unpack_by_line<R: Reader, T: Target>(
     alloc: Global,
     line: &Line<'_>,
     image: &mut R,

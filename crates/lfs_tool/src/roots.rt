@@ -4,7 +4,7 @@ ghost use Rattle.std.specs.Prelude.{◌≡◌, ◌<◌, ◌+◌, ◌^◌, ◌&&�
 ghost use Rattle.lfs_model.specs.Thread.{is_bare, is_hard, leads_on, starts_with_superblock, superblock_or, superblocks_before};
 ghost use Rattle.lfs_tool.specs.HeldView.{held_view, pair_view, pairs_view};
 
-use crate::held::{HeldPair, HeldSlot};
+use crate::held_parts::{HeldPair, HeldSlot};
 use lfs_tag::is_hard;
 
 // Returns whether slot 0 is a superblock's.

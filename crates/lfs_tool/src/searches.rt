@@ -11,7 +11,7 @@ ghost use Rattle.lfs_tool.specs.Reading.{IsFollowed};
 
 use crate::findings::Finding;
 use crate::heads::head_fault;
-use crate::held::HeldPair;
+use crate::held_parts::HeldPair;
 use crate::roots::root_of;
 use crate::slots::slots_fault;
 use crate::thread_walk::{Followed, follow};

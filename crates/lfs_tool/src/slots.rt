@@ -10,7 +10,7 @@ ghost use Rattle.lfs_tool.specs.Entries.{HasFault};
 ghost use Rattle.lfs_tool.specs.HeldView.{held_view, pair_view, pairs_view};
 
 use crate::findings::{Finding, Place};
-use crate::held::{HeldPair, HeldSlot};
+use crate::held_parts::{HeldPair, HeldSlot};
 use lfs_lookup::Structure;
 use lfs_tag::{Kind, is_name};
 use std::alloc::{AllocError, Global};

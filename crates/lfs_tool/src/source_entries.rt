@@ -12,7 +12,7 @@ ghost use Rattle.lfs_tool.specs.Applied.{AreAllAccepted, AppliesAll, HasNoFile, 
 use bitflags::Flags;
 use lfs_device::{Error, RamDevice};
 use lfs_fs::{OpenFlags, Session};
-use lfs_tool_folders::Entry;
+use lfs_tool_folders::SourceEntry;
 use std::alloc::Global;
 
 // Returns the flags of a file that is to be made.
@@ -40,7 +40,7 @@ fn put_file(
 }
 
 // Makes a file with its bytes, or a folder without names.
-fn carry(alloc: Global, session: &mut Session<RamDevice>, entry: &Entry) -> Result<(), Error>
+fn carry(alloc: Global, session: &mut Session<RamDevice>, entry: &SourceEntry) -> Result<(), Error>
     requires { HasNoFile (system_state_of session.old) }
     ensures { AppliesAll (system_state_of session.old) (operations_of entry.now) result (system_state_of session.new) }
 {
@@ -54,7 +54,7 @@ fn carry(alloc: Global, session: &mut Session<RamDevice>, entry: &Entry) -> Resu
 pub(crate) fn carry_over(
     alloc: Global,
     session: &mut Session<RamDevice>,
-    entries: &[Entry],
+    entries: &[SourceEntry],
 ) -> Result<(), Error>
     requires fresh { IsFresh (system_state_of session.old).disk }
     requires mounts { (system_state_of session.old).state ≡ Healthy (mounted empty_tree) }

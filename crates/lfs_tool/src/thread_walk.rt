@@ -8,7 +8,7 @@ ghost use Rattle.lfs_tool.specs.Reading.{AreHeld, IsFollowed, IsNext};
 
 use crate::addresses::{range_fault, twice_fault};
 use crate::findings::Finding;
-use crate::held::HeldPair;
+use crate::held_parts::HeldPair;
 use crate::pairs::{Read, read_pair};
 use lfs_device::{BlockDevice, Error};
 use std::alloc::Global;

@@ -19,7 +19,7 @@ use std::io::ErrorKind;
 /// # Errors
 /// - `Line` where there is no command line, or memory ran out while it was read.
 /// - `Tool` where the image isn't listed, checked, unpacked or made: the errors of `lfs_tool::list`,
-///   `lfs_tool::check`, `lfs_tool::unpack` and `create_asked`.
+///   `lfs_tool::check`, `lfs_tool::unpack` and `create_by_line`.
 pub fn run<P: Places, W: Writer>(
     alloc: Global,
     places: &P,

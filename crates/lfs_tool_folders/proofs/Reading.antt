@@ -12,7 +12,7 @@ use Rattle.lfs_tool_folders.specs.Shown.{Rests, listed}
 use Rattle.lfs_tool_folders.specs.InMemory.{items_by}
 use Rattle.lfs_tool_folders.specs.Entries.{AreAll, AreInOrder, AreRead, AreWithin, HasBadNames, HoldsSource, IsFolder, LeadsTo, Place, name_in, places_in}
 use Rattle.lfs_tool_folders.specs.declared.source.Listed.{Listed}
-use Rattle.lfs_tool_folders.specs.declared.entries.Entry.{Entry}
+use Rattle.lfs_tool_folders.specs.declared.entries.SourceEntry.{SourceEntry}
 use Rattle.lfs_tool_folders.proofs.Order.{names_given}
 
 -- ---- what a source shows stays
@@ -63,13 +63,13 @@ places_more folder xs x = ap (places_in folder) (map-append listed xs (x ∷ [])
 -- ---- entries in turn
 
 -- what is read at the places that wait ends the entries
-abbrev pub Goes : Option Source → List Place → List Entry → Type 0
-Goes known places entries = (rest : List Entry) → AreRead known (reverse places) rest → AreAll known (entries ++ rest)
+abbrev pub Goes : Option Source → List Place → List SourceEntry → Type 0
+Goes known places entries = (rest : List SourceEntry) → AreRead known (reverse places) rest → AreAll known (entries ++ rest)
 
 pub begins : (known : Option Source) (top : List (Name × Bool)) (places : List Place) → AreWithin known [] top → places ≡ reverse (places_in [] top) → Goes known places []
 begins known top places w e = λ rest r. (top, (w, subst (λ ps. AreRead known ps rest) (ap reverse e ∙ reverse-reverse (places_in [] top)) r))
 
-pub goes_on : (known : Option Source) (front : List Place) (p : Place) (places : List Place) (es fs : List Entry) (e : Entry) (within : List (Name × Bool)) → Goes known (front ++ p ∷ []) es
+pub goes_on : (known : Option Source) (front : List Place) (p : Place) (places : List Place) (es fs : List SourceEntry) (e : SourceEntry) (within : List (Name × Bool)) → Goes known (front ++ p ∷ []) es
     → e.path.items ≡ p.0 → HoldsSource known p.0 p.1 (items_by e.bytes) within → places ≡ front ++ reverse (places_in p.0 within) → fs ≡ es ++ e ∷ [] → Goes known places fs
 goes_on known front p places es fs e within h path holds after more = λ rest r.
     let turned : reverse places ≡ places_in p.0 within ++ reverse front = ap reverse after ∙ reverse-append front (reverse (places_in p.0 within)) ∙ ap (λ ps. ps ++ reverse front) (reverse-reverse (places_in p.0 within)) in
@@ -77,7 +77,7 @@ goes_on known front p places es fs e within h path holds after more = λ rest r.
     let all : AreAll known (es ++ e ∷ rest) = h (e ∷ rest) (subst (λ ps. AreRead known ps (e ∷ rest)) (sym (reverse-append front (p ∷ []))) here) in
     subst (AreAll known) (sym (ap (λ xs. xs ++ rest) more ∙ append_assoc es (e ∷ []) rest)) all
 
-pub all_of : (known : Option Source) (places : List Place) (es : List Entry) → Goes known places es → places ≡ [] → AreAll known es
+pub all_of : (known : Option Source) (places : List Place) (es : List SourceEntry) → Goes known places es → places ≡ [] → AreAll known es
 all_of known places es h none = subst (AreAll known) (append-nil es) (h [] (subst (λ ps. AreRead known (reverse ps) []) (sym none) tt))
 
 -- ---- folders that wait

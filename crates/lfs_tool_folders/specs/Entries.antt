@@ -8,7 +8,7 @@ use Rattle.lfs_model.specs.Source.{AreBad, Source, given_names, path_in}
 use Rattle.lfs_tool_folders.specs.Shown.{is_folder}
 use Rattle.lfs_tool_folders.specs.InMemory.{items_by}
 use Rattle.lfs_tool_folders.specs.declared.source.Listed.{Listed}
-use Rattle.lfs_tool_folders.specs.declared.entries.Entry.{Entry}
+use Rattle.lfs_tool_folders.specs.declared.entries.SourceEntry.{SourceEntry}
 use Rattle.lfs_tool_folders.specs.declared.entries.Waiting.{Waiting}
 
 -- ---- names
@@ -54,7 +54,7 @@ HoldsSource known path true None within = AreWithin known path within
 HoldsSource known path true (Some bytes) within = ⊥
 
 -- The entries at these places, in order, each followed by the entries beneath it.
-abbrev pub AreRead : Option Source → List Place → List Entry → Type 0
+abbrev pub AreRead : Option Source → List Place → List SourceEntry → Type 0
 AreRead known [] [] = Unit {0}
 AreRead known [] (e ∷ es) = ⊥
 AreRead known (p ∷ ps) [] = ⊥
@@ -62,7 +62,7 @@ AreRead known (p ∷ ps) (e ∷ es) =
     (e.path.items ≡ p.0) × ((within : List (Name × Bool)) × (HoldsSource known p.0 p.1 (items_by e.bytes) within × AreRead known (places_in p.0 within ++ ps) es))
 
 -- all that the source has, depth first and in name order
-abbrev pub AreAll : Option Source → List Entry → Type 0
+abbrev pub AreAll : Option Source → List SourceEntry → Type 0
 AreAll known entries = (top : List (Name × Bool)) × (AreWithin known [] top × AreRead known (places_in [] top) entries)
 
 -- ---- faults

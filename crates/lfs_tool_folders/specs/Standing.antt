@@ -5,8 +5,8 @@ use Rattle.std.specs.IoError.{error_kind}
 use Rattle.std.specs.declared.fs.attrs.Metadata.{Metadata}
 use Rattle.std.specs.declared.io.Error.{Error}
 use Rattle.std.specs.declared.io.ErrorKind.TheVariants.{NotFound}
-use Rattle.lfs_tool_folders.specs.declared.standing.Standing.{Standing}
-use Rattle.lfs_tool_folders.specs.declared.standing.Standing.TheVariants.{File, Nothing, Other}
+use Rattle.lfs_tool_folders.specs.declared.path_state.Standing.{Standing}
+use Rattle.lfs_tool_folders.specs.declared.path_state.Standing.TheVariants.{File, Nothing, Other}
 
 -- a file is told with its permissions; nothing, only where the system says so
 abbrev pub IsStanding : Result Metadata Error → Standing → Type 0

@@ -10,7 +10,7 @@ use std::alloc::Global;
 
 /// A file or a folder of a source.
 #[derive(Debug, Drop)]
-pub struct Entry {
+pub struct SourceEntry {
     /// The path, `/` before each name.
     pub path: Vec<u8>,
     /// A file's bytes, and none for a folder.
@@ -25,7 +25,7 @@ struct Waiting {
 }
 
 // Returns the path of a name in a folder.
-fn joined(alloc: Global, folder: &[u8], name: &[u8]) -> Result<Vec<u8>, SourceError>
+fn join_path(alloc: Global, folder: &[u8], name: &[u8]) -> Result<Vec<u8>, SourceError>
     ensures path { IfOk result (λ v. v.items ≡ path_in folder.now name.now) }
     ensures memory { (e : _) → result ≡ Err e → e ≡ SourceError.NoMemory }
 {
@@ -74,7 +74,7 @@ fn wait_for(
     ensures memory { (e : _) → result ≡ Err e → e ≡ SourceError.NoMemory }
 {
     for one in names {
-        let path = joined(alloc, folder, one.name.as_slice())?;
+        let path = join_path(alloc, folder, one.name.as_slice())?;
         let kind = one.kind;
         wait(waiting, Waiting { path, kind })?;
     }
@@ -130,7 +130,7 @@ fn read_one<S: Source>(
     }
 }
 
-fn hold(entries: &mut Vec<Entry>, entry: Entry) -> Result<(), SourceError>
+fn hold(entries: &mut Vec<SourceEntry>, entry: SourceEntry) -> Result<(), SourceError>
     ensures entries { OnOk result (entries.new.items ≡ entries.old.items ++ entry ∷ []) }
     ensures memory { (e : _) → result ≡ Err e → e ≡ SourceError.NoMemory }
 {
@@ -143,7 +143,7 @@ fn hold(entries: &mut Vec<Entry>, entry: Entry) -> Result<(), SourceError>
 /// - `Fault` where the source couldn't be read, or a name in a folder is given twice, is empty, `.` or
 ///   `..`, or has a byte 0x00 or `/`.
 /// - `NoMemory` where memory isn't granted.
-pub fn read_tree<S: Source>(alloc: Global, source: &mut S) -> Result<Vec<Entry>, SourceError>
+pub fn read_tree<S: Source>(alloc: Global, source: &mut S) -> Result<Vec<SourceEntry>, SourceError>
     ensures entries { IfOk result (λ v. AreAll (S.shown source.old) v.items) }
     ensures shown { Rests (S.shown source.old) (S.shown source.new) }
     ensures kept { OnOk result (S.faults source.new ≡ S.faults source.old) }
@@ -160,7 +160,7 @@ pub fn read_tree<S: Source>(alloc: Global, source: &mut S) -> Result<Vec<Entry>,
         };
         let bytes = read_one(alloc, source, &one, &mut waiting)?;
         let path = one.path;
-        hold(&mut entries, Entry { path, bytes })?;
+        hold(&mut entries, SourceEntry { path, bytes })?;
     }
     Err(SourceError::NoMemory)
 }

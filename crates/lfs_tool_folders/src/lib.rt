@@ -2,21 +2,21 @@
 //! of an image that is made: it is whole at its path, or not there at all.
 #![tactic(auto)]
 
-mod beside;
 mod entries;
 mod full_path;
 mod names;
 mod new_image;
+mod path_state;
 mod source;
 mod source_folder;
 mod source_memory;
-mod standing;
 mod tally;
 mod target;
 mod target_folder;
 mod target_memory;
+mod temporary_files;
 
-pub use entries::{Entry, read_tree};
+pub use entries::{SourceEntry, read_tree};
 pub use new_image::NewImage;
 pub use source::{Kind, Listed, Source, SourceError};
 pub use source_folder::Folder;

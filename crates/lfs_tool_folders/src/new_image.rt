@@ -6,7 +6,7 @@ ghost use Rattle.std.specs.String.{string_bytes};
 ghost use Rattle.lfs_tool_folders.specs.Beside.{IsBeside};
 ghost use Rattle.lfs_tool_folders.specs.Paths.{image_path};
 
-use crate::beside::{make_for, put_in_place};
+use crate::temporary_files::{make_for, put_in_place};
 use std::alloc::{AllocError, Global};
 use std::fs::OpenFile;
 use std::io::{ErrorKind, Write};

@@ -68,7 +68,7 @@ impl<'a, R: Files + AllocGlobal + Clone + Drop> Folder<'a, R> {
     }
 
     // Returns the source's error for an error of std.
-    fn failed(&mut self, error: io::Error) -> SourceError
+    fn note_fault(&mut self, error: io::Error) -> SourceError
         ensures kind { (error_kind error ≡ ErrorKind.OutOfMemory) ↔ (result ≡ SourceError.NoMemory) }
         ensures fault { result ≡ SourceError.Fault → self.new.faults.count ≡ suc self.old.faults.count }
         ensures no_memory { result ≡ SourceError.NoMemory → self.new.faults.count ≡ self.old.faults.count }
@@ -87,14 +87,14 @@ impl<'a, R: Files + AllocGlobal + Clone + Drop> Source for Folder<'a, R> {
     fn list(&mut self, alloc: Global, folder: &[u8]) -> Result<Vec<Listed>, SourceError> {
         match self.names(alloc, folder) {
             Ok(names) => Ok(names),
-            Err(error) => Err(self.failed(error)),
+            Err(error) => Err(self.note_fault(error)),
         }
     }
 
     fn read(&mut self, _alloc: Global, file: &[u8]) -> Result<Vec<u8>, SourceError> {
         match self.bytes(file) {
             Ok(bytes) => Ok(bytes),
-            Err(error) => Err(self.failed(error)),
+            Err(error) => Err(self.note_fault(error)),
         }
     }
 }

@@ -60,7 +60,7 @@ fn name_in<'a>(folder: &[u8], path: &'a [u8]) -> Option<&'a [u8]>
     if has_slash(name) { None } else { Some(name) }
 }
 
-fn copied(alloc: Global, bytes: &[u8]) -> Result<Vec<u8>, SourceError>
+fn copy_bytes(alloc: Global, bytes: &[u8]) -> Result<Vec<u8>, SourceError>
     ensures bytes { IfOk result (λ v. v.items ≡ bytes.now) }
     ensures memory { (e : _) → result ≡ Err e → e ≡ SourceError.NoMemory }
 {
@@ -89,7 +89,7 @@ fn push_name(
     let Some(name) = name_in(folder, held.path.as_slice()) else {
         return Ok(());
     };
-    let name = copied(alloc, name)?;
+    let name = copy_bytes(alloc, name)?;
     let kind = kind(held);
     names
         .push(Listed { name, kind })
@@ -134,7 +134,7 @@ impl Source for MemorySource {
         for held in &self.held {
             if held.path.as_slice() == file {
                 if let Some(bytes) = &held.bytes {
-                    return copied(alloc, bytes.as_slice());
+                    return copy_bytes(alloc, bytes.as_slice());
                 }
                 break;
             }

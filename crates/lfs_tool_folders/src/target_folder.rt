@@ -79,7 +79,7 @@ impl<'a, R: Files + AllocGlobal + Clone + Drop> TargetFolder<'a, R> {
     }
 
     // Returns the target's error for an error of std.
-    fn failed(&mut self, error: io::Error) -> TargetError
+    fn note_fault(&mut self, error: io::Error) -> TargetError
         ensures kind { (error_kind error ≡ ErrorKind.OutOfMemory) ↔ (result ≡ TargetError.NoMemory) }
         ensures fault { result ≡ TargetError.Fault → self.new.faults.count ≡ suc self.old.faults.count }
         ensures no_memory { result ≡ TargetError.NoMemory → self.new.faults.count ≡ self.old.faults.count }
@@ -98,14 +98,14 @@ impl<'a, R: Files + AllocGlobal + Clone + Drop> Target for TargetFolder<'a, R> {
     fn make_folder(&mut self, _alloc: Global, path: &[u8]) -> Result<(), TargetError> {
         match self.folder(path) {
             Ok(()) => Ok(()),
-            Err(error) => Err(self.failed(error)),
+            Err(error) => Err(self.note_fault(error)),
         }
     }
 
     fn put_file(&mut self, _alloc: Global, path: &[u8], bytes: &[u8]) -> Result<(), TargetError> {
         match self.file(path, bytes) {
             Ok(()) => Ok(()),
-            Err(error) => Err(self.failed(error)),
+            Err(error) => Err(self.note_fault(error)),
         }
     }
 }

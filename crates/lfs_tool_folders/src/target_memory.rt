@@ -19,7 +19,7 @@ pub struct MemoryTarget {
     pub done: Vec<Done>,
 }
 
-fn copied(alloc: Global, bytes: &[u8]) -> Result<Vec<u8>, TargetError>
+fn copy_bytes(alloc: Global, bytes: &[u8]) -> Result<Vec<u8>, TargetError>
     ensures bytes { IfOk result (λ v. v.items ≡ bytes.now) }
     ensures memory { (e : _) → result ≡ Err e → e ≡ TargetError.NoMemory }
 {
@@ -32,15 +32,15 @@ impl Target for MemoryTarget {
     ghost faults = { λ _. 0 };
 
     fn make_folder(&mut self, alloc: Global, path: &[u8]) -> Result<(), TargetError> {
-        let path = copied(alloc, path)?;
+        let path = copy_bytes(alloc, path)?;
         self.done
             .push(Done::Folder(path))
             .map_err(|_| TargetError::NoMemory)
     }
 
     fn put_file(&mut self, alloc: Global, path: &[u8], bytes: &[u8]) -> Result<(), TargetError> {
-        let path = copied(alloc, path)?;
-        let bytes = copied(alloc, bytes)?;
+        let path = copy_bytes(alloc, path)?;
+        let bytes = copy_bytes(alloc, bytes)?;
         self.done
             .push(Done::File(path, bytes))
             .map_err(|_| TargetError::NoMemory)

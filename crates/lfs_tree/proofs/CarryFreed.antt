@@ -30,8 +30,8 @@ use Rattle.lfs_thread.specs.Steps.{HasShape, Writes, pair_in}
 use Rattle.lfs_operations.specs.MovingSteps.{WritesAmong}
 use Rattle.lfs_lookup.specs.Entry.{ShowsContents}
 use Rattle.lfs_tree.specs.Going.{CanFree, list_shown, no_list}
-use Rattle.lfs_lookup.specs.declared.entry.Contents.{Contents}
-use Rattle.lfs_lookup.specs.declared.entry.Contents.TheVariants as shown
+use Rattle.lfs_lookup.specs.declared.entry.FileStorage.{FileStorage}
+use Rattle.lfs_lookup.specs.declared.entry.FileStorage.TheVariants as shown
 use Rattle.lfs_tree.proofs.Carried.{behind_below, pair_blocks}
 use Rattle.lfs_tree.proofs.KeptFiles.{among_files}
 use Rattle.lfs_writer.specs.Based.{IsBase}
@@ -121,20 +121,20 @@ files_stay old mid index id first can w = each_from_counted (λ b. block_at mid.
     other b some c has e = let k = ap (λ z. count z (blocks_of old.pairs)) e in let n = apart_from_pairs old index id can b some in absurd (omega arith)
 
 -- Where the image hasn't the file of a slot any more, whose blocks are as they were.
-module _ (old mid : Kept) (index id : ℕ) (can : CanEdit old index id) (contents : Contents) (shows : ShowsContents contents (slot_at can).struct) (geometry : SameGeometry old.disk mid.disk)
+module _ (old mid : Kept) (index id : ℕ) (can : CanEdit old index id) (contents : FileStorage) (shows : ShowsContents contents (slot_at can).struct) (geometry : SameGeometry old.disk mid.disk)
     (same : HasSameFile old.disk mid.disk (slot_at can).struct) (ready : IsReadyBut mid (file_blocks old.disk (slot_at can).struct) [])
     (once : (b : ℕ) → count b (used_blocks mid.disk mid.pairs) + count b (file_blocks old.disk (slot_at can).struct) ≤ 1) where
   list_is : blocks_in_list mid (list_shown contents) ≡ file_blocks old.disk (slot_at can).struct
   list_is = go contents shows
     where
-      go : (c : Contents) → ShowsContents c (slot_at can).struct → blocks_in_list mid (list_shown c) ≡ file_blocks old.disk (slot_at can).struct
+      go : (c : FileStorage) → ShowsContents c (slot_at can).struct → blocks_in_list mid (list_shown c) ≡ file_blocks old.disk (slot_at can).struct
       go (shown.Inline len) h = ap (file_blocks old.disk) (sym h.1.0)
       go (shown.List head size) h = ap (file_blocks mid.disk) (sym h) ∙ file_blocks_same old.disk mid.disk (slot_at can).struct geometry same
 
   base_there : IsBase mid.disk.blocks mid.disk.block_size (list_shown contents).head (list_shown contents).size
   base_there = go contents shows
     where
-      go : (c : Contents) → ShowsContents c (slot_at can).struct → IsBase mid.disk.blocks mid.disk.block_size (list_shown c).head (list_shown c).size
+      go : (c : FileStorage) → ShowsContents c (slot_at can).struct → IsBase mid.disk.blocks mid.disk.block_size (list_shown c).head (list_shown c).size
       go (shown.Inline len) h = inl refl
       go (shown.List head size) h = inr (subst (IsListIfCtz mid.disk) h (is_list_same old.disk mid.disk (slot_at can).struct geometry same (list_there old index id can)))
 
@@ -152,7 +152,7 @@ beside_is a b r =
     ap (λ (d : Disk). let k : Kept = record { disk = d; history = b.history; pairs = b.pairs; map = b.map } in k) r.disk
     ∙ ap (λ (ps : List Pair). let k : Kept = record { disk = a.disk; history = b.history; pairs = ps; map = b.map } in k) r.pairs
 
-module _ (t : Kept) (contents : Contents) (can : CanFree t contents) where
+module _ (t : Kept) (contents : FileStorage) (can : CanFree t contents) where
   pub can_settle : CanSettle t (list_shown contents) no_list
   can_settle = record {
     was = can.list;

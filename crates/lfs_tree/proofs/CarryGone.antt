@@ -40,8 +40,8 @@ use Rattle.lfs_lookup.specs.Entry.{ShowsContents}
 use Rattle.lfs_tree.specs.Going.{CanGo, HasGone, HasSpared, IsEntryOn}
 use Rattle.lfs_tree.specs.Held.{tree_state_of}
 use Rattle.lfs_lookup.specs.Paths.{LeadsTo, StandsOnPath}
-use Rattle.lfs_lookup.specs.declared.entry.Contents.{Contents}
-use Rattle.lfs_lookup.specs.declared.entry.Contents.TheVariants as contents
+use Rattle.lfs_lookup.specs.declared.entry.FileStorage.{FileStorage}
+use Rattle.lfs_lookup.specs.declared.entry.FileStorage.TheVariants as contents
 use Rattle.lfs_lookup.specs.declared.paths.Found.{Found}
 use Rattle.lfs_lookup.specs.declared.paths.Found.TheVariants as found
 use Rattle.lfs_lookup.specs.declared.search.Spot.{Spot}
@@ -71,7 +71,7 @@ entry_on t path f v l = go f l (slot_found t path f v l)
 pub entry_to_remove : (t : Kept) (path : Path) → CanRemove (tree_state_of t true false) path → HasEntry (tree_in t.disk t.pairs) path
 entry_to_remove t path can = record { entry = can.entry; parents = can.parents; something = can.something }
 
-file_branch : (c : Contents) (s : Struct) → ShowsContents c s → branch_of s ≡ None
+file_branch : (c : FileStorage) (s : Struct) → ShowsContents c s → branch_of s ≡ None
 file_branch (contents.Inline len) s h = ap branch_of h.1.0
 file_branch (contents.List head size) s h = ap branch_of h
 

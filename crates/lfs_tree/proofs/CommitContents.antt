@@ -36,7 +36,7 @@ use Rattle.lfs_writer.specs.Contents.{form_of}
 use Rattle.lfs_writer.specs.Hand.{IsListStored as IsStoredList}
 use Rattle.lfs_writer.specs.declared.contents.Contents.{Contents}
 use Rattle.lfs_writer.specs.declared.contents.Contents.TheVariants.{InMemory, Finished, InHand}
-use Rattle.lfs_writer.specs.declared.stored.Stored.{Stored}
+use Rattle.lfs_writer.specs.declared.stored_list.Stored.{Stored}
 
 -- ---- lists
 

@@ -16,7 +16,7 @@ use Rattle.lfs_ctz.specs.declared.rest.Rest.TheVariants.{Closed, Shared, Handed,
 use Rattle.lfs_writer.specs.Apart.{IsApart}
 use Rattle.lfs_writer.specs.Based.{IsBase, list_blocks}
 use Rattle.lfs_writer.specs.Hand.{IsHand, IsListStored, hand_bytes, stored_bytes}
-use Rattle.lfs_writer.specs.declared.stored.Stored.{Stored}
+use Rattle.lfs_writer.specs.declared.stored_list.Stored.{Stored}
 
 -- what holds of each member
 pub each_of : (P : ℕ → Type 0) (bs : List ℕ) → ((b : ℕ) → Contains bs b → P b) → Each P bs

@@ -36,7 +36,7 @@ use Rattle.lfs_tree.specs.LostLists.{CanFreeLists, blocks_in_lists, list_named, 
 use Rattle.lfs_tree.proofs.CarryFreed.{beside_is, not_both, not_free, with_map}
 use Rattle.lfs_writer.specs.Based.{IsBase}
 use Rattle.lfs_writer.specs.Settled.{IsMapSettled}
-use Rattle.lfs_writer.specs.declared.stored.Stored.{Stored}
+use Rattle.lfs_writer.specs.declared.stored_list.Stored.{Stored}
 
 -- ---- which lists
 

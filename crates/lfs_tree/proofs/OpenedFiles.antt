@@ -30,8 +30,8 @@ use Rattle.lfs_thread.specs.Kept.{Kept}
 use Rattle.lfs_lookup.specs.FileBytes.{bytes_shown}
 use Rattle.lfs_tree.specs.OpenContents.{IsOpenedForm, IsOverFile, blocks_named, bytes_held, list_at}
 use Rattle.lfs_tree.specs.Opening.{CanBeOpened, IsOpened, opened_form}
-use Rattle.lfs_lookup.specs.declared.entry.Contents.{Contents as EntryContents}
-use Rattle.lfs_lookup.specs.declared.entry.Contents.TheVariants as entry
+use Rattle.lfs_lookup.specs.declared.entry.FileStorage.{FileStorage}
+use Rattle.lfs_lookup.specs.declared.entry.FileStorage.TheVariants as entry
 use Rattle.lfs_lookup.specs.declared.search.Spot.{Spot}
 use Rattle.lfs_lookup.proofs.AtPaths.{SizedLists}
 use Rattle.lfs_tree.proofs.BesideWritten.{bytes_of_held}
@@ -44,7 +44,7 @@ use Rattle.lfs_writer.specs.Form.{Form}
 use Rattle.lfs_writer.specs.Hand.{IsListStored}
 use Rattle.lfs_writer.specs.declared.contents.Contents.{Contents}
 use Rattle.lfs_writer.specs.declared.contents.Contents.TheVariants.{InMemory, Finished, InHand}
-use Rattle.lfs_writer.specs.declared.stored.Stored.{Stored}
+use Rattle.lfs_writer.specs.declared.stored_list.Stored.{Stored}
 
 -- ---- where no block is in flight
 
@@ -126,7 +126,7 @@ marked_there t path held ok used at =
     (let e = count_append b (blocks_of t.pairs) (flat_map (λ (s : Slot). file_blocks t.disk s.struct) (all_slots t.pairs)) in omega arith)))))
     tt path held at)
 
-module _ (t : Kept) (h : List Event) (path : Path) (slot : Spot) (contents : EntryContents) (f : IsFileOf t path slot contents) (ok : IsAccepted t.disk t.pairs) (used : AreUsed t.map (used_blocks t.disk t.pairs))
+module _ (t : Kept) (h : List Event) (path : Path) (slot : Spot) (contents : FileStorage) (f : IsFileOf t path slot contents) (ok : IsAccepted t.disk t.pairs) (used : AreUsed t.map (used_blocks t.disk t.pairs))
     (idle : IsIdle t.map t.disk.blocks) where
   pub can_be_opened : CanBeOpened (with_history t h) slot contents f.held
   can_be_opened = record {
@@ -155,7 +155,7 @@ module _ (t : Kept) (h : List Event) (path : Path) (slot : Spot) (contents : Ent
         go (Ok c) o = bytes_of_held (with_history t now) c (bytes_shown t.disk f.held.struct) (opened_form contents) o.holds ∙ f.bytes
 
 -- contents as they are opened
-pub form_opened : (t : Kept) (path : Path) (slot : Spot) (contents : EntryContents) (f : IsFileOf t path slot contents) → HasInline (inline_limit t.disk.block_size) f.held.struct → SizedLists t.disk → (shape : Form) → shape ≡ opened_form contents
+pub form_opened : (t : Kept) (path : Path) (slot : Spot) (contents : FileStorage) (f : IsFileOf t path slot contents) → HasInline (inline_limit t.disk.block_size) f.held.struct → SizedLists t.disk → (shape : Form) → shape ≡ opened_form contents
     → IsOpenedForm t.disk.block_size (length (bytes_at (tree_in t.disk t.pairs path))) shape
 form_opened t path slot (entry.Inline len) f few sized shape e =
     let k = f.file.shows in

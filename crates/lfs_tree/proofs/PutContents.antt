@@ -29,8 +29,8 @@ use Rattle.lfs_lookup.specs.Entry.{ShowsContents}
 use Rattle.lfs_tree.specs.OpenContents.{bytes_held}
 use Rattle.lfs_lookup.specs.Paths.{LeadsTo}
 use Rattle.lfs_tree.specs.Storing.{CanPutContents, IsFileFor, IsFileIn, IsFinished, is_file_found, list_in_struct, list_named, struct_in}
-use Rattle.lfs_lookup.specs.declared.entry.Contents.{Contents as EntryContents}
-use Rattle.lfs_lookup.specs.declared.entry.Contents.TheVariants as entry
+use Rattle.lfs_lookup.specs.declared.entry.FileStorage.{FileStorage}
+use Rattle.lfs_lookup.specs.declared.entry.FileStorage.TheVariants as entry
 use Rattle.lfs_lookup.specs.declared.paths.Found.{Found}
 use Rattle.lfs_lookup.specs.declared.paths.Found.TheVariants as found
 use Rattle.lfs_lookup.specs.declared.search.Spot.{Spot}
@@ -53,11 +53,11 @@ file_found t path (found.Directory parent slot first) file l =
     let k = sym file ∙ ap (λ p. is_file (tree_in t.disk t.pairs p)) l.there.is ∙ ap is_file (directory_at_path t.disk t.pairs (l.there.above ++ l.there.name ∷ []) on.at on.leads).is in absurd (cc)
 file_found t path (found.File parent slot contents) file l = refl
 
-shown_leaf : (contents : EntryContents) (s : Struct) → ShowsContents contents s → branch_of s ≡ None
+shown_leaf : (contents : FileStorage) (s : Struct) → ShowsContents contents s → branch_of s ≡ None
 shown_leaf (entry.Inline len) s k = ap branch_of k.1.0
 shown_leaf (entry.List head size) s k = ap branch_of k
 
-shown_list : (contents : EntryContents) (s : Struct) → ShowsContents contents s → list_named contents ≡ list_in_struct s
+shown_list : (contents : FileStorage) (s : Struct) → ShowsContents contents s → list_named contents ≡ list_in_struct s
 shown_list (entry.Inline len) s k = sym (ap list_in_struct k.1.0)
 shown_list (entry.List head size) s k = sym (ap list_in_struct k)
 

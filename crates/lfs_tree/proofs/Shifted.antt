@@ -32,7 +32,7 @@ use Rattle.lfs_tree.specs.Held.{tree_state_of}
 use Rattle.lfs_lookup.specs.Paths.{BeginsOnPath, LeadsTo, StandsOnPath}
 use Rattle.lfs_tree.specs.Shifting.{CanShift, CanShiftFound, CanShiftOnto, CanShiftOver, CanShiftTo, HasShifted, IsSource, IsSourceIn, ReportsOfWork}
 use Rattle.lfs_tree.specs.declared.renames_at.Source.{Source}
-use Rattle.lfs_lookup.specs.declared.entry.Contents.{Contents}
+use Rattle.lfs_lookup.specs.declared.entry.FileStorage.{FileStorage}
 use Rattle.lfs_lookup.specs.declared.paths.Found.{Found}
 use Rattle.lfs_lookup.specs.declared.paths.Found.TheVariants as found
 use Rattle.lfs_lookup.specs.declared.search.Spot.{Spot}
@@ -122,7 +122,7 @@ module _ (t : State) (root : ℕ) (rests : IsAtRest t root) (from to : Path) (co
         belongs = subst (λ n. Belongs t.kept.disk.order t.kept.pairs parent n place.pair place.id) (sym same) there.there.belongs;
       }
 
-  pub shift_onto : (parent : ℕ) (slot : Spot) (contents : Contents) (name : Name) → IsTarget t.kept to (found.File parent slot contents) name → CanShiftOnto (with_history t.kept h) from to source slot contents name
+  pub shift_onto : (parent : ℕ) (slot : Spot) (contents : FileStorage) (name : Name) → IsTarget t.kept to (found.File parent slot contents) name → CanShiftOnto (with_history t.kept h) from to source slot contents name
   unfolding can_shift
   shift_onto parent slot contents name target =
       let there = target.leads.there in

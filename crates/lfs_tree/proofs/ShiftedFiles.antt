@@ -31,8 +31,8 @@ use Rattle.lfs_tree.specs.Carrying.{SurvivesTo}
 use Rattle.lfs_lookup.specs.Entry.{ShowsContents}
 use Rattle.lfs_tree.specs.Shifting.{CanShift, CanShiftOnto, HasShifted, HasShiftedOnto, ReportsOfWork}
 use Rattle.lfs_tree.specs.declared.renames_at.Source.{Source}
-use Rattle.lfs_lookup.specs.declared.entry.Contents.{Contents}
-use Rattle.lfs_lookup.specs.declared.entry.Contents.TheVariants as shown
+use Rattle.lfs_lookup.specs.declared.entry.FileStorage.{FileStorage}
+use Rattle.lfs_lookup.specs.declared.entry.FileStorage.TheVariants as shown
 use Rattle.lfs_lookup.specs.declared.search.Spot.{Spot}
 use Rattle.lfs_tree.proofs.Carried.{behind_below}
 use Rattle.lfs_tree.proofs.CarryCreated.{stay_in_flight}
@@ -43,15 +43,15 @@ use Rattle.lfs_tree.proofs.ShiftedPlaces.{one_place, other_name, target_path}
 use Rattle.lfs_tree.proofs.ShiftedSlots.{across_written, apart_across, file_beside, shows_at, survives_at, within_written}
 
 -- what stands there, seen in the directory of another number
-record IsFileAt (t : Kept) (first index id : ℕ) (name : Name) (contents : Contents) : Type 0 where
+record IsFileAt (t : Kept) (first index id : ℕ) (name : Name) (contents : FileStorage) : Type 0 where
   target : Stands t.pairs first name index id
   shows : ShowsContents contents target.stands.slot.struct
 
-file_branch : (c : Contents) (s : Struct) → ShowsContents c s → branch_of s ≡ None
+file_branch : (c : FileStorage) (s : Struct) → ShowsContents c s → branch_of s ≡ None
 file_branch (shown.Inline len) s h = ap branch_of h.1.0
 file_branch (shown.List head size) s h = ap branch_of h
 
-module _ (t : Kept) (from to : Path) (source : Source) (slot : Spot) (contents : Contents) (name : Name) (can : CanShiftOnto t from to source slot contents name) where
+module _ (t : Kept) (from to : Path) (source : Source) (slot : Spot) (contents : FileStorage) (name : Name) (can : CanShiftOnto t from to source slot contents name) where
   abbrev shift : CanShift t from to source name
   shift = can.can
 
@@ -169,7 +169,7 @@ module _ (t : Kept) (from to : Path) (source : Source) (slot : Spot) (contents :
 
 -- ---- the file's list is freed behind it
 
-pub onto_done : (t mid new : Kept) (from to : Path) (contents : Contents) → HasShiftedOnto t from to contents mid → IsReadBesideMap mid new → IsReady new → SameInFlight mid.map new.map → HasShifted t from to new
+pub onto_done : (t mid new : Kept) (from to : Path) (contents : FileStorage) → HasShiftedOnto t from to contents mid → IsReadBesideMap mid new → IsReady new → SameInFlight mid.map new.map → HasShifted t from to new
 onto_done t mid new from to contents is only ready flying = record {
   ready = ready;
   flying = λ b. ((λ h. (is.flying b).0 ((flying b).0 h)), (λ h. (flying b).1 ((is.flying b).1 h)));
@@ -210,7 +210,7 @@ reported_of {X} {Y} old new e result given is same t = record {
     error_is : {Z : Type 0} (a b : Error) (r : Result Z Error) → r ≡ Err a → r ≡ Err b → a ≡ b
     error_is a b r h k = cc
 
-pub onto_survives : (t mid new : Kept) (from to : Path) (contents : Contents) → WritesAmong t mid → HasShiftedOnto t from to contents mid → IsReadBesideMap mid new → SurvivesTo t mid (renamed from to (tree_in t.disk t.pairs))
+pub onto_survives : (t mid new : Kept) (from to : Path) (contents : FileStorage) → WritesAmong t mid → HasShiftedOnto t from to contents mid → IsReadBesideMap mid new → SurvivesTo t mid (renamed from to (tree_in t.disk t.pairs))
     → SurvivesTo t new (renamed from to (tree_in t.disk t.pairs))
 onto_survives t mid new from to contents w is only k =
     survives_left t mid new.history (renamed from to (tree_in t.disk t.pairs)) (shape_geometry t mid w.writes.shape) w.writes.at_worst is.free.ready.accepted is.free.ready.writable is.shows only.reads k

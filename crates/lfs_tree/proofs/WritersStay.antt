@@ -28,7 +28,7 @@ use Rattle.lfs_writer.specs.Hand.{IsHand, hand_bytes}
 use Rattle.lfs_writer.specs.Owned.{blocks_held}
 use Rattle.lfs_writer.specs.declared.contents.Contents.{Contents}
 use Rattle.lfs_writer.specs.declared.contents.Contents.TheVariants.{InMemory, Finished, InHand}
-use Rattle.lfs_writer.specs.declared.stored.Stored.{Stored}
+use Rattle.lfs_writer.specs.declared.stored_list.Stored.{Stored}
 use Rattle.lfs_writer.specs.declared.writes.Hand.{Hand}
 use Rattle.lfs_writer.proofs.Flights.{begun_flying, stored_flying}
 

@@ -19,13 +19,13 @@ use Rattle.lfs_thread.specs.Kept.{Kept}
 use Rattle.lfs_tree.specs.CarryingSlots.{has_slot}
 use Rattle.lfs_lookup.specs.Entry.{ShowsContents}
 use Rattle.lfs_lookup.specs.Paths.{EndsIn}
-use Rattle.lfs_lookup.specs.declared.entry.Contents.{Contents}
-use Rattle.lfs_lookup.specs.declared.entry.Contents.TheVariants as contents
+use Rattle.lfs_lookup.specs.declared.entry.FileStorage.{FileStorage}
+use Rattle.lfs_lookup.specs.declared.entry.FileStorage.TheVariants as contents
 use Rattle.lfs_lookup.specs.declared.paths.Found.{Found}
 use Rattle.lfs_lookup.specs.declared.paths.Found.TheVariants as found
 use Rattle.lfs_lookup.specs.declared.search.Spot.{Spot}
 use Rattle.lfs_writer.specs.Based.{IsBase}
-use Rattle.lfs_writer.specs.declared.stored.Stored.{Stored}
+use Rattle.lfs_writer.specs.declared.stored_list.Stored.{Stored}
 
 -- an entry is found for the path
 pub record IsEntryOn (order : NameOrder) (ps : List Pair) (path : Path) (found : Found) : Type 0 where
@@ -38,12 +38,12 @@ abbrev pub no_list : Stored
 no_list = record { head = 0; size = 0; in_flight = false }
 
 -- inline contents have no list
-abbrev pub list_shown : Contents → Stored
+abbrev pub list_shown : FileStorage → Stored
 list_shown (contents.Inline len) = no_list
 list_shown (contents.List head size) = record { head = head; size = size; in_flight = false }
 
 -- The image hasn't the file of these contents any more; the blocks of its list are still used.
-pub record CanFree (t : Kept) (contents : Contents) : Type 0 where
+pub record CanFree (t : Kept) (contents : FileStorage) : Type 0 where
   pub gone : List ℕ
   pub ready : IsReadyBut t gone []
   pub once : (b : ℕ) → count b (used_blocks t.disk t.pairs) + count b gone ≤ 1
@@ -53,7 +53,7 @@ pub record CanFree (t : Kept) (contents : Contents) : Type 0 where
 -- ---- what may go
 
 -- the file at the path, in the directory that begins with the pair of number `parent`
-pub record CanTake (t : Kept) (path : Path) (parent : ℕ) (slot : Spot) (contents : Contents) : Type 0 where
+pub record CanTake (t : Kept) (path : Path) (parent : ℕ) (slot : Spot) (contents : FileStorage) : Type 0 where
   pub take : CanRemove t slot.pair slot.id parent
   pub is : path ≡ take.can.path ++ take.can.name ∷ []
   pub shows : ShowsContents contents (slot_at take.can).struct

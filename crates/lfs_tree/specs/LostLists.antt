@@ -9,7 +9,7 @@ use Rattle.lfs_model.specs.Steps.{count}
 use Rattle.lfs_operations.specs.Ready.{IsReadyBut}
 use Rattle.lfs_thread.specs.Kept.{Kept}
 use Rattle.lfs_writer.specs.Based.{IsBase}
-use Rattle.lfs_writer.specs.declared.stored.Stored.{Stored}
+use Rattle.lfs_writer.specs.declared.stored_list.Stored.{Stored}
 
 -- ---- which lists
 

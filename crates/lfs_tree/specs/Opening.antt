@@ -7,8 +7,8 @@ use Rattle.lfs_writer.specs.Standing.{HoldsContents, held_in}
 use Rattle.lfs_thread.specs.Kept.{Kept}
 use Rattle.lfs_lookup.specs.BytesAt.{IsFileAt}
 use Rattle.lfs_lookup.specs.FileBytes.{bytes_shown}
-use Rattle.lfs_lookup.specs.declared.entry.Contents.{Contents as EntryContents}
-use Rattle.lfs_lookup.specs.declared.entry.Contents.TheVariants as entry
+use Rattle.lfs_lookup.specs.declared.entry.FileStorage.{FileStorage}
+use Rattle.lfs_lookup.specs.declared.entry.FileStorage.TheVariants as entry
 use Rattle.lfs_lookup.specs.declared.search.Spot.{Spot}
 use Rattle.lfs_writer.specs.Contents.{IsIdle}
 use Rattle.lfs_writer.specs.Form as form
@@ -17,12 +17,12 @@ use Rattle.lfs_writer.specs.Owned.{AreOwned}
 use Rattle.lfs_writer.specs.declared.contents.Contents.{Contents}
 
 -- a file's slot is there, no block is in flight, and the blocks of the file's list aren't free
-pub record CanBeOpened (t : Kept) (slot : Spot) (contents : EntryContents) (held : Slot) : Type 0 where
+pub record CanBeOpened (t : Kept) (slot : Spot) (contents : FileStorage) (held : Slot) : Type 0 where
   pub file : IsFileAt t slot contents held
   pub idle : IsIdle t.map t.disk.blocks
   pub marked : All (λ b. ¬ (IsFree t.map b)) (file_blocks t.disk held.struct)
 
-abbrev pub opened_form : EntryContents → Form
+abbrev pub opened_form : FileStorage → Form
 opened_form (entry.Inline len) = form.InMemory len
 opened_form (entry.List head size) = form.Finished size false
 

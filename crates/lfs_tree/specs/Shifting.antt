@@ -27,7 +27,7 @@ use Rattle.lfs_lookup.specs.Entry.{ShowsContents}
 use Rattle.lfs_tree.specs.Going.{CanFree}
 use Rattle.lfs_lookup.specs.Paths.{BeginsOnPath}
 use Rattle.lfs_tree.specs.declared.renames_at.Source.{Source}
-use Rattle.lfs_lookup.specs.declared.entry.Contents.{Contents}
+use Rattle.lfs_lookup.specs.declared.entry.FileStorage.{FileStorage}
 use Rattle.lfs_lookup.specs.declared.paths.Found.{Found}
 use Rattle.lfs_lookup.specs.declared.paths.Found.TheVariants as found
 use Rattle.lfs_lookup.specs.declared.search.Spot.{Spot}
@@ -66,7 +66,7 @@ pub record CanShiftTo (t : Kept) (from to : Path) (source : Source) (place : Spo
   pub belongs : Belongs t.disk.order t.pairs can.first name place.pair place.id
 
 -- a file with these contents is at the other path
-pub record CanShiftOnto (t : Kept) (from to : Path) (source : Source) (slot : Spot) (contents : Contents) (name : Name) : Type 0 where
+pub record CanShiftOnto (t : Kept) (from to : Path) (source : Source) (slot : Spot) (contents : FileStorage) (name : Name) : Type 0 where
   pub can : CanShift t from to source name
   pub target : Stands t.pairs can.first name slot.pair slot.id
   pub shows : ShowsContents contents target.stands.slot.struct
@@ -106,7 +106,7 @@ pub record HasShifted (old : Kept) (from to : Path) (new : Kept) : Type 0 where
   pub alone : HasSparedOthers old from to new
 
 -- The same, but the blocks of the replaced file's list are still used.
-pub record HasShiftedOnto (old : Kept) (from to : Path) (contents : Contents) (new : Kept) : Type 0 where
+pub record HasShiftedOnto (old : Kept) (from to : Path) (contents : FileStorage) (new : Kept) : Type 0 where
   pub free : CanFree new contents
   pub shows : tree_in new.disk new.pairs ≡ renamed from to (tree_in old.disk old.pairs)
   pub flying : SameInFlight old.map new.map

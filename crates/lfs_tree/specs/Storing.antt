@@ -26,8 +26,8 @@ use Rattle.lfs_tree.specs.Held.{tree_state_of}
 use Rattle.lfs_tree.specs.KeepsFiles.{KeepsOthers}
 use Rattle.lfs_tree.specs.OpenContents.{IsOverFile, IsStoredAt, bytes_held}
 use Rattle.lfs_tree.specs.TreeState.{IsSound}
-use Rattle.lfs_lookup.specs.declared.entry.Contents.{Contents as EntryContents}
-use Rattle.lfs_lookup.specs.declared.entry.Contents.TheVariants as entry
+use Rattle.lfs_lookup.specs.declared.entry.FileStorage.{FileStorage}
+use Rattle.lfs_lookup.specs.declared.entry.FileStorage.TheVariants as entry
 use Rattle.lfs_lookup.specs.declared.paths.Found.{Found}
 use Rattle.lfs_lookup.specs.declared.paths.Found.TheVariants as found
 use Rattle.lfs_lookup.specs.declared.search.Spot.{Spot}
@@ -37,14 +37,14 @@ use Rattle.lfs_writer.specs.Form as form
 use Rattle.lfs_writer.specs.Form.{Form}
 use Rattle.lfs_writer.specs.declared.contents.Contents.{Contents}
 use Rattle.lfs_writer.specs.declared.contents.Contents.TheVariants.{InMemory, Finished, InHand}
-use Rattle.lfs_writer.specs.declared.stored.Stored.{Stored}
+use Rattle.lfs_writer.specs.declared.stored_list.Stored.{Stored}
 
 -- a list of no bytes, which has no block
 abbrev pub no_list : Stored
 no_list = record { head = 0; size = 0; in_flight = false }
 
 -- the list that an entry names, or none
-abbrev pub list_named : EntryContents → Stored
+abbrev pub list_named : FileStorage → Stored
 list_named (entry.Inline len) = no_list
 list_named (entry.List head size) = record { head = head; size = size; in_flight = false }
 

@@ -42,12 +42,12 @@ fn no_list() -> Stored
 }
 
 // Returns the list that an entry names.
-fn list_named(contents: lfs_lookup::Contents) -> Stored
+fn list_named(contents: lfs_lookup::FileStorage) -> Stored
     ensures { result ≡ list_named contents }
 {
     match contents {
-        lfs_lookup::Contents::Inline { .. } => no_list(),
-        lfs_lookup::Contents::List { head, size } => Stored {
+        lfs_lookup::FileStorage::Inline { .. } => no_list(),
+        lfs_lookup::FileStorage::List { head, size } => Stored {
             head,
             size,
             in_flight: false,

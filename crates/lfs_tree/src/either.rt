@@ -11,7 +11,7 @@ ghost use Rattle.lfs_mount.specs.Either.{GivesDeviceBack};
 ghost use Rattle.lfs_thread.specs.Kept.{disk_on};
 ghost use Rattle.lfs_tree.specs.TreeState.{IsMountedTree};
 
-use crate::mounted::read_root;
+use crate::mounted_tree::read_root;
 use crate::tree::Tree;
 use lfs_device::{BlockDevice, Error, Ordered};
 use std::alloc::Global;

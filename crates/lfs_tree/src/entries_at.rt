@@ -48,7 +48,7 @@ fn place_in(found: Found) -> Spot
 
 // What a look-up finds at a path, and the path's last name.
 #[derive(Drop)]
-pub(crate) struct Target<'a> {
+pub(crate) struct FoundTarget<'a> {
     pub(crate) found: Found,
     pub(crate) name: &'a [u8],
 }
@@ -59,7 +59,7 @@ pub(crate) fn find_target<'a, D: BlockDevice>(
     thread: &mut Thread<D>,
     root: usize,
     path: &Path<'a>,
-) -> Result<Target<'a>, Error>
+) -> Result<FoundTarget<'a>, Error>
     requires { IsAtRest thread.old root }
     ensures target { IfOk result (λ target. IsTarget thread.old.kept path.now target.found target.name.now) }
     ensures few { reads thread.new.kept.history ≤ reads thread.old.kept.history + sum_by (pairs_of_path thread.old.kept.pairs) (parents path.now) }
@@ -67,7 +67,7 @@ pub(crate) fn find_target<'a, D: BlockDevice>(
 {
     let names = path.names(alloc)?;
     let found = look_up(alloc, thread, root, &names)?;
-    Ok(Target {
+    Ok(FoundTarget {
         found,
         name: last_of(&names),
     })

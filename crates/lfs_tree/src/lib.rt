@@ -11,14 +11,14 @@ mod formats;
 mod laws;
 mod lost_lists;
 mod lost_recovery;
-mod mounted;
+mod mounted_tree;
 mod opened_contents;
+mod orphans;
 mod readers;
 mod remounts;
 mod removals_at;
 mod renames_at;
 mod tree;
-mod unreached;
 mod writers;
 
 pub use either::mount_either;

@@ -17,7 +17,7 @@ ghost use Rattle.lfs_lookup.specs.Reading.{IsReading};
 ghost use Rattle.lfs_lookup.specs.Search.{HoldsContent};
 
 use lfs_device::{BlockDevice, Error};
-use lfs_lookup::{Contents, Entry, entry_of};
+use lfs_lookup::{Entry, FileStorage, entry_of};
 use lfs_tag::{Content, Log, Slot};
 use lfs_thread::Thread;
 use lfs_writer::{Stored, settle_file, settled_map_is_exact};
@@ -32,7 +32,7 @@ fn list_of(slot: &Slot<'_>) -> Option<Stored>
         return None;
     };
     match entry_of(&structure) {
-        Entry::File(Contents::List { head, size }) => Some(Stored {
+        Entry::File(FileStorage::List { head, size }) => Some(Stored {
             head,
             size,
             in_flight: false,

@@ -14,7 +14,7 @@ ghost use Rattle.lfs_tree.specs.Recovering.{CanDropLost, HasDroppedLost, HasSett
 
 use crate::entries_at::know_device;
 use crate::lost_lists::{free_lists, lists_of_pairs};
-use crate::unreached::unreached;
+use crate::orphans::unreached;
 use lfs_device::{BlockDevice, Error};
 use lfs_operations::{drop_unreached, end_move};
 use lfs_thread::Thread;
@@ -50,7 +50,7 @@ fn drop_with_lists<D: BlockDevice>(
 // directory begins with the pair of number `root`.
 //
 // Errors are those of `drop_with_lists`.
-fn drop_lost<D: BlockDevice>(
+fn drop_lost_directories<D: BlockDevice>(
     alloc: Global,
     thread: &mut Thread<D>,
     root: usize,
@@ -75,7 +75,7 @@ fn drop_lost<D: BlockDevice>(
 
 // Ends what a loss of power left: a set move, and directories that no path leads to.
 //
-// Errors are those of `drop_lost`.
+// Errors are those of `drop_lost_directories`.
 pub(crate) fn recover_at<D: BlockDevice>(
     alloc: Global,
     thread: &mut Thread<D>,
@@ -86,5 +86,5 @@ pub(crate) fn recover_at<D: BlockDevice>(
     ensures { IsChange thread.old (HasSettled thread.old.kept) (tree_in thread.old.kept.disk thread.old.kept.pairs) result thread.new }
 {
     end_move(alloc, thread)?;
-    drop_lost(alloc, thread, root)
+    drop_lost_directories(alloc, thread, root)
 }

@@ -10,7 +10,7 @@ ghost use Rattle.lfs_tree.specs.Held.{IsRooted};
 ghost use Rattle.lfs_tree.specs.OpenContents.{IsOpenedForm, IsOverFile, bytes_held};
 ghost use Rattle.lfs_tree.specs.Opening.{CanBeOpened, IsOpened, opened_form};
 ghost use Rattle.lfs_lookup.specs.Reading.{IsReading};
-ghost use Rattle.lfs_lookup.specs.declared.entry.Contents.TheVariants as entry_contents;
+ghost use Rattle.lfs_lookup.specs.declared.entry.FileStorage.TheVariants as entry_contents;
 ghost use Rattle.lfs_lookup.specs.declared.search.Spot.{Spot as SpotSeen};
 ghost use Rattle.lfs_writer.specs.Contents.{IsIdle, form_of};
 ghost use Rattle.lfs_writer.specs.Form as form;
@@ -29,7 +29,7 @@ fn geometry_of<D: BlockDevice>(thread: &Thread<D>) -> Geometry
 }
 
 // Makes contents in memory, of a slot that has so many bytes.
-fn inline_opened<D: BlockDevice>(
+fn open_inline<D: BlockDevice>(
     alloc: Global,
     thread: &mut Thread<D>,
     slot: Spot,
@@ -46,7 +46,7 @@ fn inline_opened<D: BlockDevice>(
 }
 
 // Makes contents in a finished list, of a slot that names it.
-fn list_opened<D: BlockDevice>(thread: &Thread<D>, head: u32, size: u32) -> Contents
+fn open_list<D: BlockDevice>(thread: &Thread<D>, head: u32, size: u32) -> Contents
     ensures { (slot : SpotSeen) (held : Slot) → CanBeOpened thread.now.kept slot (entry_contents.List head size) held → IsOpened thread.now.kept held.struct (opened_form (entry_contents.List head size)) result }
 {
     // The blocks are of that size, for the proof.
@@ -63,7 +63,7 @@ fn opened_from<D: BlockDevice>(
     alloc: Global,
     thread: &mut Thread<D>,
     slot: Spot,
-    contents: lfs_lookup::Contents,
+    contents: lfs_lookup::FileStorage,
 ) -> Result<Contents, Error>
     requires works { thread.old.failed ≡ false }
     requires can { (held : Slot) × CanBeOpened thread.old.kept slot contents held }
@@ -71,8 +71,8 @@ fn opened_from<D: BlockDevice>(
     ensures reading { IsReading thread.old thread.new result }
 {
     match contents {
-        lfs_lookup::Contents::Inline { len } => inline_opened(alloc, thread, slot, len),
-        lfs_lookup::Contents::List { head, size } => Ok(list_opened(thread, head, size)),
+        lfs_lookup::FileStorage::Inline { len } => open_inline(alloc, thread, slot, len),
+        lfs_lookup::FileStorage::List { head, size } => Ok(open_list(thread, head, size)),
     }
 }
 

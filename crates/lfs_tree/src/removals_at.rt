@@ -18,7 +18,7 @@ ghost use Rattle.lfs_tree.specs.Held.{tree_state_of};
 
 use crate::entries_at::{find_target, know_device};
 use lfs_device::{BlockDevice, Error};
-use lfs_lookup::{Contents, Found, Path, Spot};
+use lfs_lookup::{FileStorage, Found, Path, Spot};
 use lfs_operations::{remove_directory, remove_file};
 use lfs_thread::Thread;
 use lfs_writer::{Stored, settle_file, settled_map_is_exact};
@@ -30,7 +30,7 @@ use std::alloc::Global;
 // Errors: `Io` where a read failed. The thread has failed then.
 pub(crate) fn free_list<D: BlockDevice>(
     thread: &mut Thread<D>,
-    contents: Contents,
+    contents: FileStorage,
 ) -> Result<(), Error>
     requires works { thread.old.failed ≡ false }
     requires can { CanFree thread.old.kept contents }
@@ -42,8 +42,8 @@ pub(crate) fn free_list<D: BlockDevice>(
 {
     settled_map_is_exact();
     match contents {
-        Contents::Inline { .. } => Ok(()),
-        Contents::List { head, size } => {
+        FileStorage::Inline { .. } => Ok(()),
+        FileStorage::List { head, size } => {
             let list = Stored {
                 head,
                 size,
@@ -65,7 +65,7 @@ fn take_file<D: BlockDevice>(
     thread: &mut Thread<D>,
     parent: usize,
     slot: Spot,
-    contents: Contents,
+    contents: FileStorage,
 ) -> Result<(), Error>
     requires works { thread.old.failed ≡ false }
     requires can { (path : TreePath) × CanTake thread.old.kept path parent slot contents }
@@ -80,7 +80,7 @@ fn take_file<D: BlockDevice>(
 }
 
 // Removes what was found, a file or a directory without entries.
-fn take_found<D: BlockDevice>(
+fn remove_target<D: BlockDevice>(
     alloc: Global,
     thread: &mut Thread<D>,
     found: Found,
@@ -124,5 +124,5 @@ pub(crate) fn remove_at<D: BlockDevice>(
     path.know_bytes();
     know_device(thread);
     let target = find_target(alloc, thread, root, path)?;
-    take_found(alloc, thread, target.found)
+    remove_target(alloc, thread, target.found)
 }

@@ -18,7 +18,7 @@ use crate::entries_at::{find_target, know_device};
 use crate::removals_at::free_list;
 use crate::tree::Tree;
 use lfs_device::{BlockDevice, Error};
-use lfs_lookup::{Contents, Found, Path, Spot};
+use lfs_lookup::{FileStorage, Found, Path, Spot};
 use lfs_operations::{
     rename, rename_across, rename_onto_directory, rename_onto_directory_across, rename_onto_file,
     rename_onto_file_across,
@@ -53,7 +53,7 @@ fn replace_file<D: BlockDevice>(
     thread: &mut Thread<D>,
     source: Source,
     slot: Spot,
-    _contents: Contents,
+    _contents: FileStorage,
     name: &[u8],
 ) -> Result<(), Error>
     requires works { thread.old.failed ≡ false }
@@ -86,7 +86,7 @@ fn move_onto_file<D: BlockDevice>(
     thread: &mut Thread<D>,
     source: Source,
     slot: Spot,
-    contents: Contents,
+    contents: FileStorage,
     name: &[u8],
 ) -> Result<(), Error>
     requires works { thread.old.failed ≡ false }
@@ -135,7 +135,7 @@ fn move_onto_directory<D: BlockDevice>(
 }
 
 // Gives an entry the path at which `target` was found.
-fn move_found<D: BlockDevice>(
+fn move_to_target<D: BlockDevice>(
     alloc: Global,
     thread: &mut Thread<D>,
     source: Source,
@@ -192,7 +192,7 @@ pub(crate) fn rename_at<D: BlockDevice>(
     let entry = find_target(alloc, thread, root, from)?;
     let source = source_in(entry.found);
     let target = find_target(alloc, thread, root, to)?;
-    move_found(alloc, thread, source, target.found, target.name)
+    move_to_target(alloc, thread, source, target.found, target.name)
 }
 
 impl<D: BlockDevice> Tree<D> {

@@ -32,7 +32,7 @@ use crate::attributes_at::{remove_attr_at, set_attr_at};
 use crate::entries_at::{create_at, make_at};
 use crate::formats::format;
 use crate::lost_recovery::recover_at;
-use crate::mounted::read_root;
+use crate::mounted_tree::read_root;
 use crate::remounts::{Spare, mounted_again};
 use crate::removals_at::remove_at;
 use core::mem::replace_with;

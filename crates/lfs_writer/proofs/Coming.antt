@@ -16,7 +16,7 @@ use Rattle.lfs_writer.specs.Form.{Form}
 use Rattle.lfs_writer.specs.Hand.{IsListStored}
 use Rattle.lfs_writer.specs.Owned.{AreOwned}
 use Rattle.lfs_writer.specs.declared.contents.Contents.TheVariants.{Finished}
-use Rattle.lfs_writer.specs.declared.stored.Stored.{Stored}
+use Rattle.lfs_writer.specs.declared.stored_list.Stored.{Stored}
 use Rattle.lfs_writer.specs.Coming.{CanCome}
 use Rattle.lfs_writer.specs.Settling.{blocks_in_list}
 use Rattle.lfs_writer.specs.Standing.{HoldsContents}

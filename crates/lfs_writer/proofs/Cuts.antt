@@ -10,7 +10,7 @@ use Rattle.lfs_writer.specs.Apart.{IsApart}
 use Rattle.lfs_writer.specs.Based.{IsBase, list_blocks}
 use Rattle.lfs_writer.specs.Hand.{IsListStored}
 use Rattle.lfs_writer.specs.Released.{Releases}
-use Rattle.lfs_writer.specs.declared.stored.Stored.{Stored}
+use Rattle.lfs_writer.specs.declared.stored_list.Stored.{Stored}
 use Rattle.lfs_writer.proofs.Bases.{blocks_stay, list_stays}
 use Rattle.lfs_writer.proofs.Ends.{base_distinct, gone_of, still_apart, still_flying}
 use Rattle.lfs_writer.proofs.Spared.{spares_end}

@@ -14,7 +14,7 @@ use Rattle.lfs_writer.specs.Based.{IsBase, list_blocks}
 use Rattle.lfs_writer.specs.Hand.{IsHand, IsListStored, KeepsUsed}
 use Rattle.lfs_writer.specs.Released.{Releases}
 use Rattle.lfs_writer.specs.Taken.{Keeps}
-use Rattle.lfs_writer.specs.declared.stored.Stored.{Stored}
+use Rattle.lfs_writer.specs.declared.stored_list.Stored.{Stored}
 use Rattle.lfs_writer.proofs.Bases.{blocks_stay, list_stays}
 use Rattle.lfs_writer.proofs.Hands.{Contains-drop, Contains-take, distinct_parts}
 use Rattle.lfs_writer.proofs.Spared.{spares_end}

@@ -18,7 +18,7 @@ use Rattle.lfs_writer.specs.Based.{IsBase, list_blocks}
 use Rattle.lfs_writer.specs.Hand.{IsListBegun, IsHand, IsListStored, hand_bytes, stored_bytes}
 use Rattle.lfs_writer.specs.Roomy.{base_blocks}
 use Rattle.lfs_writer.specs.Taken.{Keeps}
-use Rattle.lfs_writer.specs.declared.stored.Stored.{Stored}
+use Rattle.lfs_writer.specs.declared.stored_list.Stored.{Stored}
 use Rattle.lfs_model.proofs.BlockCounts.{few_flying}
 use Rattle.lfs_model.proofs.Files.{length_back}
 use Rattle.lfs_model.proofs.ListSizes.{blocks_for-more, length-back_data, length-bytes_of}

@@ -10,7 +10,7 @@ use Rattle.lfs_writer.specs.Extended.{IsExtended}
 use Rattle.lfs_writer.specs.Hand.{IsListBegun, IsHand}
 use Rattle.lfs_writer.specs.Taken.{Keeps}
 use Rattle.lfs_writer.specs.Written.{bytes_over}
-use Rattle.lfs_writer.specs.declared.stored.Stored.{Stored}
+use Rattle.lfs_writer.specs.declared.stored_list.Stored.{Stored}
 use Rattle.lfs_writer.proofs.Copies.{counted}
 use Rattle.lfs_writer.proofs.Flights.{wrote}
 use Rattle.lfs_writer.proofs.Hands.{hand_grows}

@@ -19,7 +19,7 @@ use Rattle.lfs_writer.specs.Apart.{Grows, IsApart, IsMarked, Spares}
 use Rattle.lfs_writer.specs.Based.{list_blocks}
 use Rattle.lfs_writer.specs.Hand.{IsListBegun, IsHand, IsListStored}
 use Rattle.lfs_writer.specs.Taken.{Keeps}
-use Rattle.lfs_writer.specs.declared.stored.Stored.{Stored}
+use Rattle.lfs_writer.specs.declared.stored_list.Stored.{Stored}
 use Rattle.lfs_writer.proofs.Bases.{blocks_stay, list_stays}
 use Rattle.lfs_writer.proofs.Growth.{in_longer, split}
 use Rattle.lfs_writer.proofs.Spared.{keeps_used}

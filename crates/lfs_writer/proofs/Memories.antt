@@ -19,7 +19,7 @@ use Rattle.lfs_writer.proofs.Copies.{base_list, none_behind}
 use Rattle.lfs_writer.specs.Written.{IsAt}
 use Rattle.lfs_writer.proofs.Ends.{none_chain}
 use Rattle.lfs_writer.specs.Roomy.{base_blocks}
-use Rattle.lfs_writer.specs.declared.stored.Stored.{Stored}
+use Rattle.lfs_writer.specs.declared.stored_list.Stored.{Stored}
 use Rattle.lfs_model.proofs.ListSizes.{blocks_for-more}
 use Rattle.lfs_writer.proofs.Flights.{zeros_not, as_block, at_end}
 

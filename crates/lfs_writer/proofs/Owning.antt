@@ -13,7 +13,7 @@ use Rattle.lfs_writer.specs.Owned.{AreOwned, EndsOver, KeepsList, blocks_held, b
 use Rattle.lfs_writer.specs.Written.{IsGoing}
 use Rattle.lfs_writer.specs.declared.contents.Contents.TheVariants.{InHand}
 use Rattle.lfs_writer.specs.declared.writes.Hand.{Hand}
-use Rattle.lfs_writer.specs.declared.stored.Stored.{Stored}
+use Rattle.lfs_writer.specs.declared.stored_list.Stored.{Stored}
 use Rattle.lfs_writer.proofs.Bases.{blocks_stay}
 use Rattle.lfs_writer.proofs.Used.{used_back}
 

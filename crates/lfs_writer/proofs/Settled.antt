@@ -11,7 +11,7 @@ use Rattle.lfs_thread.specs.Beside.{LeavesPairs, IsOnDevice}
 use Rattle.lfs_thread.specs.Kept.{Kept}
 use Rattle.lfs_writer.specs.Based.{IsBase, list_blocks}
 use Rattle.lfs_writer.specs.Settled.{IsMapSettled, KeepsOthers, SharesUsed}
-use Rattle.lfs_writer.specs.declared.stored.Stored.{Stored}
+use Rattle.lfs_writer.specs.declared.stored_list.Stored.{Stored}
 use Rattle.lfs_writer.specs.Settling.{CanSettle, IsSettledIn, blocks_in_list}
 use Rattle.lfs_writer.proofs.Standing.{blocks_here, size_here}
 

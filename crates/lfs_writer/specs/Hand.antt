@@ -7,7 +7,7 @@ use Rattle.lfs_model.specs.SkipLists.{blocks_for, bytes_of}
 use Rattle.lfs_ctz.specs.Growing.{Growing, IsGrowing, blocks_of_list, content_of, is_held, kept_of, pending_of, size_of}
 use Rattle.lfs_writer.specs.Apart.{IsApart, IsMarked}
 use Rattle.lfs_writer.specs.Based.{IsBase, list_blocks}
-use Rattle.lfs_writer.specs.declared.stored.Stored.{Stored}
+use Rattle.lfs_writer.specs.declared.stored_list.Stored.{Stored}
 
 -- A finished list has all contents. Where it is in flight, some of its blocks may be, and no other blocks are.
 pub record IsListStored (map : BlockSets) (disk : Blocks) (block_size : ℕ) (s : Stored) : Type 0 where

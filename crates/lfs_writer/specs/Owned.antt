@@ -6,7 +6,7 @@ use Rattle.lfs_ctz.specs.Growing.{kept_of}
 use Rattle.lfs_writer.specs.Based.{list_blocks}
 use Rattle.lfs_writer.specs.declared.contents.Contents.{Contents}
 use Rattle.lfs_writer.specs.declared.contents.Contents.TheVariants.{InMemory, Finished, InHand}
-use Rattle.lfs_writer.specs.declared.stored.Stored.{Stored}
+use Rattle.lfs_writer.specs.declared.stored_list.Stored.{Stored}
 
 -- of these blocks the used ones are among those: the others are in flight, where none is free
 pub record AreOwned (map : BlockSets) (own bs : List ℕ) : Type 0 where

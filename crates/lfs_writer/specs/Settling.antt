@@ -6,7 +6,7 @@ use Rattle.lfs_model.specs.Thread.{blocks_of}
 use Rattle.lfs_thread.specs.Kept.{Kept}
 use Rattle.lfs_writer.specs.Based.{IsBase, list_blocks}
 use Rattle.lfs_writer.specs.Settled.{IsMapSettled, SharesUsed}
-use Rattle.lfs_writer.specs.declared.stored.Stored.{Stored}
+use Rattle.lfs_writer.specs.declared.stored_list.Stored.{Stored}
 
 abbrev pub blocks_in_list : Kept → Stored → List ℕ
 blocks_in_list t s = list_blocks t.disk.blocks t.disk.block_size s.head s.size

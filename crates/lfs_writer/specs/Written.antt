@@ -6,7 +6,7 @@ use Rattle.lfs_model.specs.BlockSets.{BlockSets}
 use Rattle.lfs_ctz.specs.Growing.{end_of}
 use Rattle.lfs_writer.specs.Hand.{IsListBegun, IsHand, IsListStored, hand_bytes, stored_bytes}
 use Rattle.lfs_writer.specs.Owned.{AreOwned, blocks_in}
-use Rattle.lfs_writer.specs.declared.stored.Stored.{Stored}
+use Rattle.lfs_writer.specs.declared.stored_list.Stored.{Stored}
 use Rattle.lfs_writer.specs.declared.writes.Hand.{Hand}
 
 -- how many bytes the contents have

@@ -17,8 +17,8 @@ ghost use Rattle.lfs_writer.specs.Owned.{AreOwned, KeepsList, blocks_held};
 
 use crate::list_starts::begin_over;
 use crate::memory::{load, write_out};
-use crate::other_places::write_turned;
-use crate::stored::Stored;
+use crate::other_places::write_elsewhere;
+use crate::stored_list::Stored;
 use crate::writes::{Hand, write_from};
 use lfs_alloc::BlockMap;
 use lfs_ctz::Extender;
@@ -53,7 +53,7 @@ pub fn in_memory(alloc: Global, geometry: Geometry, bytes: &[u8]) -> Result<Cont
 }
 
 // Writes bytes to contents in memory.
-fn write_held<D: BlockDevice>(
+fn write_in_memory<D: BlockDevice>(
     alloc: Global,
     dev: &mut D,
     map: &mut BlockMap,
@@ -112,7 +112,7 @@ fn write_over<D: BlockDevice>(
 }
 
 // Writes bytes over a finished list. Contents within the limit have no blocks in flight.
-fn write_stored<D: BlockDevice>(
+fn write_over_finished<D: BlockDevice>(
     alloc: Global,
     dev: &mut D,
     map: &mut BlockMap,
@@ -166,7 +166,7 @@ fn write_hand<D: BlockDevice>(
     ensures device { LeavesUsed D.BlockDevice map.old dev.old dev.new }
     ensures reports { ReportsMemory D.BlockDevice dev.old dev.new result }
 {
-    let hand = write_turned(alloc, dev, map, hand, place, bytes)?;
+    let hand = write_elsewhere(alloc, dev, map, hand, place, bytes)?;
     Ok(Contents::InHand(hand))
 }
 
@@ -195,8 +195,10 @@ pub fn write_contents<D: BlockDevice>(
     ensures reports { ReportsMemory D.BlockDevice dev.old dev.new result }
 {
     match contents {
-        Contents::InMemory(list) => write_held(alloc, dev, map, list, limit, place, bytes),
-        Contents::Finished(stored) => write_stored(alloc, dev, map, stored, limit, place, bytes),
+        Contents::InMemory(list) => write_in_memory(alloc, dev, map, list, limit, place, bytes),
+        Contents::Finished(stored) => write_over_finished(
+            alloc, dev, map, stored, limit, place, bytes,
+        ),
         Contents::InHand(hand) => write_hand(alloc, dev, map, hand, limit, place, bytes),
     }
 }

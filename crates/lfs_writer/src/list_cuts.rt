@@ -8,7 +8,7 @@ ghost use Rattle.lfs_writer.specs.Written.{HasEnded};
 ghost use Rattle.lfs_writer.specs.Owned.{IsFrontOf};
 
 use crate::list_ends::release_base;
-use crate::stored::Stored;
+use crate::stored_list::Stored;
 use lfs_alloc::BlockMap;
 use lfs_ctz::{blocks_for, cut};
 use lfs_device::{BlockDevice, Error};

@@ -15,7 +15,7 @@ ghost use Rattle.lfs_writer.specs.Owned.{EndsOver};
 
 use crate::block_copies::copy_rest;
 use crate::releases::release_from;
-use crate::stored::Stored;
+use crate::stored_list::Stored;
 use crate::writes::Hand;
 use lfs_alloc::BlockMap;
 use lfs_ctz::blocks_for;

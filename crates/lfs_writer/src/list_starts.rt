@@ -8,7 +8,7 @@ ghost use Rattle.lfs_writer.specs.Based.{IsBase};
 ghost use Rattle.lfs_writer.specs.Hand.{IsListStored, stored_bytes};
 ghost use Rattle.lfs_writer.specs.Written.{IsAt};
 
-use crate::stored::Stored;
+use crate::stored_list::Stored;
 use crate::writes::Hand;
 use lfs_ctz::Extender;
 use lfs_device::{BlockDevice, Error};

@@ -15,7 +15,7 @@ ghost use Rattle.lfs_writer.specs.Contents.{IsQuiet, IsResting, held_bytes};
 ghost use Rattle.lfs_writer.specs.Hand.{KeepsUsed, stored_bytes};
 ghost use Rattle.lfs_writer.specs.Written.{HasWritten, IsAt};
 
-use crate::stored::Stored;
+use crate::stored_list::Stored;
 use crate::writes::{Hand, write_from};
 use lfs_alloc::BlockMap;
 use lfs_ctz::{Extender, read_at};

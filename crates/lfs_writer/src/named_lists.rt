@@ -11,7 +11,7 @@ ghost use Rattle.lfs_writer.specs.Settled.{IsMapSettled, KeepsOthers, Puts, Shar
 ghost use Rattle.lfs_writer.specs.Shared.{IsSharedCount, apart_count};
 
 use crate::shared_blocks::shared_count;
-use crate::stored::Stored;
+use crate::stored_list::Stored;
 use lfs_alloc::BlockMap;
 use lfs_ctz::{blocks_for, head_before};
 use lfs_device::{BlockDevice, Error};

@@ -23,7 +23,7 @@ use crate::list_ends::end_hand;
 use crate::list_starts::begin_over;
 use crate::memory::{load, over_none};
 use crate::other_places::turn_to;
-use crate::stored::Stored;
+use crate::stored_list::Stored;
 use crate::writes::Hand;
 use crate::zeros::write_zeros;
 use lfs_alloc::BlockMap;
@@ -56,7 +56,7 @@ fn fill_out<D: BlockDevice>(
 }
 
 // Cuts contents in memory to a size, or fills them up to it.
-fn truncate_held<D: BlockDevice>(
+fn truncate_in_memory<D: BlockDevice>(
     alloc: Global,
     dev: &mut D,
     map: &mut BlockMap,
@@ -135,7 +135,7 @@ fn fill_over<D: BlockDevice>(
 }
 
 // Cuts a finished list to a size, or fills it up to it.
-fn truncate_stored<D: BlockDevice>(
+fn truncate_finished<D: BlockDevice>(
     alloc: Global,
     dev: &mut D,
     map: &mut BlockMap,
@@ -220,7 +220,7 @@ fn shorten_hand<D: BlockDevice>(
     ensures reports { ReportsMemory D.BlockDevice dev.old dev.new result }
 {
     let stored = end_hand(alloc, dev, map, hand)?;
-    let cut = truncate_stored(alloc, dev, map, stored, limit, size)?;
+    let cut = truncate_finished(alloc, dev, map, stored, limit, size)?;
     Ok(cut)
 }
 
@@ -281,8 +281,8 @@ pub fn truncate_contents<D: BlockDevice>(
     ensures reports { ReportsMemory D.BlockDevice dev.old dev.new result }
 {
     match contents {
-        Contents::InMemory(list) => truncate_held(alloc, dev, map, list, limit, size),
-        Contents::Finished(stored) => truncate_stored(alloc, dev, map, stored, limit, size),
+        Contents::InMemory(list) => truncate_in_memory(alloc, dev, map, list, limit, size),
+        Contents::Finished(stored) => truncate_finished(alloc, dev, map, stored, limit, size),
         Contents::InHand(hand) => truncate_hand(alloc, dev, map, hand, limit, size),
     }
 }

@@ -57,7 +57,7 @@ pub(crate) fn turn_to<D: BlockDevice>(
 /// the write doesn't continue it.
 ///
 /// Errors: `NoMemory` where memory isn't granted. `Io` where the device failed.
-pub(crate) fn write_turned<D: BlockDevice>(
+pub(crate) fn write_elsewhere<D: BlockDevice>(
     alloc: Global,
     dev: &mut D,
     map: &mut BlockMap,

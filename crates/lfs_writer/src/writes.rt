@@ -13,7 +13,7 @@ ghost use Rattle.lfs_writer.specs.Written.{HasBegun, HasWritten, bytes_over, len
 ghost use Rattle.lfs_writer.specs.Owned.{KeepsList};
 
 use crate::extensions::extend;
-use crate::stored::Stored;
+use crate::stored_list::Stored;
 use crate::zeros::write_zeros;
 use lfs_alloc::BlockMap;
 use lfs_ctz::Extender;

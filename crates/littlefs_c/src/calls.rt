@@ -20,7 +20,7 @@ use std::alloc::Global;
 
 // Returns the order of names that a number stands for: 0 for the longer names first, 1 for the
 // shorter ones. `Invalid` for another number.
-fn order_named(number: u32) -> Result<NameOrder, Error>
+fn order_of_number(number: u32) -> Result<NameOrder, Error>
     ensures { order_of number ≡ result }
 {
     match number {
@@ -40,7 +40,7 @@ pub(crate) fn format(
 ) -> Result<(), Error>
     ensures { FormatsIn block_size page order image.old result image.new }
 {
-    let order = order_named(order)?;
+    let order = order_of_number(order)?;
     let device = device(alloc, image, block_size, page)?;
     match format_ordered(alloc, device, order) {
         Ok(session) => {

@@ -20,7 +20,7 @@ fn digit(value: u8) -> u8
     }
 }
 
-fn push_escaped(text: &mut Vec<u8>, byte: u8) -> Result<(), AllocError>
+fn push_byte(text: &mut Vec<u8>, byte: u8) -> Result<(), AllocError>
     ensures { OnOk result (text.new.items ≡ text.old.items ++ escaped byte) }
 {
     if (0x20..=0x7e).contains(&byte) && byte != b'\\' {
@@ -37,7 +37,7 @@ fn push_name(text: &mut Vec<u8>, name: &[u8]) -> Result<(), AllocError>
     ensures { OnOk result (text.new.items ≡ text.old.items ++ escaped_text name.now) }
 {
     for byte in name {
-        push_escaped(text, *byte)?;
+        push_byte(text, *byte)?;
     }
     Ok(())
 }

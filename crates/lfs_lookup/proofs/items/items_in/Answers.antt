@@ -15,7 +15,7 @@ items_among-requires c =
     let (content, is) = c.requires in
     let read = c.in_ok-content.ensures.content in
     let sound = logged c.args.log.now (content_view c.in_ok-content.content) is.bytes read in
-    let are = ap (map slot_view) c.deref.ensures.value ∙ c.remove_moved.ensures in
+    let are = ap (map slot_view) c.deref.ensures.value ∙ c.remove_moved_slot.ensures in
     subst HaveParts (sym are) (parts_without c.args.moved (content_view c.in_ok-content.content).slots sound.slots)
 
 pub returns-clause-items : goal.returns-clause-items
@@ -23,6 +23,6 @@ returns-clause-items c content is =
     let read = c.in_ok-content.ensures.content in
     let same = same_Some (content_view c.in_ok-content.content) is.raw (sym read ∙ is.log) in
     let slots = ap (λ (r : RawContent). r.slots) same in
-    let are = ap (map slot_view) c.deref.ensures.value ∙ c.remove_moved.ensures in
+    let are = ap (map slot_view) c.deref.ensures.value ∙ c.remove_moved_slot.ensures in
     c.in_ok-items.ensures ∙ ap shown_among (are ∙ ap (without c.args.moved) slots)
     ∙ shown_shapes c.args.moved is.raw.slots content.slots (completed_parts is.raw content is.complete).slots

@@ -1,8 +1,8 @@
 use Rattle.std.proofs.Common.{◌≡◌, Ok, length, refl, ap, ◌∙◌, subst, sym}
 use Rattle.lfs_device.specs.Shown.{disk_of}
 use Rattle.lfs_model.proofs.Histories.{OnlyReads-trans}
-use Rattle.lfs_pair.specs.declared.committing.Outcome.{Outcome}
-use Rattle.lfs_pair.specs.declared.committing.Outcome.TheVariants.{Done, Full}
+use Rattle.lfs_pair.specs.declared.commits.Outcome.{Outcome}
+use Rattle.lfs_pair.specs.declared.commits.Outcome.TheVariants.{Done, Full}
 use Rattle.lfs_metadata_tests.specs.Kept.{IsPairKept}
 use Rattle.lfs_metadata_tests.proofs.Kept.{active_within, kept_by_reads, kept_by_writes}
 use Rattle.lfs_metadata_tests.proofs.trial.try_commit.Goals as goal

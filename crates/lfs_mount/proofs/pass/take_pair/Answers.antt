@@ -45,7 +45,7 @@ returns-in_err-mark_lists-clause-corrupt g c = λ is order new sets t.
     let disk : Disk = disk_on g.D.BlockDevice c.args.device.now in
     let e = err_from_is_err_and c.from_residual-in_err-mark_lists.result c.from_residual-in_err-mark_lists.ensures.1 in
     let content = ap (λ b. content_after_all no_content (log_entries b)) (sym (c.read-log.ensures ∙ c.deref.ensures.value ∙ c.in_ok-bytes.ensures.bytes)) ∙ c.in_ok-slots.ensures.content in
-    let kept = ap (option_and_then (behind_superblock c.args.member.now.has_superblock)) c.in_ok-take_moved.ensures.ok ∙ c.in_ok-take_superblock.ensures.ok in
+    let kept = ap (option_and_then (behind_superblock c.args.member.now.has_superblock)) c.in_ok-take_moved_slot.ensures.ok ∙ c.in_ok-take_superblock.ensures.ok in
     let lists = lists_taken (ordered order disk) c.args.places.now c.args.member.now (known_view order c.args.known.now) new c.args.map.now sets (content_view c.in_ok-slots.field-0) (map slot_view c.take_superblock.new.slots.items) content kept t in
     c.in_err-mark_lists.ensures.corrupt (ap Err (same_error e.1 e.2 is)) sets
     (subst (λ d. MarksLists d c.args.map.now (lists_view c.deref-3.result.now) sets) (sym (ap₂ disk_of c.in_ok-bytes.ensures.device.geometry c.in_ok-bytes.ensures.device.same))
@@ -62,7 +62,7 @@ returns-clause-taken g c = λ order. record {
   held = content_view c.in_ok-slots.field-0;
   content = ap (λ b. content_after_all no_content (log_entries b)) (sym (c.read-log.ensures ∙ c.deref.ensures.value ∙ c.in_ok-bytes.ensures.bytes)) ∙ c.in_ok-slots.ensures.content;
   entries = map slot_view c.take_superblock.new.slots.items;
-  kept = ap (option_and_then (behind_superblock c.args.member.now.has_superblock)) c.in_ok-take_moved.ensures.ok ∙ c.in_ok-take_superblock.ensures.ok;
+  kept = ap (option_and_then (behind_superblock c.args.member.now.has_superblock)) c.in_ok-take_moved_slot.ensures.ok ∙ c.in_ok-take_superblock.ensures.ok;
   scan = ap (λ xs. scanned order c.args.places.now (known_view order c.args.known.now) (map slot_view xs)) (sym c.deref-2.ensures.value) ∙ c.in_ok-scan.ensures.ok order;
   lists = lists_in_order order (disk_on g.D.BlockDevice c.args.device.now) (subst (λ ls. MarksLists (disk_on g.D.BlockDevice c.args.device.now) c.args.map.now ls c.mark_lists.new.map)
       (ap lists_view c.deref-3.ensures.value)

@@ -1,7 +1,7 @@
 use Rattle.std.proofs.Common.{arith, ap, sym, subst, ◌∙◌, inl, inr, Ok, Err}
 use Rattle.std.proofs.lemmas.Result.{err_from_is_err_and}
 use Rattle.lfs_device.specs.declared.error.Error.TheVariants as Error
-use Rattle.lfs_pair.specs.declared.committing.Outcome.TheVariants as Outcome
+use Rattle.lfs_pair.specs.declared.commits.Outcome.TheVariants as Outcome
 use Rattle.lfs_model.proofs.Histories.{LeavesOnly-weaker}
 use Rattle.lfs_pair.specs.ChangeView.{changes_view}
 use Rattle.lfs_thread.specs.Device.{StopsLeave}

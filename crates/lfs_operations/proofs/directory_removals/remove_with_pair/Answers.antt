@@ -23,8 +23,8 @@ drop_at-requires-clause-can g c =
 
 pub drop_at-requires-2-clause-can : goal.drop_at-requires-2-clause-can
 drop_at-requires-2-clause-can g c =
-    subst (CanDropAt c.drop_at.new.thread.kept c.renumbered.result) (sym c.none.ensures)
-    (subst (λ (i : ℕ). CanDropAt c.drop_at.new.thread.kept i no_gstate) (sym c.renumbered.ensures)
+    subst (CanDropAt c.drop_at.new.thread.kept c.number_after_drop.result) (sym c.none.ensures)
+    (subst (λ (i : ℕ). CanDropAt c.drop_at.new.thread.kept i no_gstate) (sym c.number_after_drop.ensures)
     (can_drop_then c.args.thread.now.kept c.args.pair c.args.id c.args.first c.args.gone c.requires.can (stands_whole c.args.thread.now.kept c.args.pair c.args.id c.args.first c.requires.can.can c.requires.can.begins c.requires.goes) c.drop_at.new.thread.kept
     (subst (λ (s : Gstate). HasDroppedBehind c.args.thread.now.kept (c.args.pair - 1) s c.drop_at.new.thread.kept) c.sync_bit.ensures c.in_ok-drop_at.ensures.is_dropped)))
 
@@ -55,40 +55,40 @@ returns-in_err-drop_at-2-clause-device g c =
     subst (λ at. Writes (four_of at (pair_in c.args.thread.now.kept (c.args.gone - 1)).at) c.args.thread.now.kept c.drop_at-2.new.thread.kept) (sym (written_whole c.args.thread.now.kept c.args.pair c.args.first c.requires.goes))
     (writes_whole c.args.thread.now.kept c.args.pair c.args.id c.args.first c.args.gone c.requires.can (stands_whole c.args.thread.now.kept c.args.pair c.args.id c.args.first c.requires.can.can c.requires.can.begins c.requires.goes) c.drop_at.new.thread.kept c.drop_at-2.new.thread.kept
     (subst (λ (s : Gstate). HasDroppedBehind c.args.thread.now.kept (c.args.pair - 1) s c.drop_at.new.thread.kept) c.sync_bit.ensures c.in_ok-drop_at.ensures.is_dropped)
-    c.drop_at.ensures.device (subst (λ (i : ℕ). Writes (two_of (pair_in c.drop_at.new.thread.kept (i - 1)).at) c.drop_at.new.thread.kept c.drop_at-2.new.thread.kept) c.renumbered.ensures c.drop_at-2.ensures.device))
+    c.drop_at.ensures.device (subst (λ (i : ℕ). Writes (two_of (pair_in c.drop_at.new.thread.kept (i - 1)).at) c.drop_at.new.thread.kept c.drop_at-2.new.thread.kept) c.number_after_drop.ensures c.drop_at-2.ensures.device))
 
 pub returns-in_err-drop_at-2-clause-survives : goal.returns-in_err-drop_at-2-clause-survives
 returns-in_err-drop_at-2-clause-survives g c take = both_survive_whole c.args.thread.now.kept c.args.pair c.args.id c.args.first c.args.gone take (stands_whole c.args.thread.now.kept c.args.pair c.args.id c.args.first take.can take.begins c.requires.goes) c.drop_at.new.thread.kept c.drop_at-2.new.thread.kept
     (two_of (pair_in c.args.thread.now.kept (c.args.pair - 1)).at) (two_of (pair_in c.drop_at.new.thread.kept (number_without c.args.pair c.args.gone - 1)).at)
     (subst (λ (s : Gstate). HasDroppedBehind c.args.thread.now.kept (c.args.pair - 1) s c.drop_at.new.thread.kept) c.sync_bit.ensures c.in_ok-drop_at.ensures.is_dropped)
-    c.drop_at.ensures.device (subst (λ (i : ℕ). Writes (two_of (pair_in c.drop_at.new.thread.kept (i - 1)).at) c.drop_at.new.thread.kept c.drop_at-2.new.thread.kept) c.renumbered.ensures c.drop_at-2.ensures.device)
+    c.drop_at.ensures.device (subst (λ (i : ℕ). Writes (two_of (pair_in c.drop_at.new.thread.kept (i - 1)).at) c.drop_at.new.thread.kept c.drop_at-2.new.thread.kept) c.number_after_drop.ensures c.drop_at-2.ensures.device)
     (subst (λ (s : Gstate). StopsLeave c.args.thread.now.kept.history c.drop_at.new.thread.kept.history (IsLeftByDrop c.args.thread.now.kept (c.args.pair - 1) s)) c.sync_bit.ensures c.drop_at.ensures.stops)
-    (subst (λ (i : ℕ). StopsLeave c.drop_at.new.thread.kept.history c.drop_at-2.new.thread.kept.history (IsLeftByDrop c.drop_at.new.thread.kept (i - 1) no_gstate)) c.renumbered.ensures
-    (subst (λ (s : Gstate). StopsLeave c.drop_at.new.thread.kept.history c.drop_at-2.new.thread.kept.history (IsLeftByDrop c.drop_at.new.thread.kept (c.renumbered.result - 1) s)) c.none.ensures c.drop_at-2.ensures.stops))
+    (subst (λ (i : ℕ). StopsLeave c.drop_at.new.thread.kept.history c.drop_at-2.new.thread.kept.history (IsLeftByDrop c.drop_at.new.thread.kept (i - 1) no_gstate)) c.number_after_drop.ensures
+    (subst (λ (s : Gstate). StopsLeave c.drop_at.new.thread.kept.history c.drop_at-2.new.thread.kept.history (IsLeftByDrop c.drop_at.new.thread.kept (c.number_after_drop.result - 1) s)) c.none.ensures c.drop_at-2.ensures.stops))
 
 pub returns-clause-is_removed : goal.returns-clause-is_removed
 returns-clause-is_removed g c take = whole_removed c.args.thread.now.kept c.args.pair c.args.id c.args.first c.args.gone take (stands_whole c.args.thread.now.kept c.args.pair c.args.id c.args.first take.can take.begins c.requires.goes) c.drop_at.new.thread.kept
     (subst (λ (s : Gstate). HasDroppedBehind c.args.thread.now.kept (c.args.pair - 1) s c.drop_at.new.thread.kept) c.sync_bit.ensures c.in_ok-drop_at.ensures.is_dropped)
-    c.drop_at-2.new.thread.kept (then_dropped c.drop_at.new.thread.kept c.renumbered.result (number_without c.args.pair c.args.gone) (move_view c.none.result) c.drop_at-2.new.thread.kept c.renumbered.ensures c.none.ensures c.in_ok-drop_at-2.ensures.is_dropped)
+    c.drop_at-2.new.thread.kept (then_dropped c.drop_at.new.thread.kept c.number_after_drop.result (number_without c.args.pair c.args.gone) (move_view c.none.result) c.drop_at-2.new.thread.kept c.number_after_drop.ensures c.none.ensures c.in_ok-drop_at-2.ensures.is_dropped)
 
 pub returns-clause-device : goal.returns-clause-device
 returns-clause-device g c =
     subst (λ at. Writes (four_of at (pair_in c.args.thread.now.kept (c.args.gone - 1)).at) c.args.thread.now.kept c.drop_at-2.new.thread.kept) (sym (written_whole c.args.thread.now.kept c.args.pair c.args.first c.requires.goes))
     (writes_whole c.args.thread.now.kept c.args.pair c.args.id c.args.first c.args.gone c.requires.can (stands_whole c.args.thread.now.kept c.args.pair c.args.id c.args.first c.requires.can.can c.requires.can.begins c.requires.goes) c.drop_at.new.thread.kept c.drop_at-2.new.thread.kept
     (subst (λ (s : Gstate). HasDroppedBehind c.args.thread.now.kept (c.args.pair - 1) s c.drop_at.new.thread.kept) c.sync_bit.ensures c.in_ok-drop_at.ensures.is_dropped)
-    c.drop_at.ensures.device (subst (λ (i : ℕ). Writes (two_of (pair_in c.drop_at.new.thread.kept (i - 1)).at) c.drop_at.new.thread.kept c.drop_at-2.new.thread.kept) c.renumbered.ensures c.drop_at-2.ensures.device))
+    c.drop_at.ensures.device (subst (λ (i : ℕ). Writes (two_of (pair_in c.drop_at.new.thread.kept (i - 1)).at) c.drop_at.new.thread.kept c.drop_at-2.new.thread.kept) c.number_after_drop.ensures c.drop_at-2.ensures.device))
 
 pub returns-clause-survives : goal.returns-clause-survives
 returns-clause-survives g c take = both_survive_whole c.args.thread.now.kept c.args.pair c.args.id c.args.first c.args.gone take (stands_whole c.args.thread.now.kept c.args.pair c.args.id c.args.first take.can take.begins c.requires.goes) c.drop_at.new.thread.kept c.drop_at-2.new.thread.kept
     (two_of (pair_in c.args.thread.now.kept (c.args.pair - 1)).at) (two_of (pair_in c.drop_at.new.thread.kept (number_without c.args.pair c.args.gone - 1)).at)
     (subst (λ (s : Gstate). HasDroppedBehind c.args.thread.now.kept (c.args.pair - 1) s c.drop_at.new.thread.kept) c.sync_bit.ensures c.in_ok-drop_at.ensures.is_dropped)
-    c.drop_at.ensures.device (subst (λ (i : ℕ). Writes (two_of (pair_in c.drop_at.new.thread.kept (i - 1)).at) c.drop_at.new.thread.kept c.drop_at-2.new.thread.kept) c.renumbered.ensures c.drop_at-2.ensures.device)
+    c.drop_at.ensures.device (subst (λ (i : ℕ). Writes (two_of (pair_in c.drop_at.new.thread.kept (i - 1)).at) c.drop_at.new.thread.kept c.drop_at-2.new.thread.kept) c.number_after_drop.ensures c.drop_at-2.ensures.device)
     (subst (λ (s : Gstate). StopsLeave c.args.thread.now.kept.history c.drop_at.new.thread.kept.history (IsLeftByDrop c.args.thread.now.kept (c.args.pair - 1) s)) c.sync_bit.ensures c.drop_at.ensures.stops)
-    (subst (λ (i : ℕ). StopsLeave c.drop_at.new.thread.kept.history c.drop_at-2.new.thread.kept.history (IsLeftByDrop c.drop_at.new.thread.kept (i - 1) no_gstate)) c.renumbered.ensures
-    (subst (λ (s : Gstate). StopsLeave c.drop_at.new.thread.kept.history c.drop_at-2.new.thread.kept.history (IsLeftByDrop c.drop_at.new.thread.kept (c.renumbered.result - 1) s)) c.none.ensures c.drop_at-2.ensures.stops))
+    (subst (λ (i : ℕ). StopsLeave c.drop_at.new.thread.kept.history c.drop_at-2.new.thread.kept.history (IsLeftByDrop c.drop_at.new.thread.kept (i - 1) no_gstate)) c.number_after_drop.ensures
+    (subst (λ (s : Gstate). StopsLeave c.drop_at.new.thread.kept.history c.drop_at-2.new.thread.kept.history (IsLeftByDrop c.drop_at.new.thread.kept (c.number_after_drop.result - 1) s)) c.none.ensures c.drop_at-2.ensures.stops))
 
 pub returns-clause-alters : goal.returns-clause-alters
 returns-clause-alters g c =
     whole_alters c.args.thread.now.kept c.args.pair c.args.id c.args.first c.args.gone c.requires.can (stands_whole c.args.thread.now.kept c.args.pair c.args.id c.args.first c.requires.can.can c.requires.can.begins c.requires.goes) c.drop_at.new.thread.kept
     (subst (λ (s : Gstate). HasDroppedBehind c.args.thread.now.kept (c.args.pair - 1) s c.drop_at.new.thread.kept) c.sync_bit.ensures c.in_ok-drop_at.ensures.is_dropped)
-    c.drop_at-2.new.thread.kept (then_dropped c.drop_at.new.thread.kept c.renumbered.result (number_without c.args.pair c.args.gone) (move_view c.none.result) c.drop_at-2.new.thread.kept c.renumbered.ensures c.none.ensures c.in_ok-drop_at-2.ensures.is_dropped)
+    c.drop_at-2.new.thread.kept (then_dropped c.drop_at.new.thread.kept c.number_after_drop.result (number_without c.args.pair c.args.gone) (move_view c.none.result) c.drop_at-2.new.thread.kept c.number_after_drop.ensures c.none.ensures c.in_ok-drop_at-2.ensures.is_dropped)

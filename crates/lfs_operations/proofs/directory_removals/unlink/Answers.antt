@@ -5,8 +5,8 @@ use Rattle.lfs_model.specs.Slots.{Gstate, gstate_xor}
 use Rattle.lfs_model.proofs.Global.{sync_delta}
 use Rattle.lfs_tag.specs.FieldsView.{move_view}
 use Rattle.lfs_model.proofs.Histories.{LeavesOnly-weaker}
-use Rattle.lfs_pair.specs.declared.committing.Outcome.{Outcome}
-use Rattle.lfs_pair.specs.declared.committing.Outcome.TheVariants as outcome
+use Rattle.lfs_pair.specs.declared.commits.Outcome.{Outcome}
+use Rattle.lfs_pair.specs.declared.commits.Outcome.TheVariants as outcome
 use Rattle.lfs_thread.specs.Kept.{Kept}
 use Rattle.lfs_thread.specs.Steps.{CanChange, IsChanged, IsLeftByChange, IsRefused, pair_in}
 use Rattle.lfs_operations.specs.Unlinking.{IsUnlinked, unlink_changes}

@@ -5,8 +5,8 @@ use Rattle.lfs_model.specs.Changes.{Change, PutMove, PutTail}
 use Rattle.lfs_model.specs.LoggedContent.{IsAddress}
 use Rattle.lfs_model.specs.Slots.{Gstate, address_of, gstate_xor}
 use Rattle.lfs_tag.specs.FieldsView.{move_view}
-use Rattle.lfs_pair.specs.declared.committing.Outcome.{Outcome}
-use Rattle.lfs_pair.specs.declared.committing.Outcome.TheVariants as outcome
+use Rattle.lfs_pair.specs.declared.commits.Outcome.{Outcome}
+use Rattle.lfs_pair.specs.declared.commits.Outcome.TheVariants as outcome
 use Rattle.lfs_thread.specs.Steps.{CanDrop, IsDropped, IsRefused, pair_in}
 use Rattle.lfs_operations.specs.Deltas.{IsAddressIfSome, taking_over, takes_delta, target_of}
 use Rattle.lfs_operations.proofs.RecoverDeltas.{can_drop, over_not_refused}

@@ -4,8 +4,8 @@ use Rattle.lfs_model.specs.Changes.{Delete, PutMove}
 use Rattle.lfs_model.specs.LoggedContent.{IsAddress}
 use Rattle.lfs_model.specs.Slots.{Gstate}
 use Rattle.lfs_tag.specs.FieldsView.{move_view}
-use Rattle.lfs_pair.specs.declared.committing.Outcome.{Outcome}
-use Rattle.lfs_pair.specs.declared.committing.Outcome.TheVariants as outcome
+use Rattle.lfs_pair.specs.declared.commits.Outcome.{Outcome}
+use Rattle.lfs_pair.specs.declared.commits.Outcome.TheVariants as outcome
 use Rattle.lfs_thread.specs.Steps.{CanChange, IsChanged, IsRefused}
 use Rattle.lfs_operations.specs.Deltas.{delta_of}
 use Rattle.lfs_operations.specs.EndingMove.{taking}

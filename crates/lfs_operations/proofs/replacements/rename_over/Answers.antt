@@ -5,8 +5,8 @@ use Rattle.lfs_model.specs.Changes.{Delete, PutMove}
 use Rattle.lfs_model.specs.Slots.{gstate_xor}
 use Rattle.lfs_model.proofs.Global.{sync_delta}
 use Rattle.lfs_pair.specs.ChangeView.{changes_view}
-use Rattle.lfs_pair.specs.declared.committing.Outcome.{Outcome}
-use Rattle.lfs_pair.specs.declared.committing.Outcome.TheVariants as outcome
+use Rattle.lfs_pair.specs.declared.commits.Outcome.{Outcome}
+use Rattle.lfs_pair.specs.declared.commits.Outcome.TheVariants as outcome
 use Rattle.lfs_thread.specs.Device.{StopsLeave, two_of}
 use Rattle.lfs_thread.specs.Kept.{Kept}
 use Rattle.lfs_thread.specs.Steps.{CanChange, IsChanged, IsLeftByChange, IsRefused, Writes, pair_in}

@@ -34,12 +34,12 @@ returns-then-count-eq1-clause-starred c counts rest are starless is =
     ∙ ap (λ (found : Option (Vec ℕ Global)). option_map (repeat times) (option_map (λ v. v.items) found)) (sym c.in-Some-2.is)
     ∙ ap (option_map (repeat times)) (c.in_ok-bytes.ensures ∙ ap word_bytes got.1)
 
-pub returns-in_ok-repeated-clause-starred : goal.returns-in_ok-repeated-clause-starred
-returns-in_ok-repeated-clause-starred c counts rest are starless is =
+pub returns-in_ok-repeat_bytes-clause-starred : goal.returns-in_ok-repeat_bytes-clause-starred
+returns-in_ok-repeat_bytes-clause-starred c counts rest are starless is =
     let got = c.in-Some.ensures.starred counts rest are starless is in
     let times = times_in counts in
     let bytes = c.in-Some-2.bytes.items in
-    let all : c.in_ok-repeated.field-0.items ≡ repeat c.in-Some.count bytes = c.in_ok-repeated.ensures.bytes ∙ ap (repeat c.in-Some.count) c.deref.ensures.value in
-    ap Some (all ∙ as_often times c.in-Some.count bytes got.0 (subst (λ (v : List ℕ). length v < 2 ^ 63) all c.in_ok-repeated.ensures.room))
+    let all : c.in_ok-repeat_bytes.field-0.items ≡ repeat c.in-Some.count bytes = c.in_ok-repeat_bytes.ensures.bytes ∙ ap (repeat c.in-Some.count) c.deref.ensures.value in
+    ap Some (all ∙ as_often times c.in-Some.count bytes got.0 (subst (λ (v : List ℕ). length v < 2 ^ 63) all c.in_ok-repeat_bytes.ensures.room))
     ∙ ap (λ (found : Option (Vec ℕ Global)). option_map (repeat times) (option_map (λ v. v.items) found)) (sym c.in-Some-2.is)
     ∙ ap (option_map (repeat times)) (c.in_ok-bytes.ensures ∙ ap word_bytes got.1)

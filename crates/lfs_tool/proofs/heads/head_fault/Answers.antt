@@ -1,7 +1,7 @@
 use Rattle.std.proofs.Common.{◌∙◌, ap, map, sym}
 use Rattle.lfs_model.specs.Thread.{starts_with_superblock}
 use Rattle.lfs_tool.specs.HeldView.{held_view}
-use Rattle.lfs_tool.specs.declared.held.HeldPair.{HeldPair}
+use Rattle.lfs_tool.specs.declared.held_parts.HeldPair.{HeldPair}
 use Rattle.lfs_tool.proofs.RootPlaces.{first_of_root}
 use Rattle.lfs_tool.proofs.heads.head_fault.Goals as goal
 

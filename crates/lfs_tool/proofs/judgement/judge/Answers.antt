@@ -11,20 +11,20 @@ use Rattle.lfs_tool.proofs.Judged.{verdict_alike}
 use Rattle.lfs_tool.proofs.Reordered.{found_alike}
 use Rattle.lfs_tool.proofs.judgement.judge.Goals as goal
 
-pub judge_mounted-requires-clause-used : goal.judge_mounted-requires-clause-used
-judge_mounted-requires-clause-used c =
+pub judge_thread-requires-clause-used : goal.judge_thread-requires-clause-used
+judge_thread-requires-clause-used c =
     let m = c.in-Ok.ensures.mounted in
     subst (λ (d : Disk). AreUsed c.in-Ok.thread.kept.map (used_blocks d c.in-Ok.thread.kept.pairs)) (sym m.disk_is) m.used
 
-pub judge_mounted-requires-clause-longer : goal.judge_mounted-requires-clause-longer
-judge_mounted-requires-clause-longer c = λ is (ps, a).
+pub judge_thread-requires-clause-longer : goal.judge_thread-requires-clause-longer
+judge_thread-requires-clause-longer c = λ is (ps, a).
     c.in-Ok.ensures.longer is ps (subst (λ (d : Disk). IsAccepted (ordered LongerFirst d) ps) c.in-Ok.ensures.mounted.disk_is a)
 
 pub returns-in-Ok-clause-verdict : goal.returns-in-Ok-clause-verdict
 returns-in-Ok-clause-verdict c =
     let disk = disk_of (geometry_of c.args.device) (ram_blocks c.args.device) in
     let m = c.in-Ok.ensures.mounted in
-    IfOk-weaker c.judge_mounted.result _ _ (λ v h order. verdict_alike c.in-Ok.thread.kept.disk (ordered order disk) LongerFirst v (ap (λ (d : Disk). ordered LongerFirst d) m.disk_is) h) c.judge_mounted.ensures.verdict
+    IfOk-weaker c.judge_thread.result _ _ (λ v h order. verdict_alike c.in-Ok.thread.kept.disk (ordered order disk) LongerFirst v (ap (λ (d : Disk). ordered LongerFirst d) m.disk_is) h) c.judge_thread.ensures.verdict
 
 pub returns-in_ok-found-in-Err-default-Corrupt-clause-verdict : goal.returns-in_ok-found-in-Err-default-Corrupt-clause-verdict
 returns-in_ok-found-in-Err-default-Corrupt-clause-verdict c =

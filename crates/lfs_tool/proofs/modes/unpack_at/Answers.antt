@@ -3,5 +3,5 @@ use Rattle.lfs_tool.proofs.modes.unpack_at.Goals as goal
 
 pub returns-clause-done : goal.returns-clause-done
 returns-clause-done g c =
-    on_ok_weaker c.unpack_asked.result (λ done. (c.in_ok-image.image, (c.in_ok-image.ensures.path, (c.in_ok-target.target, (c.in_ok-target.ensures.path, (c.unpack_asked.new.target, done))))))
-    c.unpack_asked.ensures.done
+    on_ok_weaker c.unpack_by_line.result (λ done. (c.in_ok-image.image, (c.in_ok-image.ensures.path, (c.in_ok-target.target, (c.in_ok-target.ensures.path, (c.unpack_by_line.new.target, done))))))
+    c.unpack_by_line.ensures.done

@@ -12,8 +12,8 @@ use Rattle.lfs_tree.proofs.Operated.{only_read_change, works_reported}
 use Rattle.lfs_lookup.proofs.Reading.{answered, passed}
 use Rattle.lfs_tree.proofs.removals_at.remove_at.Goals as goal
 
-pub take_found-requires-clause-can : goal.take_found-requires-clause-can
-take_found-requires-clause-can g c =
+pub remove_target-requires-clause-can : goal.remove_target-requires-clause-can
+remove_target-requires-clause-can g c =
     let t = c.args.thread.now in
     let mid = c.find_target.new.thread in
     let found = c.in_ok-target.target.found in
@@ -33,17 +33,17 @@ pub returns : goal.returns
 returns g c =
     let t = c.args.thread.now in
     let mid = c.find_target.new.thread in
-    let new = c.take_found.new.thread in
+    let new = c.remove_target.new.thread in
     let path = c.args.path.now in
     let found = c.in_ok-target.target.found in
     let entry = entry_on t.kept path found (entry_to_remove t.kept path c.requires.can) c.in_ok-target.ensures.target.leads in
     let can = can_go t c.args.root c.requires.rests path c.know_device.ensures.large c.know_device.ensures.bytes c.requires.can mid.kept.history found entry in
     let read = answered t mid c.find_target.result c.in_ok-target.target c.in_ok-target.was c.find_target.ensures.reading in
     let is = read_is t.kept mid.kept read.only in
-    let e = c.take_found.ensures in
+    let e = c.remove_target.ensures in
     let old = subst (λ k. CanGo k path found) (sym is) can in
-    let gone = ok_then c.take_found.result _ _ (λ h. subst (λ k. HasGone k path new.kept) is (h path old)) e.gone in
-    let spared = ok_then c.take_found.result _ _ (λ h. subst (λ k. HasSpared k path new.kept) is (h path old)) e.alone in
-    remove_does t c.args.root c.requires.rests path mid.kept.history new read.only.reads (subst (λ k. WritesAmong k new.kept) is e.device) c.take_found.result c.know_bytes.ensures.0 c.know_bytes.ensures.1
-    read.same gone spared (record { errors = e.errors.errors; fault = e.errors.fault; no_fault = e.errors.no_fault }) (works_reported new c.take_found.result e.errors.failed)
+    let gone = ok_then c.remove_target.result _ _ (λ h. subst (λ k. HasGone k path new.kept) is (h path old)) e.gone in
+    let spared = ok_then c.remove_target.result _ _ (λ h. subst (λ k. HasSpared k path new.kept) is (h path old)) e.alone in
+    remove_does t c.args.root c.requires.rests path mid.kept.history new read.only.reads (subst (λ k. WritesAmong k new.kept) is e.device) c.remove_target.result c.know_bytes.ensures.0 c.know_bytes.ensures.1
+    read.same gone spared (record { errors = e.errors.errors; fault = e.errors.fault; no_fault = e.errors.no_fault }) (works_reported new c.remove_target.result e.errors.failed)
     (subst (λ k. SurvivesTo k new.kept (removed path (tree_in k.disk k.pairs))) is (e.survives path old))

@@ -19,8 +19,8 @@ source_in-source-requires g c = slot_found c.args.thread.now.kept c.args.from.no
 pub find_target-requires-2 : goal.find_target-requires-2
 find_target-requires-2 g c = rests_still c.args.thread.now c.find_target.new.thread c.args.root c.requires.rests c.find_target.ensures.reading.only c.find_target.ensures.reading.works
 
-pub move_found-requires-clause-can : goal.move_found-requires-clause-can
-move_found-requires-clause-can g c =
+pub move_to_target-requires-clause-can : goal.move_to_target-requires-clause-can
+move_to_target-requires-clause-can g c =
     let t = c.args.thread.now in
     let one = c.find_target.new.thread in
     let mid = c.find_target-2.new.thread in
@@ -52,7 +52,7 @@ returns g c =
     let t = c.args.thread.now in
     let one = c.find_target.new.thread in
     let mid = c.find_target-2.new.thread in
-    let new = c.move_found.new.thread in
+    let new = c.move_to_target.new.thread in
     let from = c.args.from.now in
     let to = c.args.to.now in
     let source = c.source_in-source.result in
@@ -62,9 +62,9 @@ returns g c =
     (source_for t.kept from c.in_ok-entry.entry.found source c.in_ok-entry.ensures.target.leads c.source_in-source.ensures) mid.kept.history
     target.found target.name.now (target_back t.kept one.kept to target.found target.name.now c.find_target.ensures.reading.only c.in_ok-target.ensures.target) in
     let is = read_is t.kept mid.kept read.only in
-    let e = c.move_found.ensures in
+    let e = c.move_to_target.ensures in
     let old = subst (λ k. CanShiftFound k from to source target.found target.name.now) (sym is) can in
-    let shifted = ok_then c.move_found.result _ _ (λ h. subst (λ k. HasShifted k from to new.kept) is (h from to old)) e.shifted in
-    rename_does t c.args.root c.requires.rests from to c.requires.apart mid.kept.history new read.only.reads (subst (λ k. WritesAmong k new.kept) is e.device) c.move_found.result c.know_bytes.ensures.0 c.know_bytes-2.ensures.0 c.know_bytes.ensures.1 c.know_bytes-2.ensures.1
-    read.same shifted (reported_of_work mid new c.move_found.result e.errors) e.errors.works
+    let shifted = ok_then c.move_to_target.result _ _ (λ h. subst (λ k. HasShifted k from to new.kept) is (h from to old)) e.shifted in
+    rename_does t c.args.root c.requires.rests from to c.requires.apart mid.kept.history new read.only.reads (subst (λ k. WritesAmong k new.kept) is e.device) c.move_to_target.result c.know_bytes.ensures.0 c.know_bytes-2.ensures.0 c.know_bytes.ensures.1 c.know_bytes-2.ensures.1
+    read.same shifted (reported_of_work mid new c.move_to_target.result e.errors) e.errors.works
     (subst (λ k. SurvivesTo k new.kept (renamed from to (tree_in k.disk k.pairs))) is (e.survives from to old))

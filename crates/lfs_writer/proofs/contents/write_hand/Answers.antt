@@ -18,4 +18,4 @@ returns-clause-written g c =
 
 pub returns-clause-owned : goal.returns-clause-owned
 returns-clause-owned g c =
-    hand_owned c.write_turned.new.map (g.D.BlockDevice.blocks c.write_turned.new.dev) (g.D.BlockDevice.geometry c.args.dev.now) c.in_ok-hand.hand _ c.in_ok-hand.ensures.written.going (owned_right _ c.in_ok-hand.ensures.over.owned)
+    hand_owned c.write_elsewhere.new.map (g.D.BlockDevice.blocks c.write_elsewhere.new.dev) (g.D.BlockDevice.geometry c.args.dev.now) c.in_ok-hand.hand _ c.in_ok-hand.ensures.written.going (owned_right _ c.in_ok-hand.ensures.over.owned)

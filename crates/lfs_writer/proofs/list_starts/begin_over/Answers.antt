@@ -10,7 +10,7 @@ use Rattle.lfs_ctz.specs.declared.rest.Rest.TheVariants.{Closed, Shared, Handed,
 use Rattle.lfs_ctz.specs.Growing.{pending_in, content_of, size_of, Growing}
 use Rattle.lfs_writer.specs.Hand.{IsListBegun, stored_bytes}
 use Rattle.lfs_writer.specs.Written.{IsAt}
-use Rattle.lfs_writer.specs.declared.stored.Stored.{Stored}
+use Rattle.lfs_writer.specs.declared.stored_list.Stored.{Stored}
 use Rattle.lfs_writer.proofs.Hands.{begins, none_pending}
 use Rattle.lfs_writer.proofs.list_starts.begin_over.Goals as goal
 

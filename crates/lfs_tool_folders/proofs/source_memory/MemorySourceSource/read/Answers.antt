@@ -17,7 +17,7 @@ returns-in-Some-clause-bytes c =
     let at : bytes_at (map item_of c.args.self.now.held.items) c.args.file.now ≡ Some c.in-Some.bytes.items =
     ap (λ xs. bytes_at (map item_of xs) c.args.file.now) (sym c.deref-held-items.ensures.value)
     ∙ (ap (option_and_then (λ e. e.1)) here ∙ ap (λ b. items_by b) c.in-Some.is) in
-    IfOk-weaker c.copied.result _ _ (λ v e. at ∙ ap Some (sym (e ∙ c.as_slice-in-Some.ensures.value))) c.copied.ensures.bytes
+    IfOk-weaker c.copy_bytes.result _ _ (λ v e. at ∙ ap Some (sym (e ∙ c.as_slice-in-Some.ensures.value))) c.copy_bytes.ensures.bytes
 
 pub loop-held-preserved : goal.loop-held-preserved
 loop-held-preserved c =

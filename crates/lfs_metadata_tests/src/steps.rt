@@ -1,0 +1,154 @@
+// Steps of a thread as data, each carried out where it may be.
+
+ghost use Rattle.std.specs.Prelude.{◌≡◌, false, IfOk, IsTrue, OnOk};
+ghost use Rattle.std.specs.Option.{option_map};
+ghost use Rattle.lfs_model.specs.Slots.{address_of};
+ghost use Rattle.lfs_thread.specs.Steps.{AreHeld};
+
+use crate::look::look_at;
+use lfs_device::{BlockDevice, Error};
+use lfs_pair::{Change, Outcome};
+use lfs_thread::Thread;
+use std::alloc::Global;
+
+/// A step of a thread, at the pair of a number.
+#[derive(Clone, Copy, Drop)]
+pub enum Step<'a> {
+    /// The pair is changed.
+    Change(usize, &'a [Change<'a>]),
+    /// It is split.
+    Split(usize, &'a [Change<'a>]),
+    /// A fresh pair comes behind it, which the changes name.
+    ThreadIn(usize, &'a [Change<'a>]),
+    /// The pair behind it goes.
+    DropNext(usize, &'a [Change<'a>]),
+}
+
+// Whether two tails name the same.
+fn is_same(a: Option<[u32; 2]>, b: Option<[u32; 2]>) -> bool
+    ensures { IsTrue result → option_map address_of a ≡ option_map address_of b }
+{
+    match (a, b) {
+        (None, None) => true,
+        (Some(a), Some(b)) => a[0] == b[0] && a[1] == b[1],
+        _ => false,
+    }
+}
+
+// Two free blocks. `NoSpace` where there are fewer.
+fn take_two<D: BlockDevice>(thread: &mut Thread<D>) -> Result<[u32; 2], Error>
+    ensures held { IfOk result (λ fresh. AreHeld thread.new.kept.map (address_of fresh)) }
+    ensures works { thread.new.failed ≡ thread.old.failed }
+{
+    let Some(first) = thread.take() else {
+        return Err(Error::NoSpace);
+    };
+    let Some(second) = thread.take() else {
+        return Err(Error::NoSpace);
+    };
+    Ok([first, second])
+}
+
+fn change<D: BlockDevice>(
+    alloc: Global,
+    thread: &mut Thread<D>,
+    index: usize,
+    changes: &[Change<'_>],
+) -> Result<Outcome, Error>
+    requires { thread.old.failed ≡ false }
+    ensures { OnOk result (thread.new.failed ≡ false) }
+{
+    let look = look_at(alloc, thread, index, changes)?;
+    if !is_same(look.now, look.next) {
+        return Err(Error::Invalid);
+    }
+    let outcome = thread.change(alloc, index, changes)?;
+    Ok(outcome)
+}
+
+fn split<D: BlockDevice>(
+    alloc: Global,
+    thread: &mut Thread<D>,
+    index: usize,
+    changes: &[Change<'_>],
+) -> Result<Outcome, Error>
+    requires { thread.old.failed ≡ false }
+    ensures { OnOk result (thread.new.failed ≡ false) }
+{
+    let fresh = take_two(thread)?;
+    let look = look_at(alloc, thread, index, changes)?;
+    if !is_same(look.now, look.next) || !look.can_be_cut {
+        return Err(Error::Invalid);
+    }
+    thread.split(alloc, index, fresh, changes)?;
+    Ok(Outcome::Done)
+}
+
+fn thread_in<D: BlockDevice>(
+    alloc: Global,
+    thread: &mut Thread<D>,
+    index: usize,
+    changes: &[Change<'_>],
+) -> Result<Outcome, Error>
+    requires { thread.old.failed ≡ false }
+    ensures { OnOk result (thread.new.failed ≡ false) }
+{
+    let fresh = take_two(thread)?;
+    let look = look_at(alloc, thread, index, changes)?;
+    if !is_same(look.next, Some(fresh)) {
+        return Err(Error::Invalid);
+    }
+    let outcome = thread.thread_in(alloc, index, fresh, changes)?;
+    Ok(outcome)
+}
+
+fn drop_next<D: BlockDevice>(
+    alloc: Global,
+    thread: &mut Thread<D>,
+    index: usize,
+    changes: &[Change<'_>],
+) -> Result<Outcome, Error>
+    requires { thread.old.failed ≡ false }
+    ensures { OnOk result (thread.new.failed ≡ false) }
+{
+    if index >= thread.len() {
+        return Err(Error::Invalid);
+    }
+    let behind = look_at(alloc, thread, index + 1, &[])?;
+    let look = look_at(alloc, thread, index, changes)?;
+    if !is_same(look.next, behind.now) {
+        return Err(Error::Invalid);
+    }
+    let outcome = thread.drop_next(alloc, index, changes)?;
+    Ok(outcome)
+}
+
+/// Carries a step out, with the first free blocks where it wants two. `Invalid` where it may not be
+/// carried out.
+pub fn carry_out<D: BlockDevice>(
+    alloc: Global,
+    thread: &mut Thread<D>,
+    step: Step<'_>,
+) -> Result<Outcome, Error>
+    requires { thread.old.failed ≡ false }
+    ensures { OnOk result (thread.new.failed ≡ false) }
+{
+    match step {
+        Step::Change(index, changes) => {
+            let outcome = change(alloc, thread, index, changes)?;
+            Ok(outcome)
+        }
+        Step::Split(index, changes) => {
+            let outcome = split(alloc, thread, index, changes)?;
+            Ok(outcome)
+        }
+        Step::ThreadIn(index, changes) => {
+            let outcome = thread_in(alloc, thread, index, changes)?;
+            Ok(outcome)
+        }
+        Step::DropNext(index, changes) => {
+            let outcome = drop_next(alloc, thread, index, changes)?;
+            Ok(outcome)
+        }
+    }
+}

@@ -1,0 +1,112 @@
+// What a mount learns of a directory while it reads its pairs.
+
+ghost use Rattle.std.specs.Prelude.{◌≡◌, ◌⊎◌, map, OnOk, IfErr, IsErrOf, Some, None};
+ghost use Rattle.lfs_model.specs.declared.order.NameOrder.{NameOrder};
+ghost use Rattle.lfs_tag.specs.ContentView.{slot_view};
+ghost use Rattle.lfs_mount.specs.Entries.{comes_behind, nothing_known, with_entry};
+ghost use Rattle.lfs_mount.specs.EntryView.{entry_view};
+ghost use Rattle.lfs_mount.specs.Orders.{has_order};
+ghost use Rattle.lfs_mount.specs.Scanned.{scanned};
+
+use crate::entry::{NamedStruct, entry_of};
+use crate::orders::Orders;
+use crate::reachability::Directory;
+use lfs_device::{Error, NameOrder};
+use lfs_tag::{Slot, Struct, name_cmp};
+use lfs_thread::Places;
+use std::alloc::Global;
+
+// Returns whether a name comes after the last one in an order of names. `last` is empty where there
+// is none.
+fn comes_behind(order: NameOrder, last: &[u8], name: &[u8]) -> bool
+    ensures { result ≡ comes_behind order last.now name.now }
+{
+    last.is_empty() || name_cmp(order, last, name).is_lt()
+}
+
+// Returns the orders in which a name comes after the last one.
+fn orders_behind(last: &[u8], name: &[u8]) -> Orders
+    ensures { (order : NameOrder) → has_order order result ≡ comes_behind order last.now name.now }
+{
+    Orders {
+        longer_first: comes_behind(NameOrder::LongerFirst, last, name),
+        shorter_first: comes_behind(NameOrder::ShorterFirst, last, name),
+    }
+}
+
+// What is known of a directory by the entries that were read so far.
+#[derive(Drop)]
+pub(crate) struct Known {
+    // The name of the last entry, or no bytes where there was none.
+    last: Vec<u8>,
+    directory: Directory,
+}
+
+impl Known {
+    ghost use Rattle.lfs_mount.specs.KnownView.{known_view};
+    ghost use Rattle.lfs_mount.specs.DirectoryView.{vertex_of};
+
+    // Makes what is known before the first entry of a directory, which is nothing.
+    pub fn nothing(alloc: Global) -> Known
+        ensures { (order : NameOrder) → known_view order result ≡ nothing_known }
+    {
+        Known {
+            last: Vec::new(alloc),
+            directory: Directory {
+                sound_in: Orders::both_or_none(true),
+                branches: Vec::new(alloc),
+            },
+        }
+    }
+
+    fn set_last(&mut self, name: &[u8]) -> Result<(), Error>
+        ensures last { OnOk result (self.new.last.items ≡ name.now) }
+        ensures directory { OnOk result (self.new.directory ≡ self.old.directory) }
+        ensures error { IfErr result (λ e. e ≡ Error.NoMemory) }
+    {
+        self.last.clear();
+        self.last.extend_from_slice(name)?;
+        Ok(())
+    }
+
+    // Adds one entry.
+    fn add(&mut self, places: &Places, entry: &NamedStruct<'_>) -> Result<(), Error>
+        ensures ok { OnOk result ((order : NameOrder) → known_view order self.new ≡ with_entry order places.now (known_view order self.old) (entry_view entry.now)) }
+        ensures error { IfErr result (λ e. e ≡ Error.NoMemory) }
+    {
+        let rises = orders_behind(&self.last, entry.name);
+        self.directory.sound_in = self.directory.sound_in.and(rises);
+        self.set_last(entry.name)?;
+        if let Struct::Branch(pair) = entry.target {
+            match places.find(pair) {
+                Some(place) => self.directory.branches.push(place)?,
+                None => self.directory.sound_in = Orders::both_or_none(false),
+            }
+        }
+        Ok(())
+    }
+
+    // Returns the directory, whose last entry was read. Nothing is known of the next directory
+    // then.
+    pub fn end(&mut self, alloc: Global) -> Directory
+        ensures directory { (order : NameOrder) → vertex_of order result ≡ (known_view order self.old).1 }
+        ensures nothing { (order : NameOrder) → known_view order self.new ≡ nothing_known }
+    {
+        std::mem::replace(self, Known::nothing(alloc)).directory
+    }
+
+    // Adds the entries in these slots of a pair. Corrupt exactly where one of the slots holds none.
+    pub fn scan(&mut self, places: &Places, slots: &[Slot<'_>]) -> Result<(), Error>
+        ensures ok { OnOk result ((order : NameOrder) → scanned order places.now (known_view order self.old) (map slot_view slots.now) ≡ Some (known_view order self.new)) }
+        ensures corrupt { IsErrOf result Error.Corrupt → (order : NameOrder) → scanned order places.now (known_view order self.old) (map slot_view slots.now) ≡ None }
+        ensures errors { IfErr result (λ e. (e ≡ Error.Corrupt) ⊎ (e ≡ Error.NoMemory)) }
+    {
+        for slot in slots {
+            let Some(entry) = entry_of(slot) else {
+                return Err(Error::Corrupt);
+            };
+            self.add(places, &entry)?;
+        }
+        Ok(())
+    }
+}

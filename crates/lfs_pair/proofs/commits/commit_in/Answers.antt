@@ -1,0 +1,139 @@
+use Rattle.std.proofs.Common.{◌≡◌, ◌<◌, Err}
+use Rattle.std.proofs.lemmas.Result.{err_from_is_err_and}
+use Rattle.lfs_device.specs.declared.geometry.Geometry.{Geometry}
+use Rattle.lfs_model.specs.History.{faults}
+use Rattle.lfs_pair.proofs.Behind.{is_full}
+use Rattle.lfs_pair.proofs.Erring.{fails_io, reports_io, reports_ok}
+use Rattle.std.proofs.Common.{◌∙◌, rules, Ok, Some, sym, ap, subst}
+use Rattle.lfs_device.specs.Shown.{disk_of}
+use Rattle.lfs_model.specs.History.{EachSince, LeavesOnly}
+use Rattle.lfs_model.specs.Stops.{ErasesCleanly, Stops}
+use Rattle.lfs_model.specs.WrittenContent.{FitsRaw}
+use Rattle.lfs_model.proofs.Histories.{LeavesOnly-weaker}
+use Rattle.lfs_tag.specs.ContentView.{content_view}
+use Rattle.lfs_pair.specs.Pair.{address_in}
+use Rattle.lfs_pair.specs.ChangeView.{changes_view}
+use Rattle.lfs_pair.specs.Writing.{ChangesReading}
+use Rattle.lfs_pair.specs.Commit.{both_blocks, KeepsFirst, IsCompacted, NowHolds, LeftWith}
+use Rattle.lfs_pair.proofs.Changed.{ends_here, left_by_change, made_here}
+use Rattle.lfs_pair.proofs.commits.commit_in.Goals as goal
+
+pub returns-in_err-compact-clause-stops : goal.returns-in_err-compact-clause-stops
+returns-in_err-compact-clause-stops g c =
+    let made = made_here _ _ c.args.pair.now c.requires.can.held c.args.block.now (changes_view c.args.changes.now) (Some (content_view c.in_ok-content.content)) c.requires.can.is_pair c.requires.block c.in_ok-content.ensures.content in
+    let moved = subst (λ p. EachSince ErasesCleanly (g.D.BlockDevice.history c.append.new.dev) (g.D.BlockDevice.history c.compact.new.dev)
+    → LeavesOnly Stops (g.D.BlockDevice.history c.append.new.dev) (g.D.BlockDevice.history c.compact.new.dev) (LeftWith (disk_of (g.D.BlockDevice.geometry c.append.new.dev) (g.D.BlockDevice.blocks c.append.new.dev)) (address_in p) (content_view c.in_ok-content.content)))
+    (c.in_ok-append.ensures.no_room (ap Ok c.if-branch.false)).pair c.in_err-compact.ensures.stops in
+    let stops = subst (λ d. EachSince ErasesCleanly (g.D.BlockDevice.history d) (g.D.BlockDevice.history c.compact.new.dev)
+    → LeavesOnly Stops (g.D.BlockDevice.history d) (g.D.BlockDevice.history c.compact.new.dev) (LeftWith (disk_of (g.D.BlockDevice.geometry d) (g.D.BlockDevice.blocks d)) (address_in c.args.pair.now) (content_view c.in_ok-content.content)))
+    (c.in_ok-append.ensures.no_room (ap Ok c.if-branch.false)).device moved in
+    let fits : FitsRaw (g.D.BlockDevice.geometry c.args.dev.now).block_size (g.D.BlockDevice.geometry c.args.dev.now).page (content_view c.in_ok-content.content) = search rules in
+    λ cleanly. LeavesOnly-weaker (λ disk left. left_by_change (disk_of (g.D.BlockDevice.geometry c.args.dev.now) (g.D.BlockDevice.blocks c.args.dev.now)) (address_in c.args.pair.now) (changes_view c.args.changes.now) (content_view c.in_ok-content.content) disk made fits c.in_ok-content.ensures.logged left) (stops cleanly)
+
+pub returns-clause-stops : goal.returns-clause-stops
+returns-clause-stops g c =
+    let made = made_here _ _ c.args.pair.now c.requires.can.held c.args.block.now (changes_view c.args.changes.now) (Some (content_view c.in_ok-content.content)) c.requires.can.is_pair c.requires.block c.in_ok-content.ensures.content in
+    let moved = subst (λ p. EachSince ErasesCleanly (g.D.BlockDevice.history c.append.new.dev) (g.D.BlockDevice.history c.compact.new.dev)
+    → LeavesOnly Stops (g.D.BlockDevice.history c.append.new.dev) (g.D.BlockDevice.history c.compact.new.dev) (LeftWith (disk_of (g.D.BlockDevice.geometry c.append.new.dev) (g.D.BlockDevice.blocks c.append.new.dev)) (address_in p) (content_view c.in_ok-content.content)))
+    (c.in_ok-append.ensures.no_room (ap Ok c.if-branch.false)).pair c.in_ok-compact.ensures.stops in
+    let stops = subst (λ d. EachSince ErasesCleanly (g.D.BlockDevice.history d) (g.D.BlockDevice.history c.compact.new.dev)
+    → LeavesOnly Stops (g.D.BlockDevice.history d) (g.D.BlockDevice.history c.compact.new.dev) (LeftWith (disk_of (g.D.BlockDevice.geometry d) (g.D.BlockDevice.blocks d)) (address_in c.args.pair.now) (content_view c.in_ok-content.content)))
+    (c.in_ok-append.ensures.no_room (ap Ok c.if-branch.false)).device moved in
+    let fits : FitsRaw (g.D.BlockDevice.geometry c.args.dev.now).block_size (g.D.BlockDevice.geometry c.args.dev.now).page (content_view c.in_ok-content.content) = search rules in
+    λ cleanly. LeavesOnly-weaker (λ disk left. left_by_change (disk_of (g.D.BlockDevice.geometry c.args.dev.now) (g.D.BlockDevice.blocks c.args.dev.now)) (address_in c.args.pair.now) (changes_view c.args.changes.now) (content_view c.in_ok-content.content) disk made fits c.in_ok-content.ensures.logged left) (stops cleanly)
+
+pub returns-in_err-append-clause-stops : goal.returns-in_err-append-clause-stops
+returns-in_err-append-clause-stops g c cleanly =
+    let made = made_here _ _ c.args.pair.now c.requires.can.held c.args.block.now (changes_view c.args.changes.now) (Some (content_view c.in_ok-content.content)) c.requires.can.is_pair c.requires.block c.in_ok-content.ensures.content in
+    let fits : FitsRaw (g.D.BlockDevice.geometry c.args.dev.now).block_size (g.D.BlockDevice.geometry c.args.dev.now).page (content_view c.in_ok-content.content) = search rules in
+    LeavesOnly-weaker (λ disk left. left_by_change (disk_of (g.D.BlockDevice.geometry c.args.dev.now) (g.D.BlockDevice.blocks c.args.dev.now)) (address_in c.args.pair.now) (changes_view c.args.changes.now) (content_view c.in_ok-content.content) disk made fits c.in_ok-content.ensures.logged left) c.in_err-append.ensures.stops
+
+pub returns-then-branch-clause-stops : goal.returns-then-branch-clause-stops
+returns-then-branch-clause-stops g c cleanly =
+    let made = made_here _ _ c.args.pair.now c.requires.can.held c.args.block.now (changes_view c.args.changes.now) (Some (content_view c.in_ok-content.content)) c.requires.can.is_pair c.requires.block c.in_ok-content.ensures.content in
+    let fits : FitsRaw (g.D.BlockDevice.geometry c.args.dev.now).block_size (g.D.BlockDevice.geometry c.args.dev.now).page (content_view c.in_ok-content.content) = search rules in
+    LeavesOnly-weaker (λ disk left. left_by_change (disk_of (g.D.BlockDevice.geometry c.args.dev.now) (g.D.BlockDevice.blocks c.args.dev.now)) (address_in c.args.pair.now) (changes_view c.args.changes.now) (content_view c.in_ok-content.content) disk made fits c.in_ok-content.ensures.logged left) c.in_ok-append.ensures.stops
+
+pub returns-then-branch-clause-done : goal.returns-then-branch-clause-done
+returns-then-branch-clause-done g c done =
+    let now = c.in_ok-append.ensures.done (ap Ok c.if-branch.true) in
+    let made = made_here _ _ c.args.pair.now c.requires.can.held c.args.block.now (changes_view c.args.changes.now) (Some (content_view c.in_ok-content.content)) c.requires.can.is_pair c.requires.block c.in_ok-content.ensures.content in
+    let fits : FitsRaw (g.D.BlockDevice.geometry c.args.dev.now).block_size (g.D.BlockDevice.geometry c.args.dev.now).page (content_view c.in_ok-content.content) = search rules in
+    record {
+      new = content_view c.in_ok-content.content;
+      made = made;
+      fits = fits;
+      logged = c.in_ok-content.ensures.logged;
+      holds = now.holds;
+      first = now.first;
+      appended = λ appends. now.appended;
+      compacted = λ full. absurd (full now.appends);
+    }
+
+pub returns-clause-done : goal.returns-clause-done
+returns-clause-done g c done =
+    let made = made_here _ _ c.args.pair.now c.requires.can.held c.args.block.now (changes_view c.args.changes.now) (Some (content_view c.in_ok-content.content)) c.requires.can.is_pair c.requires.block c.in_ok-content.ensures.content in
+    let fits : FitsRaw (g.D.BlockDevice.geometry c.args.dev.now).block_size (g.D.BlockDevice.geometry c.args.dev.now).page (content_view c.in_ok-content.content) = search rules in
+    let holds = subst (λ p. NowHolds (disk_of (g.D.BlockDevice.geometry c.compact.new.dev) (g.D.BlockDevice.blocks c.compact.new.dev)) (g.D.BlockDevice.history c.compact.new.dev) (address_in p) c.compact.new.pair (content_view c.in_ok-content.content))
+    (c.in_ok-append.ensures.no_room (ap Ok c.if-branch.false)).pair c.in_ok-compact.ensures.done.holds in
+    let moved = subst (λ p. KeepsFirst (disk_of (g.D.BlockDevice.geometry c.append.new.dev) (g.D.BlockDevice.blocks c.append.new.dev)) (address_in p) (Some (content_view c.in_ok-content.content)) (disk_of (g.D.BlockDevice.geometry c.compact.new.dev) (g.D.BlockDevice.blocks c.compact.new.dev)))
+    (c.in_ok-append.ensures.no_room (ap Ok c.if-branch.false)).pair c.in_ok-compact.ensures.done.first in
+    let first = subst (λ d. KeepsFirst (disk_of (g.D.BlockDevice.geometry d) (g.D.BlockDevice.blocks d)) (address_in c.args.pair.now) (Some (content_view c.in_ok-content.content)) (disk_of (g.D.BlockDevice.geometry c.compact.new.dev) (g.D.BlockDevice.blocks c.compact.new.dev)))
+    (c.in_ok-append.ensures.no_room (ap Ok c.if-branch.false)).device moved in
+    let anew = subst (λ p. IsCompacted (g.D.BlockDevice.geometry c.append.new.dev).page p (content_view c.in_ok-content.content) (g.D.BlockDevice.blocks c.append.new.dev) (g.D.BlockDevice.blocks c.compact.new.dev)
+    (g.D.BlockDevice.history c.append.new.dev) (g.D.BlockDevice.history c.compact.new.dev) c.compact.new.pair) (c.in_ok-append.ensures.no_room (ap Ok c.if-branch.false)).pair c.in_ok-compact.ensures.done.compacted in
+    let back = subst (λ d. IsCompacted (g.D.BlockDevice.geometry d).page c.args.pair.now (content_view c.in_ok-content.content) (g.D.BlockDevice.blocks d) (g.D.BlockDevice.blocks c.compact.new.dev)
+    (g.D.BlockDevice.history d) (g.D.BlockDevice.history c.compact.new.dev) c.compact.new.pair) (c.in_ok-append.ensures.no_room (ap Ok c.if-branch.false)).device anew in
+    record {
+      new = content_view c.in_ok-content.content;
+      made = made;
+      fits = fits;
+      logged = c.in_ok-content.ensures.logged;
+      holds = holds;
+      first = first;
+      appended = λ appends. absurd ((c.in_ok-append.ensures.no_room (ap Ok c.if-branch.false)).no_room appends);
+      compacted = λ full. back;
+    }
+
+pub returns-clause-device : goal.returns-clause-device
+returns-clause-device g c =
+    let moved = subst (λ p. ChangesReading g.D.BlockDevice 1 (both_blocks (address_in p)) c.append.new.dev c.compact.new.dev) (c.in_ok-append.ensures.no_room (ap Ok c.if-branch.false)).pair (record { only = c.in_ok-compact.ensures.writes.device; few = c.in_ok-compact.ensures.writes.few }) in
+    subst (λ d. ChangesReading g.D.BlockDevice 1 (both_blocks (address_in c.args.pair.now)) d c.compact.new.dev) (c.in_ok-append.ensures.no_room (ap Ok c.if-branch.false)).device moved
+
+pub returns-in_err-compact-clause-device : goal.returns-in_err-compact-clause-device
+returns-in_err-compact-clause-device g c =
+    let moved = subst (λ p. ChangesReading g.D.BlockDevice 1 (both_blocks (address_in p)) c.append.new.dev c.compact.new.dev) (c.in_ok-append.ensures.no_room (ap Ok c.if-branch.false)).pair (record { only = c.in_err-compact.ensures.writes.device; few = c.in_err-compact.ensures.writes.few }) in
+    subst (λ d. ChangesReading g.D.BlockDevice 1 (both_blocks (address_in c.args.pair.now)) d c.compact.new.dev) (c.in_ok-append.ensures.no_room (ap Ok c.if-branch.false)).device moved
+
+pub returns-then-not-fits-clause-full : goal.returns-then-not-fits-clause-full
+returns-then-not-fits-clause-full g c is =
+    let made = made_here _ _ c.args.pair.now c.requires.can.held c.args.block.now (changes_view c.args.changes.now) (Some (content_view c.in_ok-content.content)) c.requires.can.is_pair c.requires.block c.in_ok-content.ensures.content in
+    is_full made c.in_ok-content.ensures.logged (λ fits.
+    let is = c.fits.ensures.1 (subst (λ (k : Geometry). FitsRaw k.block_size k.page (content_view c.in_ok-content.content)) (sym c.geometry-geometry.ensures) fits) in
+    absurd (cc (c.if-not-fits.true, is)))
+
+pub returns-in_err-append-clause-faults : goal.returns-in_err-append-clause-faults
+returns-in_err-append-clause-faults g c =
+    let p = err_from_is_err_and c.from_residual-in_err-append.result c.from_residual-in_err-append.ensures.1 in
+    reports_io p.1 p.2 c.in_err-append.ensures.writes.errors (c.in_err-append.ensures.writes.faults.fault (ap Err c.in_err-append.ensures.writes.errors))
+
+pub returns-then-branch-clause-faults : goal.returns-then-branch-clause-faults
+returns-then-branch-clause-faults g c = reports_ok (c.in_ok-append.ensures.writes.faults.no_fault (λ gives. absurd (cc)))
+
+pub returns-in_err-compact-clause-error : goal.returns-in_err-compact-clause-error
+returns-in_err-compact-clause-error g c =
+    let p = err_from_is_err_and c.from_residual-in_err-compact.result c.from_residual-in_err-compact.ensures.1 in
+    fails_io g.D.BlockDevice c.args.dev.now c.compact.new.dev p.1 p.2 c.in_err-compact.ensures.writes.errors (c.in_err-compact.ensures.err_pair ∙ (c.in_ok-append.ensures.no_room (ap Ok c.if-branch.false)).pair)
+
+pub returns-in_err-compact-clause-faults : goal.returns-in_err-compact-clause-faults
+returns-in_err-compact-clause-faults g c =
+    let p = err_from_is_err_and c.from_residual-in_err-compact.result c.from_residual-in_err-compact.ensures.1 in
+    reports_io p.1 p.2 c.in_err-compact.ensures.writes.errors
+    (subst (λ d. faults (g.D.BlockDevice.history d) < faults (g.D.BlockDevice.history c.compact.new.dev)) (c.in_ok-append.ensures.no_room (ap Ok c.if-branch.false)).device (c.in_err-compact.ensures.writes.faults.fault (ap Err c.in_err-compact.ensures.writes.errors)))
+
+pub returns-clause-faults : goal.returns-clause-faults
+returns-clause-faults g c =
+    reports_ok (subst (λ d. faults (g.D.BlockDevice.history c.compact.new.dev) ≡ faults (g.D.BlockDevice.history d)) (c.in_ok-append.ensures.no_room (ap Ok c.if-branch.false)).device (c.in_ok-compact.ensures.writes.faults.no_fault (λ gives. absurd (cc))))
+
+pub made_in-requires-clause-ends : goal.made_in-requires-clause-ends
+made_in-requires-clause-ends g c = ends_here _ _ c.args.pair.now c.requires.can.held c.args.block.now c.requires.can.is_pair c.requires.block

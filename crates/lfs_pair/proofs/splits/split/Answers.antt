@@ -1,0 +1,68 @@
+use Rattle.std.proofs.Common.{arith, ◌∙◌}
+use Rattle.std.proofs.lemmas.Result.{err_from_is_err_and}
+use Rattle.lfs_pair.proofs.Erring.{fails_on, reports_ok, reports_on}
+use Rattle.std.proofs.Common.{ap₂, sym, subst}
+use Rattle.lfs_device.specs.Shown.{disk_of}
+use Rattle.lfs_model.specs.Slots.{address_of}
+use Rattle.lfs_model.proofs.Histories.{goes_on_by, EachSince-behind, LeavesOnly-reads, LeavesOnly-weaker, Stops-read}
+use Rattle.lfs_pair.specs.Pair.{address_in}
+use Rattle.lfs_pair.specs.ChangeView.{changes_view}
+use Rattle.lfs_pair.specs.Split.{CanSplit, LeftBySplit}
+use Rattle.lfs_pair.proofs.Behind.{splits_behind}
+use Rattle.lfs_pair.proofs.Calls.{few_at_error, few_by_read, reading_by_read, reading_trans}
+use Rattle.lfs_pair.proofs.Changed.{active_below}
+use Rattle.lfs_pair.proofs.Parted.{CanSplit-reads, left_before}
+use Rattle.lfs_pair.proofs.splits.split.Goals as goal
+
+pub read_block-requires : goal.read_block-requires
+read_block-requires g c = active_below _ _ c.args.pair.now c.requires.commit.held _ c.requires.commit.address c.requires.commit.is_pair (g.met.D.BlockDevice.shape c.args.dev.now).count
+
+pub returns-in_err-block-clause-stops : goal.returns-in_err-block-clause-stops
+returns-in_err-block-clause-stops g c cleanly = LeavesOnly-reads Stops-read c.in_err-block.ensures.device.reads (left_before _ _ _ _)
+
+pub split_in-requires-clause-can : goal.split_in-requires-clause-can
+split_in-requires-clause-can g c =
+    let read = c.in_ok-block.ensures.device in
+    subst (λ disk. CanSplit disk (g.D.BlockDevice.history c.read_block.new.device) c.args.pair.now (address_of c.args.fresh) (changes_view c.args.changes.now)) (sym (ap₂ disk_of read.geometry read.same))
+    (CanSplit-reads read.reads c.requires)
+
+pub returns-in_err-fresh_pair-clause-stops : goal.returns-in_err-fresh_pair-clause-stops
+returns-in_err-fresh_pair-clause-stops g c cleanly =
+    let read = c.in_ok-block.ensures.device in
+    goes_on_by (LeavesOnly-reads Stops-read read.reads (left_before _ _ _ _))
+    (LeavesOnly-weaker (λ disk left. subst (λ old. LeftBySplit old (address_in c.args.pair.now) (address_of c.args.fresh) (changes_view c.args.changes.now) disk) (ap₂ disk_of read.geometry read.same) left)
+    (c.in_err-fresh_pair.ensures.stops (EachSince-behind cleanly read.reads c.in_err-fresh_pair.ensures.device.only.at_worst)))
+
+pub returns-clause-stops : goal.returns-clause-stops
+returns-clause-stops g c cleanly =
+    let read = c.in_ok-block.ensures.device in
+    goes_on_by (LeavesOnly-reads Stops-read read.reads (left_before _ _ _ _))
+    (LeavesOnly-weaker (λ disk left. subst (λ old. LeftBySplit old (address_in c.args.pair.now) (address_of c.args.fresh) (changes_view c.args.changes.now) disk) (ap₂ disk_of read.geometry read.same) left)
+    (c.in_ok-fresh_pair.ensures.stops (EachSince-behind cleanly read.reads c.in_ok-fresh_pair.ensures.device.only.at_worst)))
+
+pub returns-clause-splits : goal.returns-clause-splits
+returns-clause-splits g c =
+    let read = c.in_ok-block.ensures.device in
+    splits_behind (ap₂ disk_of read.geometry read.same) read.reads c.in_ok-fresh_pair.ensures.device.only.at_worst c.in_ok-fresh_pair.ensures.splits
+
+pub returns-in_err-block-clause-device : goal.returns-in_err-block-clause-device
+returns-in_err-block-clause-device g c = reading_by_read c.in_err-block.ensures.device (few_at_error c.in_err-block.ensures.errors c.in_err-block.ensures.io c.in_err-block.ensures.no_memory) (omega arith)
+
+pub returns-in_err-fresh_pair-clause-device : goal.returns-in_err-fresh_pair-clause-device
+returns-in_err-fresh_pair-clause-device g c = reading_trans (reading_by_read {n = 1} c.in_ok-block.ensures.device (few_by_read c.in_ok-block.ensures.ok) (omega arith)) c.in_err-fresh_pair.ensures.device
+
+pub returns-clause-device : goal.returns-clause-device
+returns-clause-device g c = reading_trans (reading_by_read {n = 1} c.in_ok-block.ensures.device (few_by_read c.in_ok-block.ensures.ok) (omega arith)) c.in_ok-fresh_pair.ensures.device
+
+pub returns-in_err-fresh_pair-clause-error : goal.returns-in_err-fresh_pair-clause-error
+returns-in_err-fresh_pair-clause-error g c =
+    let p = err_from_is_err_and c.from_residual-in_err-fresh_pair.result c.from_residual-in_err-fresh_pair.ensures.1 in
+    fails_on p.1 p.2 c.in_ok-block.ensures.device c.in_err-fresh_pair.ensures.error
+
+pub returns-in_err-fresh_pair-clause-faults : goal.returns-in_err-fresh_pair-clause-faults
+returns-in_err-fresh_pair-clause-faults g c =
+    let p = err_from_is_err_and c.from_residual-in_err-fresh_pair.result c.from_residual-in_err-fresh_pair.ensures.1 in
+    reports_on p.1 p.2 (c.in_ok-block.ensures.faults.no_fault (λ gives. absurd (cc))) c.in_err-fresh_pair.ensures.faults
+
+pub returns-clause-faults : goal.returns-clause-faults
+returns-clause-faults g c = reports_ok (c.in_ok-fresh_pair.ensures.faults.no_fault (λ gives. absurd (cc)) ∙ c.in_ok-block.ensures.faults.no_fault (λ gives. absurd (cc)))

@@ -1,0 +1,177 @@
+// Commits of changes to a pair.
+
+ghost use Rattle.std.specs.Prelude.{◌≡◌, true, false, IfErr, OnErr, OnOk, Some, length};
+ghost use Rattle.lfs_device.specs.Shown.{disk_of};
+ghost use Rattle.lfs_model.specs.Blocks.{block_in};
+ghost use Rattle.lfs_device.specs.Calls.{ReportsFaults};
+ghost use Rattle.lfs_model.specs.History.{EachSince, LeavesOnly};
+ghost use Rattle.lfs_model.specs.Stops.{ErasesCleanly, Stops};
+ghost use Rattle.lfs_model.specs.WrittenContent.{FitsRaw};
+ghost use Rattle.lfs_model.specs.LoggedContent.{HaveNames, IsLogged};
+ghost use Rattle.lfs_tag.specs.ContentView.{content_view};
+ghost use Rattle.lfs_pair.specs.Pair.{address_in};
+ghost use Rattle.lfs_pair.specs.ChangeView.{changes_view};
+ghost use Rattle.lfs_pair.specs.Commit.{made_at, both_blocks, AppendsNow, CanCommit, Commits, CompactsNow, CommitFails, HasNoRoom, IsFull, IsAddressOn, IsActive, LeftByChange, LeftWith};
+ghost use Rattle.lfs_pair.specs.Writing.{ChangesReading, WritesOnly};
+
+use crate::change::Change;
+use crate::contents::made_in;
+use crate::entries::push_changes;
+use crate::pair::Pair;
+use crate::programs::{program, write_anew};
+use crate::size::fits;
+use lfs_device::{BlockDevice, Error, read_block};
+use lfs_tag::{CommitBuilder, Content};
+use std::alloc::Global;
+
+/// What a commit did.
+#[derive(Clone, Copy, Debug, PartialEq, Eq, Drop)]
+pub enum Outcome {
+    /// The pair now holds what the changes make of it.
+    Done,
+    /// What the changes make doesn't fit the pair. Nothing was written.
+    Full,
+}
+
+/// Commits changes to a pair (DESIGN.md of littlefs, "Metadata pairs"). The commit is atomic: a
+/// loss of power during the call leaves the pair with all of the changes or with none.
+///
+/// The changes are appended to the active block's log where the padded commit ends within the
+/// block. Else the other block is erased, and all that the pair is to hold is written into it. The
+/// first commit after a [`fetch`](crate::fetch) takes this way, too, since the bytes after the log
+/// aren't known then. The call takes at most two reads.
+///
+/// Returns [`Outcome::Full`] exactly where what the changes make doesn't fit a pair ([`fits`]).
+/// Then nothing is written, and the pair stays as it was.
+///
+/// Errors: `NoMemory` where memory for two blocks and the slots isn't granted; nothing is written
+/// then. `Io` where a call of the device failed. After an error `pair` is as it was, but the device
+/// may hold something else. So the caller fetches its blocks again.
+///
+/// The promise about a loss of power has two premises. An erase leaves a block without a log, or
+/// with the log that it had. A program that is cut short leaves the log from before it, or the one
+/// from after it.
+///
+/// The caller's conditions: the device has the pair as its last call left it. The changes are
+/// allowed in the pair's log. Each slot has a name afterwards.
+pub fn commit<D: BlockDevice>(
+    alloc: Global,
+    dev: &mut D,
+    pair: &mut Pair,
+    changes: &[Change<'_>],
+) -> Result<Outcome, Error>
+    requires { CanCommit (disk_of (D.geometry dev.old) (D.blocks dev.old)) (D.history dev.old) pair.old (changes_view changes.now) }
+
+    ensures done { result ≡ Ok Outcome.Done
+        → Commits (disk_of (D.geometry dev.old) (D.blocks dev.old)) (D.history dev.old) (changes_view changes.now) pair.old (disk_of (D.geometry dev.new) (D.blocks dev.new)) (D.history dev.new) pair.new }
+    ensures full { result ≡ Ok Outcome.Full → IsFull D.BlockDevice (changes_view changes.now) dev.old dev.new pair.old pair.new }
+    ensures error { IfErr result (λ e. CommitFails D.BlockDevice dev.old dev.new pair.old pair.new e) }
+    ensures device { ChangesReading D.BlockDevice 2 (both_blocks (address_in pair.old)) dev.old dev.new }
+    ensures faults { ReportsFaults D.BlockDevice dev.old dev.new result }
+    ensures stops { EachSince ErasesCleanly (D.history dev.old) (D.history dev.new)
+        → LeavesOnly Stops (D.history dev.old) (D.history dev.new) (LeftByChange (disk_of (D.geometry dev.old) (D.blocks dev.old)) (address_in pair.old) (changes_view changes.now)) }
+{
+    let block = read_block(alloc, dev, pair.active)?;
+    let outcome = commit_in(alloc, dev, pair, &block, changes)?;
+    Ok(outcome)
+}
+
+/// Commits as [`commit`] does, to a pair whose active block's bytes the caller has, as from a
+/// cache. Of the device it reads the four bytes after what it programs, and nothing else.
+///
+/// The caller's conditions are those of [`commit`], and that the active block has the bytes of
+/// `block`. Errors are those of [`commit`], but memory is wanted for one block and the slots.
+pub fn commit_in<'a, 'b: 'a, D: BlockDevice>(
+    alloc: Global,
+    dev: &mut D,
+    pair: &mut Pair,
+    block: &'a [u8],
+    changes: &[Change<'b>],
+) -> Result<Outcome, Error>
+    requires can { CanCommit (disk_of (D.geometry dev.old) (D.blocks dev.old)) (D.history dev.old) pair.old (changes_view changes.now) }
+    requires block { block.now ≡ block_in (D.blocks dev.old) pair.old.active }
+
+    ensures done { result ≡ Ok Outcome.Done
+        → Commits (disk_of (D.geometry dev.old) (D.blocks dev.old)) (D.history dev.old) (changes_view changes.now) pair.old (disk_of (D.geometry dev.new) (D.blocks dev.new)) (D.history dev.new) pair.new }
+    ensures full { result ≡ Ok Outcome.Full → IsFull D.BlockDevice (changes_view changes.now) dev.old dev.new pair.old pair.new }
+    ensures error { IfErr result (λ e. CommitFails D.BlockDevice dev.old dev.new pair.old pair.new e) }
+    ensures device { ChangesReading D.BlockDevice 1 (both_blocks (address_in pair.old)) dev.old dev.new }
+    ensures faults { ReportsFaults D.BlockDevice dev.old dev.new result }
+    ensures stops { EachSince ErasesCleanly (D.history dev.old) (D.history dev.new)
+        → LeavesOnly Stops (D.history dev.old) (D.history dev.new) (LeftByChange (disk_of (D.geometry dev.old) (D.blocks dev.old)) (address_in pair.old) (changes_view changes.now)) }
+{
+    let geometry = dev.geometry();
+    let content = made_in(alloc, pair, block, changes)?;
+    if !fits(&content, geometry) {
+        return Ok(Outcome::Full);
+    }
+    let mut buf = Vec::from_elem(alloc, 0u8, geometry.block_size as usize)?;
+    if append(dev, pair, changes, &content, &mut buf)? {
+        return Ok(Outcome::Done);
+    }
+    compact(dev, pair, &content, &mut buf)?;
+    Ok(Outcome::Done)
+}
+
+// Appends the changes, which make the content, to the log of the active block, if they fit there.
+// Returns whether they do.
+fn append<D: BlockDevice>(
+    dev: &mut D,
+    pair: &mut Pair,
+    changes: &[Change<'_>],
+    content: &Content<'_>,
+    buf: &mut [u8],
+) -> Result<bool, Error>
+    requires can { CanCommit (disk_of (D.geometry dev.old) (D.blocks dev.old)) (D.history dev.old) pair.old (changes_view changes.now) }
+    requires logged { IsLogged (content_view content.now) }
+    requires made { made_at (disk_of (D.geometry dev.old) (D.blocks dev.old)) (address_in pair.old) (changes_view changes.now) ≡ Some (content_view content.now) }
+    requires buf { length buf.old ≡ (D.geometry dev.old).block_size }
+
+    ensures done { result ≡ Ok true → AppendsNow (disk_of (D.geometry dev.old) (D.blocks dev.old)) (D.history dev.old) pair.old (changes_view changes.now) (content_view content.now)
+        (disk_of (D.geometry dev.new) (D.blocks dev.new)) (D.history dev.new) pair.new }
+    ensures no_room { result ≡ Ok false → HasNoRoom D.BlockDevice (changes_view changes.now) dev.old dev.new pair.old pair.new }
+    ensures buf { length buf.new ≡ length buf.old }
+    ensures err_pair { OnErr result (pair.new ≡ pair.old) }
+    ensures writes { WritesOnly D.BlockDevice 1 (both_blocks (address_in pair.old)) dev.old dev.new result }
+    ensures stops { LeavesOnly Stops (D.history dev.old) (D.history dev.new) (LeftWith (disk_of (D.geometry dev.old) (D.blocks dev.old)) (address_in pair.old) (content_view content.now)) }
+{
+    let geometry = dev.geometry();
+    let mut builder = CommitBuilder::new(geometry.page, buf, pair.last, None);
+    push_changes(&mut builder, changes);
+    let room = geometry.block_size - pair.end as u32;
+    if pair.is_fetched || room < builder.end() {
+        return Ok(false);
+    }
+    let written = program(dev, pair.active, pair.end as u32, builder)?;
+    *pair = Pair::written(pair.blocks, pair.active, pair.revision, written, content);
+    Ok(true)
+}
+
+// Writes the content into the pair's other block, which becomes active.
+pub(crate) fn compact<D: BlockDevice>(
+    dev: &mut D,
+    pair: &mut Pair,
+    content: &Content<'_>,
+    buf: &mut [u8],
+) -> Result<(), Error>
+    requires address { IsAddressOn (disk_of (D.geometry dev.old) (D.blocks dev.old)) (address_in pair.old) }
+    requires active { IsActive (disk_of (D.geometry dev.old) (D.blocks dev.old)) pair.old }
+    requires buf { length buf.old ≡ (D.geometry dev.old).block_size }
+    requires logged { IsLogged (content_view content.now) }
+    requires names { HaveNames (content_view content.now).slots }
+    requires fits { FitsRaw (D.geometry dev.old).block_size (D.geometry dev.old).page (content_view content.now) }
+
+    ensures buf { length buf.new ≡ length buf.old }
+    ensures done { OnOk result (CompactsNow (disk_of (D.geometry dev.old) (D.blocks dev.old)) (D.history dev.old) pair.old (content_view content.now)
+        (disk_of (D.geometry dev.new) (D.blocks dev.new)) (D.history dev.new) pair.new) }
+    ensures err_pair { OnErr result (pair.new ≡ pair.old) }
+    ensures writes { WritesOnly D.BlockDevice 1 (both_blocks (address_in pair.old)) dev.old dev.new result }
+    ensures stops { EachSince ErasesCleanly (D.history dev.old) (D.history dev.new)
+        → LeavesOnly Stops (D.history dev.old) (D.history dev.new) (LeftWith (disk_of (D.geometry dev.old) (D.blocks dev.old)) (address_in pair.old) (content_view content.now)) }
+{
+    let other = pair.other();
+    let revision = pair.revision.wrapping_add(1);
+    let written = write_anew(dev, other, revision, content, buf)?;
+    *pair = Pair::written(pair.blocks, other, revision, written, content);
+    Ok(())
+}

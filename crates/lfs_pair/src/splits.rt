@@ -1,0 +1,123 @@
+// Splits of a pair into itself and a fresh pair.
+
+ghost use Rattle.std.specs.Prelude.{◌≡◌, IfErr, IfOk};
+ghost use Rattle.lfs_device.specs.Shown.{disk_of};
+ghost use Rattle.lfs_model.specs.Blocks.{block_in};
+ghost use Rattle.lfs_device.specs.Calls.{ReportsFaults};
+ghost use Rattle.lfs_model.specs.History.{EachSince, LeavesOnly};
+ghost use Rattle.lfs_model.specs.Slots.{address_of};
+ghost use Rattle.lfs_model.specs.Stops.{ErasesCleanly, Stops};
+ghost use Rattle.lfs_tag.specs.ContentView.{content_view};
+ghost use Rattle.lfs_pair.specs.Pair.{address_in};
+ghost use Rattle.lfs_pair.specs.Commit.{CommitFails};
+ghost use Rattle.lfs_pair.specs.ChangeView.{changes_view};
+ghost use Rattle.lfs_pair.specs.Cut.{CanBeCut};
+ghost use Rattle.lfs_pair.specs.Writing.{ChangesReading};
+ghost use Rattle.lfs_pair.specs.Split.{blocks_of_both, CanSplit, Splits, LeftBySplit, AreParts};
+
+use crate::change::Change;
+use crate::commits::compact;
+use crate::contents::made_in;
+use crate::cut::cut_of;
+use crate::fresh::write_fresh;
+use crate::pair::Pair;
+use lfs_device::{BlockDevice, Error, Geometry, read_block};
+use lfs_tag::{Content, MoveState, Tail};
+use std::alloc::Global;
+
+/// Commits changes to a pair and splits it: a fresh pair is made of two blocks and takes the later
+/// slots. The old pair keeps the first slots and its delta of the global state, and gets a hard
+/// tail to the fresh pair. The fresh pair gets the other slots and the old tail (DESIGN.md of
+/// littlefs, "The directory tree"). Returns the header of the fresh pair. The call takes at most
+/// four reads.
+///
+/// The fresh pair is written first. So a loss of power during the call leaves the old pair with
+/// what it held, or both pairs with what they are to hold. That has the premises of
+/// [`commit`](crate::commit).
+///
+/// Errors: `NoMemory` where memory for two blocks and the slots isn't granted; nothing is written
+/// then. `Io` where a call of the device failed. After an error `pair` is as it was, but the device
+/// may hold something else. So the caller fetches its blocks again.
+///
+/// The caller's conditions are those of [`commit`](crate::commit), and three more. The slots can be
+/// cut into two parts that each [`fit`](crate::fits) a pair. The two blocks of `fresh` differ and
+/// are below the number of blocks. Neither is a block of the old pair.
+pub fn split<D: BlockDevice>(
+    alloc: Global,
+    dev: &mut D,
+    pair: &mut Pair,
+    fresh: [u32; 2],
+    changes: &[Change<'_>],
+) -> Result<Pair, Error>
+    requires { CanSplit (disk_of (D.geometry dev.old) (D.blocks dev.old)) (D.history dev.old) pair.old (address_of fresh) (changes_view changes.now) }
+
+    ensures splits { IfOk result (λ fresh_pair. Splits (disk_of (D.geometry dev.old) (D.blocks dev.old)) (D.history dev.old) (changes_view changes.now) pair.old (address_of fresh)
+        (disk_of (D.geometry dev.new) (D.blocks dev.new)) (D.history dev.new) pair.new fresh_pair) }
+    ensures error { IfErr result (λ e. CommitFails D.BlockDevice dev.old dev.new pair.old pair.new e) }
+    ensures device { ChangesReading D.BlockDevice 4 (blocks_of_both (address_in pair.old) (address_of fresh)) dev.old dev.new }
+    ensures faults { ReportsFaults D.BlockDevice dev.old dev.new result }
+    ensures stops { EachSince ErasesCleanly (D.history dev.old) (D.history dev.new)
+        → LeavesOnly Stops (D.history dev.old) (D.history dev.new) (LeftBySplit (disk_of (D.geometry dev.old) (D.blocks dev.old)) (address_in pair.old) (address_of fresh) (changes_view changes.now)) }
+{
+    let block = read_block(alloc, dev, pair.active)?;
+    let fresh_pair = split_in(alloc, dev, pair, fresh, &block, changes)?;
+    Ok(fresh_pair)
+}
+
+/// Splits as [`split`] does a pair whose active block's bytes the caller has, as from a cache. The
+/// call takes at most three reads.
+///
+/// The caller's conditions are those of [`split`], and that the active block has the bytes of
+/// `block`. Errors are those of [`split`], but memory is wanted for one block and the slots.
+pub fn split_in<'a, 'b: 'a, D: BlockDevice>(
+    alloc: Global,
+    dev: &mut D,
+    pair: &mut Pair,
+    fresh: [u32; 2],
+    block: &'a [u8],
+    changes: &[Change<'b>],
+) -> Result<Pair, Error>
+    requires can { CanSplit (disk_of (D.geometry dev.old) (D.blocks dev.old)) (D.history dev.old) pair.old (address_of fresh) (changes_view changes.now) }
+    requires block { block.now ≡ block_in (D.blocks dev.old) pair.old.active }
+
+    ensures splits { IfOk result (λ fresh_pair. Splits (disk_of (D.geometry dev.old) (D.blocks dev.old)) (D.history dev.old) (changes_view changes.now) pair.old (address_of fresh)
+        (disk_of (D.geometry dev.new) (D.blocks dev.new)) (D.history dev.new) pair.new fresh_pair) }
+    ensures error { IfErr result (λ e. CommitFails D.BlockDevice dev.old dev.new pair.old pair.new e) }
+    ensures device { ChangesReading D.BlockDevice 3 (blocks_of_both (address_in pair.old) (address_of fresh)) dev.old dev.new }
+    ensures faults { ReportsFaults D.BlockDevice dev.old dev.new result }
+    ensures stops { EachSince ErasesCleanly (D.history dev.old) (D.history dev.new)
+        → LeavesOnly Stops (D.history dev.old) (D.history dev.new) (LeftBySplit (disk_of (D.geometry dev.old) (D.blocks dev.old)) (address_in pair.old) (address_of fresh) (changes_view changes.now)) }
+{
+    let geometry = dev.geometry();
+    let mut front = made_in(alloc, pair, block, changes)?;
+    let back = cut_off(&mut front, fresh, geometry)?;
+    let mut buf = Vec::from_elem(alloc, 0u8, geometry.block_size as usize)?;
+    let fresh_pair = write_fresh(dev, fresh, &back, &mut buf)?;
+    compact(dev, pair, &front, &mut buf)?;
+    Ok(fresh_pair)
+}
+
+// Takes the slots from the cut on out of the content, and returns them with its tail. The content's
+// tail then is a hard one to the fresh pair.
+fn cut_off<'a>(
+    content: &mut Content<'a>,
+    fresh: [u32; 2],
+    geometry: Geometry,
+) -> Result<Content<'a>, Error>
+    requires { CanBeCut geometry.block_size geometry.page (content_view content.old).slots }
+    ensures parts { IfOk result (λ back. AreParts geometry.block_size geometry.page (content_view content.old) (address_of fresh) (content_view content.new) (content_view back)) }
+    ensures errors { IfErr result (λ e. e ≡ Error.NoMemory) }
+{
+    let cut = cut_of(&content.slots, geometry);
+    let slots = content.slots.split_off(cut)?;
+    let back = Content {
+        slots,
+        tail: content.tail,
+        move_state: MoveState::none(),
+    };
+    content.tail = Some(Tail {
+        hard: true,
+        pair: fresh,
+    });
+    Ok(back)
+}

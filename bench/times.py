@@ -1,7 +1,9 @@
 #!/usr/bin/env python3
-"""Runs the gate and prints docs/TIMES.md: the processor seconds that each crate takes, for its code, its tests and its edits.
+"""Runs the gate and prints the first part of docs/TIMES.md: the processor seconds of each crate, for its code, its tests and its edits.
 
-usage: bench/times.py [LOG [CRATE..]] > docs/TIMES.md     at the top of the repository; what the gate prints goes to LOG (gate.log)
+usage: bench/times.py [LOG [CRATE..]]     at the top of the repository; what the gate prints goes to LOG (gate.log)
+
+What it prints takes the place of docs/TIMES.md up to that page's first heading of the second level.
 
 With names of crates the gate runs in a copy that has only these and what they stand on, which is proved too and counts.
 `taskset -c 0,1 bench/times.py ..` shows what it takes on two processors.
@@ -9,13 +11,16 @@ With names of crates the gate runs in a copy that has only these and what they s
 The figures stay in LOG.json. A part that the gate has kept from an earlier run takes no time, and its figure of then is printed; so a
 run after a change, or one crate after the other, gives the table of the whole. Remove the file, and have nothing kept, for one run alone.
 
-A check of the prover is a process. Twice a second its time so far is read from /proc, so each process counts half a second too
-little at most. An edit's check runs in a folder of its own, and a check of tests has the word --test; so the three are told apart.
+A check of the prover is a process, with one beside it for each further job. Twice a second their time so far is read from /proc, so
+each counts half a second too little at most. An edit's check runs in a folder of its own, and a check of tests has the word --test; so
+the three are told apart. What all processes of the gate took together, as the kernel counts it, is printed beside their sum: the
+difference is what was missed, and what compiling, linking, and running tests and programs took.
 """
 import collections
 import json
 import os
 import re
+import resource
 import shutil
 import subprocess
 import sys
@@ -47,7 +52,7 @@ def descendants(of):
 
 
 def seen(process):
-    """The crate that a process checks, which part of it, and its processor seconds so far; none for other processes."""
+    """What names a process, the crate that it checks and which part of it, and its processor seconds so far; none for other processes."""
     try:
         with open(f"/proc/{process}/cmdline", "rb") as it:
             words = it.read().decode(errors="replace").split("\0")
@@ -59,24 +64,32 @@ def seen(process):
     except OSError:
         return None
     part = "edits" if "/rt-edit-" in folder else "tests" if "--test" in words else "code"
-    return words[words.index("--crate-name") + 1], part, (int(fields[11]) + int(fields[12])) / TICK
+    # (a number is given to another process once its own has ended, at another time)
+    named = process, fields[19]
+    return (named, words[words.index("--crate-name") + 1], part), (int(fields[11]) + int(fields[12])) / TICK
 
 
 def measured(log, folder):
-    """The gate's last line, its wall time, and each crate's processor seconds by part."""
-    spent, began = {}, time.monotonic()
+    """The gate's last line, its wall time, the processor seconds of all its processes, and each crate's by part."""
+    spent, began, before = {}, time.monotonic(), taken_by_children()
     with open(log, "w") as out:
         gate = subprocess.Popen(["rt", "ci"], cwd=folder, stdout=out, stderr=subprocess.STDOUT, stdin=subprocess.DEVNULL)
         while gate.poll() is None:
             for process in descendants(gate.pid):
                 if found := seen(process):
-                    spent[process, found[0], found[1]] = found[2]
+                    spent[found[0]] = found[1]
             time.sleep(PERIOD)
     totals = collections.defaultdict(lambda: dict.fromkeys(PARTS, 0.0))
     for (_, crate, part), seconds in spent.items():
         totals[crate][part] += seconds
     with open(log) as it:
-        return it.read().strip().rpartition("\n")[2], time.monotonic() - began, totals
+        return it.read().strip().rpartition("\n")[2], time.monotonic() - began, taken_by_children() - before, totals
+
+
+def taken_by_children():
+    """The processor seconds of all processes below this one that have ended."""
+    used = resource.getrusage(resource.RUSAGE_CHILDREN)
+    return used.ru_utime + used.ru_stime
 
 
 def copy_with(crates, room):
@@ -124,16 +137,16 @@ def edits_of(crate):
 
 def table(totals, counts):
     """The lines of the table, the crate that takes longest first."""
-    yield "| Crate | Functions | Code | Tests | Wrong bodies | of so many |"
+    yield "| Crate | Functions | Code | Tests | Wrong bodies | Their number |"
     yield "|---|---|---|---|---|---|"
     for crate, spent in sorted(totals.items(), key=lambda it: -sum(it[1].values())):
-        yield f"| `{crate}` | {counts.get(crate, '')} | {spent['code']:.0f} | {spent['tests']:.0f} | {spent['edits']:.0f} | {edits_of(crate)} |"
+        yield f"| `{crate}` | {counts.get(crate, '')} | {spent['code']:.0f} | {spent['tests']:.0f} | {spent['edits']:.0f} | {edits_of(crate) or ''} |"
 
 
 def main():
     log = sys.argv[1] if len(sys.argv) > 1 else "gate.log"
     with tempfile.TemporaryDirectory() as room:
-        last, wall, totals = measured(log, copy_with(sys.argv[2:], room) if sys.argv[2:] else ".")
+        last, wall, whole, totals = measured(log, copy_with(sys.argv[2:], room) if sys.argv[2:] else ".")
     totals = remembered(totals, f"{log}.json")
     sums = {part: sum(it[part] for it in totals.values()) / 60 for part in PARTS}
     print("# Times\n")
@@ -141,7 +154,7 @@ def main():
     print(*table(totals, functions(log)), sep="\n")
     print(f"\nIn all {sum(sums.values()):.0f} processor minutes: {sums['code']:.0f} for the code, {sums['tests']:.0f} for tests, {sums['edits']:.0f} for wrong bodies. That is {sum(sums.values()) / sums['code']:.2f} times as much as the code's proofs alone.")
     print(f"\nThe machine's yardstick: {' and '.join(f'`{it}`' for it in YARDSTICK)} alone take {sum(totals[it]['code'] for it in YARDSTICK):.0f} processor seconds on it.")
-    print(f"\nThe last run took {wall / 60:.0f} minutes on {len(os.sched_getaffinity(0))} processors. The gate's last line: `{last}`.")
+    print(f"\nThe last run took {wall / 60:.0f} minutes on {len(os.sched_getaffinity(0))} processors, and all its processes {whole / 60:.0f} processor minutes. The gate's last line: `{last}`.")
 
 
 if __name__ == "__main__":

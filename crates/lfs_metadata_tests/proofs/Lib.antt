@@ -1,5 +1,3 @@
-pub mod Kept
 pub mod Looked
-pub mod Named
 pub mod Ready
 pub mod Tailed

@@ -1,10 +1,10 @@
 // The clients at work, on a pair of three files of 300 bytes each.
 
-ghost use Rattle.std.specs.Prelude.{◌≡◌};
+ghost use Rattle.std.specs.Prelude.{◌≡◌, IfOk};
+ghost use Rattle.lfs_device.specs.RamDevice.{geometry_of};
 
 use crate::clients::{commit_or_stop, split_before};
-use crate::pair_images::sevens;
-use lfs_device::{BlockDevice, Erased, Error, FaultDevice, Which};
+use lfs_device::{BlockDevice, Error, FaultDevice, Geometry, RamDevice, Which};
 use lfs_pair::{Change, Pair};
 use lfs_tag::Tail;
 use lfs_tag::kinds::{FILE_NAME, INLINE_STRUCT};
@@ -68,11 +68,21 @@ fn left<D: BlockDevice>(alloc: Global, dev: &mut D) -> Result<usize, Error>
     Ok(pair.slot_count)
 }
 
+// A device of six blocks that holds 7 in each byte.
+fn sevens(alloc: Global) -> Result<RamDevice, Error>
+    ensures size { IfOk result (λ device. (geometry_of device).block_size ≡ 1024) }
+    ensures page { IfOk result (λ device. (geometry_of device).page ≡ 8) }
+    ensures count { IfOk result (λ device. (geometry_of device).block_count ≡ 6) }
+{
+    let bytes = Vec::from_elem(alloc, 7u8, 6 * 1024)?;
+    RamDevice::from_bytes(Geometry::new(1024, 8, 6)?, bytes)
+}
+
 // The pair is made by five calls, a commit to it has three, and a ninth is none of theirs.
 #[test]
 fn clients_commit_and_split(rt: HostRuntime) -> Result<(), Fail> {
     let alloc = rt.alloc();
-    let mut device = sevens(alloc, 1024, 8, 6, Erased::Fill(0xff))?;
+    let mut device = sevens(alloc)?;
     let front = Some(Tail {
         hard: true,
         pair: [2, 3],
@@ -88,7 +98,7 @@ fn clients_commit_and_split(rt: HostRuntime) -> Result<(), Fail> {
         (8, Err(Error::Io)),
         (9, Ok(2)),
     ] {
-        let inner = sevens(alloc, 1024, 8, 6, Erased::Fill(0xff))?;
+        let inner = sevens(alloc)?;
         let mut device = FaultDevice::new(inner, Which::Any, nth, true);
         assert_eq!(rt; left(alloc, &mut device), answer);
     }

@@ -1,11 +1,87 @@
 // Pairs of a small device, fetched.
 
-use crate::pair_images::{COMPLETE, HELD, MALFORMED, NOTHING, SYNC, TAIL, block, device, seen};
-use lfs_device::{Erased, Error, FaultDevice, Geometry, Which};
-use lfs_pair::{Change, apply_all, fetch, fits};
-use lfs_tag::kinds::{FILE_NAME, INLINE_STRUCT};
-use lfs_tag::{Content, ContentError, Log, MoveState};
+ghost use Rattle.std.specs.Prelude.{◌≡◌, IfOk};
+ghost use Rattle.lfs_device.specs.RamDevice.{geometry_of};
+
+use crate::images::{Entries, block};
+use lfs_device::{Error, FaultDevice, Geometry, RamDevice, Which};
+use lfs_pair::{Change, Pair, apply_all, fetch, fits};
+use lfs_tag::kinds::{CREATE, FILE_NAME, HARD_TAIL, INLINE_STRUCT, MOVE_STATE, SUPERBLOCK_NAME};
+use lfs_tag::{Content, ContentError, Log, MoveState, Tail};
+use std::alloc::Global;
 use std::test::Fail;
+
+const TAIL: Option<Tail> = Some(Tail {
+    hard: true,
+    pair: [2, 3],
+});
+
+const SYNC: MoveState = MoveState {
+    sync: true,
+    kind: 0,
+    id: 0,
+    pair: [0, 0],
+};
+
+// A superblock without a struct, a file `a` of two bytes, a hard tail to {2, 3} and a move state. The
+// slots take 12 and 11 bytes.
+const HELD: Entries<'static> = &[
+    (SUPERBLOCK_NAME, 0, b"littlefs"),
+    (FILE_NAME, 1, b"a"),
+    (INLINE_STRUCT, 1, b"hi"),
+    (HARD_TAIL, 0x3ff, &[2, 0, 0, 0, 3, 0, 0, 0]),
+    (MOVE_STATE, 0x3ff, &[0, 0, 0, 0x80, 0, 0, 0, 0, 0, 0, 0, 0]),
+];
+
+// The same, with a superblock's struct of 24 bytes.
+const COMPLETE: Entries<'static> = &[
+    (SUPERBLOCK_NAME, 0, b"littlefs"),
+    (INLINE_STRUCT, 0, &[0; 24]),
+    (FILE_NAME, 1, b"a"),
+    (INLINE_STRUCT, 1, b"hi"),
+    (HARD_TAIL, 0x3ff, &[2, 0, 0, 0, 3, 0, 0, 0]),
+    (MOVE_STATE, 0x3ff, &[0, 0, 0, 0x80, 0, 0, 0, 0, 0, 0, 0, 0]),
+];
+
+// No commit.
+const NOTHING: Entries<'static> = &[];
+
+// A slot is created behind one that isn't there.
+const MALFORMED: Entries<'static> = &[(CREATE, 1, b"")];
+
+// A device of four blocks of 1,024 bytes with pages of 128, of which the first two have one commit
+// each, of that revision, or none.
+fn device(alloc: Global, halves: [(u32, Entries<'static>); 2]) -> Result<RamDevice, Error>
+    ensures { IfOk result (λ device. (geometry_of device).block_count ≡ 4) }
+{
+    let geometry = Geometry::new(1024, 128, 4)?;
+    let mut bytes = Vec::new(alloc);
+    for (revision, entries) in halves {
+        if entries.is_empty() {
+            bytes.extend_from_slice(&[0xff; 1024])?;
+        } else {
+            bytes.extend_from_slice(&block(alloc, 1024, 128, 0xff, revision, entries)?)?;
+        }
+    }
+    bytes.resize(4096, 0xff)?;
+    RamDevice::from_bytes(geometry, bytes)
+}
+
+// The active block, where its log ends, its revision, the count of its slots, whether all are
+// complete, the tail and the move state.
+type Seen = (u32, usize, u32, usize, bool, Option<Tail>, MoveState);
+
+fn seen(pair: &Pair) -> Seen {
+    (
+        pair.active,
+        pair.end,
+        pair.revision,
+        pair.slot_count,
+        pair.is_complete,
+        pair.tail,
+        pair.move_state,
+    )
+}
 
 // The later revision holds, by the sign of the difference, and of two alike the first block's. The
 // log takes 4 + 12 + 5 + 6 + 12 + 16 bytes, 28 more with the struct, the checksum's tag and number,
@@ -27,7 +103,7 @@ fn the_later_log_holds(rt: HostRuntime) -> Result<(), Fail> {
         ((0, HELD), (0x8000_0000, HELD), 0, 0, false),
         ((0x8000_0000, HELD), (0, HELD), 0, 0x8000_0000, false),
     ] {
-        let mut device = device(rt.alloc(), [first, second], Erased::Keep)?;
+        let mut device = device(rt.alloc(), [first, second])?;
         let pair = fetch(rt.alloc(), &mut device, [0, 1])?;
         let expected = (active, 128, revision, 2, is_complete, TAIL, SYNC);
         assert_eq!(rt; seen(&pair), expected);
@@ -49,7 +125,7 @@ fn fetches_fail(rt: HostRuntime) -> Result<(), Fail> {
         } else {
             (8, HELD)
         };
-        let inner = device(rt.alloc(), [first, second], Erased::Keep)?;
+        let inner = device(rt.alloc(), [first, second])?;
         let mut device = FaultDevice::new(inner, Which::Read, nth, false);
         let answer = fetch(rt.alloc(), &mut device, [0, 1]).err();
         assert_eq!(rt; (answer, device.calls(Which::Any)), (Some(error), calls));

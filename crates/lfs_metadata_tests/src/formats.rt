@@ -1,6 +1,8 @@
 // Empty file systems, made on small devices that held something else.
 
-use lfs_device::{Error, FaultDevice, Geometry, RamDevice, Which};
+use crate::images::{Entries, block};
+use lfs_device::{Erased, Error, FaultDevice, Geometry, RamDevice, Which};
+use lfs_tag::kinds::{FILE_NAME, INLINE_STRUCT};
 use lfs_tree::format;
 use std::alloc::Global;
 use std::test::Fail;
@@ -8,23 +10,28 @@ use std::test::Fail;
 // The block size, the page and the block count.
 type Sizes = (u32, u32, u32);
 
-// What the device holds, and how many pairs and slots, once it is made empty that held 7 in every byte. Its
-// call of that number fails, if there is one.
+// A device that held 7 in every byte, and is made empty. Its call of that number fails, if there is one.
 fn formatted(
     alloc: Global,
     sizes: Sizes,
     which: Which,
     nth: u64,
-) -> Result<(Vec<u8>, usize, usize), Error> {
+) -> Result<(FaultDevice<RamDevice>, Option<Error>), Error> {
     let geometry = Geometry::new(sizes.0, sizes.1, sizes.2)?;
     let len = geometry.block_size as usize * geometry.block_count as usize;
     let ram = RamDevice::from_bytes(geometry, Vec::from_elem(alloc, 7u8, len)?)?;
-    let thread = match format(alloc, FaultDevice::new(ram, which, nth, false)) {
-        Ok(thread) => thread,
-        Err((_, error)) => return Err(error),
-    };
-    let (pairs, slots) = (thread.len(), thread.slot_count(0));
-    Ok((thread.into_device().into_inner().to_bytes(), pairs, slots))
+    Ok(made_empty(alloc, FaultDevice::new(ram, which, nth, false)))
+}
+
+// The device, made empty, and the error that came.
+fn made_empty(
+    alloc: Global,
+    device: FaultDevice<RamDevice>,
+) -> (FaultDevice<RamDevice>, Option<Error>) {
+    match format(alloc, device) {
+        Ok(thread) => (thread.into_device(), None),
+        Err((device, error)) => (device, Some(error)),
+    }
 }
 
 // The revision, the superblock's name and struct, and the checksum, each behind its tag.
@@ -73,15 +80,79 @@ fn superblock_stands_alone(rt: HostRuntime) -> Result<(), Fail> {
         let mut wanted = Vec::from_slice(rt.alloc(), &head)?;
         wanted.resize(sizes.0.saturating_mul(2) as usize, 0xff)?;
         wanted.resize(sizes.0.saturating_mul(sizes.2) as usize, 7)?;
-        let (bytes, pairs, slots) = formatted(rt.alloc(), sizes, Which::Any, 0)?;
-        assert!(rt; bytes == wanted && (pairs, slots) == (1, 1), "{sizes:?}");
+        let (device, error) = formatted(rt.alloc(), sizes, Which::Any, 0)?;
+        let is_right = error.is_none() && device.inner().bytes() == wanted.as_slice();
+        assert!(rt; is_right, "{sizes:?}");
     }
-    for (number, (which, nth, error)) in FAILED.iter().enumerate() {
-        let met = match formatted(rt.alloc(), (1024, 128, 2), *which, *nth) {
-            Ok((_, pairs, _)) => error.is_none() && pairs == 1,
-            Err(met) => Some(met) == *error,
+    for (which, nth, error) in FAILED {
+        let (_, met) = formatted(rt.alloc(), (1024, 128, 2), which, nth)?;
+        assert_eq!(rt; met, error);
+    }
+    Ok(())
+}
+
+// A log of the revision 9.
+const OLD: Entries<'static> = &[
+    (FILE_NAME, 0, b"old"),
+    (INLINE_STRUCT, 0, b""),
+    (FILE_NAME, 1, b"older"),
+    (INLINE_STRUCT, 1, b""),
+];
+
+// A block of 4,096 bytes.
+const BLOCK: usize = 4096;
+
+// What a page of zeros makes of the second block.
+fn with_zeros(alloc: Global, image: &[u8]) -> Result<Vec<u8>, Error> {
+    let mut bytes = Vec::from_elem(alloc, 0u8, 256)?;
+    bytes.extend_from_slice(image.get(BLOCK + 256..2 * BLOCK).unwrap_or_default())?;
+    Ok(bytes)
+}
+
+// The image of 16 blocks whose first one begins with these bytes and whose second one with those, and
+// that holds 7 in every other byte.
+fn sevens(alloc: Global, first: &[u8], second: &[u8]) -> Result<Vec<u8>, Error> {
+    let mut bytes = Vec::from_slice(alloc, first)?;
+    bytes.resize(BLOCK, 7)?;
+    bytes.extend_from_slice(second)?;
+    bytes.resize(16 * BLOCK, 7)?;
+    Ok(bytes)
+}
+
+// The checksum's tag and the checksum where 7 stands behind them, whose top bit is 0.
+const ON_SEVENS: [u8; 8] = [0x70, 0x0f, 0xfc, 0xc8, 0x3a, 0xdc, 0x01, 0xef];
+
+// The second block's old log, which an erase leaves there, is cleared by a page of zeros. An erase, a
+// read and a program of the second block come first, and then those of the first; one that fails is `Io`.
+#[test]
+fn an_old_log_is_cleared(rt: HostRuntime) -> Result<(), Fail> {
+    let alloc = rt.alloc();
+    let old = sevens(alloc, &[], &block(alloc, BLOCK, 256, 7, 9, OLD)?)?;
+    let cleared = sevens(alloc, &[], &with_zeros(alloc, &old)?)?;
+    let mut page = Vec::from_slice(alloc, &OF_4096)?;
+    page.truncate(44);
+    page.extend_from_slice(&ON_SEVENS)?;
+    page.resize(256, 0xff)?;
+    let made = sevens(alloc, &page, &with_zeros(alloc, &old)?)?;
+    for nth in 0..=6u64 {
+        let ram = RamDevice::from_bytes(
+            Geometry::new(4096, 256, 16)?,
+            Vec::from_slice(alloc, &old)?,
+        )?;
+        let device = FaultDevice::new(ram.erased_as(Erased::Keep), Which::Any, nth, false);
+        let (device, error) = made_empty(alloc, device);
+        let left = match nth {
+            0 => &made,
+            1..=3 => &old,
+            _ => &cleared,
         };
-        assert!(rt; met, "{number}");
+        let is_left = device.inner().bytes() == left.as_slice();
+        assert_eq!(rt;
+            (nth, error, is_left),
+            (nth, (nth > 0).then_some(Error::Io), true)
+        );
+        let (device, error) = made_empty(alloc, device);
+        assert!(rt; error.is_none() && device.inner().bytes() == made.as_slice());
     }
     Ok(())
 }

@@ -14,13 +14,20 @@ pub type Entries<'a> = &'a [(u16, u16, &'a [u8])];
 /// An empty file `a`.
 pub const FILE_A: Entries<'static> = &[(FILE_NAME, 0, b"a"), (INLINE_STRUCT, 0, b"")];
 
-/// A block with a commit of these entries, of the revision 1.
-pub fn block(alloc: Global, size: usize, page: u32, entries: Entries<'_>) -> Result<Vec<u8>, Error>
+/// A block of that size full of a byte, but for a commit of these entries, with that revision.
+pub fn block(
+    alloc: Global,
+    size: usize,
+    page: u32,
+    byte: u8,
+    revision: u32,
+    entries: Entries<'_>,
+) -> Result<Vec<u8>, Error>
     requires { is_page page ≡ true }
 {
-    let mut block = Vec::from_elem(alloc, 0xffu8, size)?;
+    let mut block = Vec::from_elem(alloc, byte, size)?;
     let first = Tag::from_bits(0xffff_ffff);
-    let mut builder = CommitBuilder::new(page, &mut block, first, Some(1));
+    let mut builder = CommitBuilder::new(page, &mut block, first, Some(revision));
     for (kind, id, bytes) in entries {
         if *kind < 0x800 && *id < 0x400 && bytes.len() < 0x3ff {
             let tag = Tag::new(*kind, *id, bytes.len() as u16);
@@ -29,14 +36,19 @@ pub fn block(alloc: Global, size: usize, page: u32, entries: Entries<'_>) -> Res
             }
         }
     }
-    builder.finish(Some([0xff; 4]))?;
+    builder.finish(Some([byte; 4]))?;
     Ok(block)
 }
 
-/// A device whose first block has them, and whose other ones are full of sevens.
-pub fn device(alloc: Global, geometry: Geometry, entries: Entries<'_>) -> Result<RamDevice, Error> {
+/// A device whose first block has them, with that revision, and whose other ones are full of sevens.
+pub fn device(
+    alloc: Global,
+    geometry: Geometry,
+    revision: u32,
+    entries: Entries<'_>,
+) -> Result<RamDevice, Error> {
     let size = geometry.block_size as usize;
-    let mut bytes = block(alloc, size, geometry.page, entries)?;
+    let mut bytes = block(alloc, size, geometry.page, 0xff, revision, entries)?;
     bytes.resize(size * geometry.block_count as usize, 7)?;
     RamDevice::from_bytes(geometry, bytes)
 }

@@ -1,6 +1,6 @@
 //! Tests of metadata, on devices whose erases leave this or that, whose calls fail and which stop: tags
-//! and logs with vectors of the format, pairs, threads that are read, mounted and changed step by step,
-//! paths on a mounted image, and devices made empty.
+//! and logs with vectors of the format, pairs that are fetched, threads that are read, mounted and changed
+//! step by step, and devices made empty.
 #![tactic(auto)]
 
 #[cfg(test)]
@@ -21,8 +21,6 @@ mod fields;
 #[cfg(test)]
 mod formats;
 #[cfg(test)]
-mod fresh;
-#[cfg(test)]
 mod images;
 #[cfg(test)]
 mod logs;
@@ -35,17 +33,9 @@ mod mounts;
 #[cfg(test)]
 mod names;
 #[cfg(test)]
-mod pair_commits;
-#[cfg(test)]
-mod pair_images;
-#[cfg(test)]
-mod paths;
-#[cfg(test)]
 mod rows;
 #[cfg(test)]
 mod scripts;
-#[cfg(test)]
-mod splits;
 #[cfg(test)]
 mod steps;
 #[cfg(test)]
@@ -56,7 +46,5 @@ mod storable;
 mod tags;
 #[cfg(test)]
 mod thread_reads;
-#[cfg(test)]
-mod trial;
 
 pub use clients::{commit_or_stop, split_before};

@@ -109,9 +109,9 @@ pub fn used(alloc: Global, first: &[u8], third: &[u8], nth: u64) -> Result<u32, 
 type Image = (Entries<'static>, Option<Entries<'static>>);
 
 fn used_of(alloc: Global, image: Image, nth: u64) -> Result<u32, Error> {
-    let first = block(alloc, 1024, 128, image.0)?;
+    let first = block(alloc, 1024, 128, 0xff, 1, image.0)?;
     let third = match image.1 {
-        Some(entries) => block(alloc, 1024, 128, entries)?,
+        Some(entries) => block(alloc, 1024, 128, 0xff, 1, entries)?,
         None => Vec::new(alloc),
     };
     used(alloc, first.as_slice(), third.as_slice(), nth)

@@ -32,13 +32,15 @@ const COMMITS: [Line; 17] = [(Step::Change(0, &ATTRIBUTE), Outcome::Done, &[]); 
 // brought, by one read at most, and the commit takes one read beside: what is cached isn't read again.
 #[test]
 fn every_sixteenth_commit_erases(rt: HostRuntime) -> Result<(), Fail> {
-    for (times, erases, revisions, most) in [
-        (0, 0, [1, 7], 2),
-        (1, 1, [1, 2], 4),
-        (16, 1, [1, 2], 34),
-        (17, 2, [3, 2], 36),
+    for (first, times, erases, revisions, most) in [
+        (1, 0, 0, [1, 7], 2),
+        (1, 1, 1, [1, 2], 4),
+        (1, 16, 1, [1, 2], 34),
+        (1, 17, 2, [3, 2], 36),
+        (0xffff_ffff, 1, 1, [255, 0], 4),
+        (0xffff_ffff, 17, 2, [1, 0], 36),
     ] {
-        let inner = device(rt.alloc(), Geometry::new(4096, 256, 16)?, SUPERBLOCK)?;
+        let inner = device(rt.alloc(), Geometry::new(4096, 256, 16)?, first, SUPERBLOCK)?;
         let device = FaultDevice::new(inner, Which::Any, 0, false);
         let lines = COMMITS.get(..times).unwrap_or_default();
         let (done, _, device) = run(rt.alloc(), device, lines);
@@ -143,6 +145,24 @@ const FOUR_FILES: &[Line] = &[
         &[([0, 1], 1), ([2, 3], 1)],
     ),
     (Step::DropNext(0, &NO_TAIL), Outcome::Done, &[([0, 1], 1)]),
+];
+
+// With 40 bytes of the superblock an attribute of 813 bytes makes 857.
+const LONG: [Change<'static>; 1] = [Change::Attr {
+    id: 0,
+    attr: 0x41,
+    bytes: &[7; 813],
+}];
+
+const TOO_LONG: [Change<'static>; 1] = [Change::Attr {
+    id: 0,
+    attr: 0x41,
+    bytes: &[7; 814],
+}];
+
+const ATTRIBUTES: &[Line] = &[
+    (Step::Change(0, &TOO_LONG), Outcome::Full, &[([0, 1], 1)]),
+    (Step::Change(0, &LONG), Outcome::Done, &[([0, 1], 1)]),
 ];
 
 // Of the cuts with at most half of the bytes in front the last, where both parts fit. A slot takes
@@ -265,11 +285,12 @@ fn steps_have_their_rows(rt: HostRuntime) -> Result<(), Fail> {
     let alloc = rt.alloc();
     for (page, entries, lines) in [
         (128, SUPERBLOCK, FOUR_FILES),
+        (128, SUPERBLOCK, ATTRIBUTES),
         (8, ALIKE, ALIKE_CUT),
         (8, LARGE_FIRST, LARGE_FIRST_CUT),
         (8, LARGE_LAST, LARGE_LAST_CUT),
     ] {
-        let device = device(alloc, Geometry::new(1024, page, 64)?, entries)?;
+        let device = device(alloc, Geometry::new(1024, page, 64)?, 1, entries)?;
         assert_eq!(rt; is_kept(alloc, device, lines), Ok(true));
     }
     for erased in [Erased::Fill(0xff), Erased::Fill(0), Erased::Keep] {

@@ -171,7 +171,7 @@ pub fn are_kept_at(rows: &[Row], done: usize) -> bool {
 
 /// 16 blocks of 1,024 bytes with pages of 128, and a pair with an empty file `a`.
 pub fn small(alloc: Global, erased: Erased) -> Result<RamDevice, Error> {
-    let device = device(alloc, Geometry::new(1024, 128, 16)?, FILE_A)?;
+    let device = device(alloc, Geometry::new(1024, 128, 16)?, 1, FILE_A)?;
     Ok(device.erased_as(erased))
 }
 

@@ -22,8 +22,6 @@ mod list_clients;
 #[cfg(test)]
 mod list_extensions;
 #[cfg(test)]
-mod list_memory;
-#[cfg(test)]
 mod list_reads;
 #[cfg(test)]
 mod list_writes;

@@ -1,8 +1,6 @@
 ghost use Rattle.std.specs.Prelude.{◌≡◌, length};
 
 use lfs_alloc::BlockMap;
-use lfs_device::Error;
-use std::process::Abort;
 use std::test::Fail;
 
 // What a call of the map is, with its block.
@@ -60,30 +58,5 @@ fn two_blocks(rt: HostRuntime) -> Result<(), Fail> {
         let seen = (answer, (state(&map, 0), state(&map, 1)), map.used_count());
         assert_eq!(rt; seen, (given, states, used_count));
     }
-    Ok(())
-}
-
-// Takes each block in turn and settles it.
-fn fill(rt: &impl Abort, map: &mut BlockMap, block_count: u32)
-    ensures { length map.new ≡ length map.old }
-{
-    for block in 0..block_count {
-        let taken = map.take();
-        assert_eq!(rt; taken, Some(block));
-        map.settle(block);
-    }
-    assert_eq!(rt; map.take(), None);
-}
-
-#[test]
-fn the_most_blocks(rt: HostRuntime) -> Result<(), Fail> {
-    let mut map = BlockMap::new(rt.alloc(), 65536)?;
-    fill(&rt, &mut map, 65536);
-    assert_eq!(rt; map.used_count(), 65536);
-    for block in 0..65536 {
-        map.release(block);
-    }
-    assert_eq!(rt; map.used_count(), 0);
-    fill(&rt, &mut map, 65536);
     Ok(())
 }

@@ -26,25 +26,3 @@ fn sizes_and_places(rt: HostRuntime) {
         assert_eq!(rt; (pos, place(1024, pos)), (pos, (index, off)));
     }
 }
-
-// A block has a pointer for each power of two that divides its index, and the first block has none.
-#[test]
-fn blocks_hold_what_their_pointers_leave(rt: HostRuntime) {
-    let mut size = 0u32;
-    for index in 0..40u32 {
-        let off = match index {
-            0 => 0,
-            _ => index.trailing_zeros().saturating_add(1).saturating_mul(4),
-        };
-        let next = size.saturating_add(1024).saturating_sub(off);
-        assert_eq!(rt;
-            (
-                blocks_for(1024, size),
-                place(1024, size),
-                blocks_for(1024, next)
-            ),
-            (index, (index, off), index + 1)
-        );
-        size = next;
-    }
-}

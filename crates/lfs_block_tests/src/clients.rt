@@ -50,23 +50,24 @@ fn a_block_is_copied(rt: HostRuntime) -> Result<(), Fail> {
     Ok(())
 }
 
-// What marking lists of 1,500 bytes answers, whose second block is 3 and names block 1 as the first,
-// and how many are used.
-#[test]
-fn a_walk_marks(rt: HostRuntime) -> Result<(), Fail> {
-    let bytes = runs(rt.alloc(), &[(3072, 0), (1, 1), (1023, 0)])?;
+// What marking two lists of 1,500 bytes answers, and how many blocks are used then.
+fn marked(alloc: Global, heads: [u32; 2]) -> Result<([Result<bool, Error>; 2], u32), Error> {
+    let bytes = runs(alloc, &[(3072, 0), (1, 1), (1023, 0)])?;
     let mut ram = RamDevice::from_bytes(Geometry::new(1024, 16, 4)?, bytes)?;
+    let mut map = BlockMap::new(alloc, 4)?;
+    let first = mark_list(&mut ram, &mut map, heads[0], 1500);
+    let second = mark_list(&mut ram, &mut map, heads[1], 1500);
+    Ok(([first, second], map.used_count()))
+}
+
+// Lists whose second block is 3 and names block 1 as the first.
+#[test]
+fn a_walk_marks(rt: HostRuntime) {
     for (heads, answers, used_count) in [
         ([3, 2], [Ok(true), Ok(true)], 4),
         ([3, 3], [Ok(true), Ok(false)], 2),
         ([0, 3], [Err(Error::Corrupt), Ok(true)], 2),
     ] {
-        let mut map = BlockMap::new(rt.alloc(), 4)?;
-        let marked = [
-            mark_list(&mut ram, &mut map, heads[0], 1500),
-            mark_list(&mut ram, &mut map, heads[1], 1500),
-        ];
-        assert_eq!(rt; (marked, map.used_count()), (answers, used_count));
+        assert_eq!(rt; marked(rt.alloc(), heads), Ok((answers, used_count)));
     }
-    Ok(())
 }

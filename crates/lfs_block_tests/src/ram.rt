@@ -3,19 +3,24 @@ use lfs_device::{BlockDevice, Erased, Error, Geometry, RamDevice, read_block, re
 use std::alloc::Global;
 use std::test::Fail;
 
+// The bytes of a device of two blocks that is made of so many.
+fn given_back(alloc: Global, len: usize) -> Result<Vec<u8>, Error> {
+    let bytes = Vec::from_elem(alloc, 3u8, len)?;
+    let device = RamDevice::from_bytes(Geometry::new(1024, 128, 2)?, bytes)?;
+    Ok(device.to_bytes())
+}
+
 // A device has as many bytes as its geometry, and gives them back.
 #[test]
 fn devices_have_bytes(rt: HostRuntime) -> Result<(), Fail> {
-    let geometry = Geometry::new(1024, 128, 2)?;
-    let blank = RamDevice::blank(rt.alloc(), geometry)?;
+    let blank = RamDevice::blank(rt.alloc(), Geometry::new(1024, 128, 2)?)?;
     assert_eq!(rt; blank.bytes(), [0xff; 2048].as_slice());
-    for len in [0, 2047, 2048, 2049] {
-        match RamDevice::from_bytes(geometry, Vec::from_elem(rt.alloc(), 3u8, len)?) {
-            Ok(device) => {
-                assert_eq!(rt; device.to_bytes().as_slice(), [3; 2048].as_slice());
-            }
-            Err(error) => assert_eq!(rt; (error, len == 2048), (Error::Invalid, false)),
-        }
+    assert_eq!(rt;
+        given_back(rt.alloc(), 2048)?.as_slice(),
+        [3; 2048].as_slice()
+    );
+    for len in [0, 2047, 2049] {
+        assert_eq!(rt; given_back(rt.alloc(), len).err(), Some(Error::Invalid));
     }
     Ok(())
 }

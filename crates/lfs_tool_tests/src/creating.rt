@@ -4,8 +4,8 @@ use crate::shown::{ended, listed, unpacked};
 use crate::sources::{Items, source_of};
 use lfs_device::{Error, Geometry};
 use lfs_tool::{Watched, create};
-use lfs_tool_folders::{Held, MemorySource};
-use std::alloc::{AllocError, Global};
+use lfs_tool_folders::MemorySource;
+use std::alloc::Global;
 use std::test::Fail;
 
 const NO_SPACE: &str = "error: NoSpace (28)\n";
@@ -42,11 +42,20 @@ fn comes_back(
 // A file, and a folder with an empty one.
 const FOLDER: Items<'static> = &[(b"/d/x", Some(b"")), (b"/d", None), (b"/a", Some(b"hello"))];
 
+const LONG_NAME: &[u8] =
+    b"/nnnnnnnnnnnnnnnnnnnnnnnnnnnnnnnnnnnnnnnnnnnnnnnnnnnnnnnnnnnnnnnnnnnnnnnnnnnnnnnnnnnnnnnnnnnnnnnnnnnnnnnnnnnnnnnnnnnnnnnnnnnnnnnnnnnnnnnnnnnnnnnnnnnnnnnnnnnnnnnnnnnnnnnnnnnnnnnnnnnnnnnnnnnnnnnnnnnnnnnnnnnnnnnnnnnnnnnnnnnnnnnnnnnnnnnnnnnnnnnnnnnnnnnnnnnnnnn";
+
+const LONG_LINE: &str =
+    "f 0 /nnnnnnnnnnnnnnnnnnnnnnnnnnnnnnnnnnnnnnnnnnnnnnnnnnnnnnnnnnnnnnnnnnnnnnnnnnnnnnnnnnnnnnnnnnnnnnnnnnnnnnnnnnnnnnnnnnnnnnnnnnnnnnnnnnnnnnnnnnnnnnnnnnnnnnnnnnnnnnnnnnnnnnnnnnnnnnnnnnnnnnnnnnnnnnnnnnnnnnnnnnnnnnnnnnnnnnnnnnnnnnnnnnnnnnnnnnnnnnnnnnnnnnnnnnnnnnn\n";
+
+const LONGER_NAME: &[u8] =
+    b"/nnnnnnnnnnnnnnnnnnnnnnnnnnnnnnnnnnnnnnnnnnnnnnnnnnnnnnnnnnnnnnnnnnnnnnnnnnnnnnnnnnnnnnnnnnnnnnnnnnnnnnnnnnnnnnnnnnnnnnnnnnnnnnnnnnnnnnnnnnnnnnnnnnnnnnnnnnnnnnnnnnnnnnnnnnnnnnnnnnnnnnnnnnnnnnnnnnnnnnnnnnnnnnnnnnnnnnnnnnnnnnnnnnnnnnnnnnnnnnnnnnnnnnnnnnnnnnnn";
+
 // A source, how many blocks there are, and what comes of it.
 type Row = (Items<'static>, u32, &'static str);
 
 // Blocks of 4,096 bytes, with pages of 256.
-const SOURCES: [Row; 13] = [
+const SOURCES: [Row; 15] = [
     (&[], 2, ""),
     (&[(b"/a", Some(b"hello"))], 16, "f 5 /a\n"),
     (&[(b"/a", Some(&[7; 512]))], 16, "f 512 /a\n"),
@@ -64,6 +73,9 @@ const SOURCES: [Row; 13] = [
     // a list of 14 blocks beside the first two, and two more until it is closed
     (&[(b"/a", Some(&[7; 57000]))], 18, "f 57000 /a\n"),
     (&[(b"/a", Some(&[7; 57000]))], 17, NO_SPACE),
+    // the longest name, and one that is a byte longer
+    (&[(LONG_NAME, Some(b""))], 16, LONG_LINE),
+    (&[(LONGER_NAME, Some(b""))], 16, NAME_TOO_LONG),
     // all of the source is read before anything is refused
     (
         &[(b"/d", None), (b"/a", Some(b"")), (b"/d/..", Some(b""))],
@@ -164,108 +176,5 @@ fn an_image_has_these_bytes(rt: HostRuntime) -> Result<(), Fail> {
     let mut wanted = Vec::from_slice(rt.alloc(), &FRESH)?;
     wanted.resize(65536, 0xff)?;
     assert!(rt; result == Ok(()) && out.inner().as_slice() == wanted.as_slice());
-    Ok(())
-}
-
-// What stands in a source, the lines that list it, and those of its unpacking.
-#[derive(Drop)]
-struct Large {
-    held: Vec<Held>,
-    lines: String,
-    actions: String,
-}
-
-impl Large {
-    fn new(alloc: Global) -> Large {
-        Large {
-            held: Vec::new(alloc),
-            lines: String::new(alloc),
-            actions: String::new(alloc),
-        }
-    }
-
-    // Adds a folder, or a file without bytes.
-    fn push(&mut self, alloc: Global, path: &str, is_folder: bool) -> Result<(), AllocError> {
-        let (kind, end, bytes) = if is_folder {
-            ('d', "", None)
-        } else {
-            ('f', " ", Some(Vec::new(alloc)))
-        };
-        let line = format!(in alloc; "{kind} 0 {path}\n")?;
-        let action = format!(in alloc; "{kind} {path}{end}\n")?;
-        self.lines.push_str(line.as_str())?;
-        self.actions.push_str(action.as_str())?;
-        let path = path.as_bytes().to_vec(alloc)?;
-        self.held.push(Held { path, bytes })?;
-        Ok(())
-    }
-}
-
-// So many folders in one another, and a file in the last, each name with so many bytes.
-fn deep(alloc: Global, count: u32, len: u32) -> Result<Large, AllocError> {
-    let mut large = Large::new(alloc);
-    let mut path = String::new(alloc);
-    for depth in 0..=count {
-        path.push('/')?;
-        for _ in 0..len {
-            path.push('n')?;
-        }
-        large.push(alloc, path.as_str(), depth < count)?;
-    }
-    Ok(large)
-}
-
-// A folder with so many files, whose names have five digits.
-fn wide(alloc: Global, count: u32) -> Result<Large, AllocError> {
-    let mut large = Large::new(alloc);
-    large.push(alloc, "/d", true)?;
-    for number in 0..count {
-        let path = format!(in alloc; "/d/{number:05}")?;
-        large.push(alloc, path.as_str(), false)?;
-    }
-    Ok(large)
-}
-
-// How many folders there are in one another, how many bytes a name has, how many blocks of 1,024 bytes,
-// and the error.
-const DEEP: [(u32, u32, u32, Option<&str>); 5] = [
-    // two blocks of the root and two of each folder; at the last folder four are free
-    (40, 1, 84, None),
-    (40, 1, 83, Some(NO_SPACE)),
-    // the longest name, and one that is a byte longer
-    (3, 255, 16, None),
-    (0, 255, 4, None),
-    (0, 256, 2, Some(NAME_TOO_LONG)),
-];
-
-fn is_made(alloc: Global, large: Large, blocks: u32, error: Option<&str>) -> Result<bool, Error> {
-    let source = MemorySource::new(large.held);
-    let lines = error.unwrap_or(large.lines.as_str()).as_bytes();
-    let actions = Some(large.actions.as_bytes());
-    comes_back(
-        alloc,
-        source,
-        Geometry::new(1024, 8, blocks)?,
-        lines,
-        actions,
-    )
-}
-
-#[test]
-fn deep_sources(rt: HostRuntime) -> Result<(), Fail> {
-    for (count, len, blocks, error) in DEEP {
-        let large = deep(rt.alloc(), count, len)?;
-        assert!(rt;
-            is_made(rt.alloc(), large, blocks, error)?,
-            "{count}, {len}"
-        );
-    }
-    Ok(())
-}
-
-#[test]
-fn a_thousand_files(rt: HostRuntime) -> Result<(), Fail> {
-    let large = wide(rt.alloc(), 1000)?;
-    assert!(rt; is_made(rt.alloc(), large, 128, None)?);
     Ok(())
 }

@@ -608,20 +608,6 @@ fn odd_images_are_listed(rt: HostRuntime) -> Result<(), Fail> {
     Ok(())
 }
 
-// Bits that are flipped in the padding of the first commit, a byte at a time.
-const PADDED: [u8; 3] = [0xff, 0x80, 0x01];
-
-#[test]
-fn padding(rt: HostRuntime) -> Result<(), Fail> {
-    for bits in PADDED {
-        for at in 52..256 {
-            let is_listed = is_listed(rt.alloc(), Odd::Flipped(at, bits), 4096, 256, "f 0 /b\n")?;
-            assert!(rt; is_listed, "{at}, {bits}");
-        }
-    }
-    Ok(())
-}
-
 // Up to which byte of its first two blocks one is inverted in the image in which a file moves, and what
 // is listed then. `bench/image_reader.py` gave these.
 const INVERTED: [(usize, &str); 6] = [

@@ -22,6 +22,4 @@ mod shown;
 #[cfg(test)]
 mod sources;
 #[cfg(test)]
-mod stopped;
-#[cfg(test)]
 mod whole;

@@ -1,13 +1,14 @@
 -- What calls of a device one behind the other say of its faults and of what they leave alone.
-use Rattle.std.proofs.Common.{ℕ, ◌≡◌, List, Result, Ok, Err, refl, sym, subst, ◌∙◌, arith}
+use Rattle.std.proofs.Common.{ℕ, ◌≡◌, Bool, List, ◌∷◌, Result, Ok, Err, refl, sym, subst, ◌∙◌, arith}
 use Rattle.lfs_device.specs.Calls.{ReadsOnly, ChangesOnly, ReportsFaults}
 use Rattle.lfs_device.specs.declared.device.BlockDevice.{Ghosts}
 use Rattle.lfs_device.specs.declared.error.Error.{Error}
 use Rattle.lfs_device.specs.declared.error.Error.TheVariants.{Io, NoMemory}
 use Rattle.lfs_model.specs.Blocks.{Blocks}
 use Rattle.lfs_model.specs.BlockSets.{BlockSets}
-use Rattle.lfs_model.specs.History.{faults}
-use Rattle.lfs_model.proofs.Histories.{AtWorst-read, LeavesOnly-reads, OnlyReads-trans, began, unprogrammed-reads}
+use Rattle.lfs_model.specs.History.{event, faults}
+use Rattle.lfs_model.specs.History.Call.{Read}
+use Rattle.lfs_model.proofs.Histories.{AtWorst-read, LeavesOnly-reads, OnlyReads-trans, began, goes_on, unprogrammed-reads}
 use Rattle.lfs_ctz.specs.Growing.{Growing, pending_of}
 use Rattle.lfs_writer.specs.Apart.{IsApart, IsMarked, Spares}
 use Rattle.lfs_writer.specs.Calls.{LeavesApart, LeavesUsed}
@@ -62,6 +63,10 @@ module _ {D : Type 0} (g : Ghosts D) where
     geometry = second.geometry ∙ first.geometry;
     reads = OnlyReads-trans first.reads second.reads first.same;
   }
+
+  pub read_once : {old new : D} {block off len : ℕ} {failed : Bool} → g.history new ≡ event (Read block off len) (g.blocks old) (g.blocks new) failed ∷ g.history old
+      → g.blocks new ≡ g.blocks old → g.geometry new ≡ g.geometry old → ReadsOnly g old new
+  read_once called same geometry = record { same = same; geometry = geometry; reads = goes_on began called (record { reads = refl; before = refl; after = same }) }
 
   -- ---- blocks that stand apart
 

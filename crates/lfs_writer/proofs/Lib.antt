@@ -26,4 +26,5 @@ pub mod Outside
 pub mod Coming
 pub mod Settlement
 pub mod SharedFronts
+pub mod ListParts
 pub mod Pieces

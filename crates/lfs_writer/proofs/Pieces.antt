@@ -7,10 +7,10 @@ use Rattle.lfs_model.specs.Blocks.{Blocks, IsDivided, block_in}
 use Rattle.lfs_model.specs.BlockSets.{BlockSets}
 use Rattle.lfs_model.specs.SkipLists.{IsBytePlace, IsList, blocks_for, bytes_of}
 use Rattle.lfs_model.proofs.Files.{length_back}
-use Rattle.lfs_ctz.proofs.Parts.{part_of_bytes}
-use Rattle.lfs_ctz.proofs.Sizes.{place-lt, place-mono, pointers_of-le}
+use Rattle.lfs_model.proofs.ListSizes.{pointers_of-le}
 use Rattle.lfs_writer.specs.Apart.{IsApart, Spares}
 use Rattle.lfs_writer.specs.Based.{list_blocks}
+use Rattle.lfs_writer.proofs.ListParts.{part_of_bytes, place-lt, place-mono}
 use Rattle.lfs_writer.proofs.Releasings.{in_range_at}
 
 -- a place by another name of the geometry

@@ -5,13 +5,13 @@ use Rattle.lfs_model.specs.Blocks.{Blocks, IsDivided}
 use Rattle.lfs_model.specs.SkipLists.{IsBytePlace, IsList, blocks_back, blocks_for, bytes_of}
 use Rattle.lfs_model.proofs.ListSizes.{blocks_for-more}
 use Rattle.lfs_ctz.specs.Growing.{IsGrowing, content_of, kept_of, size_of}
-use Rattle.lfs_ctz.proofs.Sizes.{place-lt}
 use Rattle.lfs_writer.specs.Apart.{Grows, IsMarked}
 use Rattle.lfs_writer.specs.Based.{list_blocks}
 use Rattle.lfs_writer.specs.Extended.{IsOwn}
 use Rattle.lfs_writer.proofs.Called.{apart_on, apart_read, apart_reads, quiet}
 use Rattle.lfs_writer.proofs.Copies.{base_list, grown_on, copied, none_behind, sized}
 use Rattle.lfs_writer.proofs.Growth.{Grows-refl, Keeps-refl, Keeps-trans}
+use Rattle.lfs_writer.proofs.ListParts.{place-lt}
 use Rattle.lfs_writer.proofs.Pieces.{among, is_there, on_device, piece, placed_by}
 use Rattle.lfs_writer.proofs.block_copies.copy_pieces.Goals as goal
 

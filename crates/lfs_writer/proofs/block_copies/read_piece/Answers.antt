@@ -1,4 +1,4 @@
-use Rattle.lfs_ctz.proofs.Called.{read_once}
+use Rattle.lfs_writer.proofs.Called.{read_once}
 use Rattle.lfs_writer.proofs.block_copies.read_piece.Goals as goal
 
 pub returns-in_err-read-clause-device : goal.returns-in_err-read-clause-device

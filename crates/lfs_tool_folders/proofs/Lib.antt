@@ -1,3 +1,4 @@
 mod HeldItems
+mod NamesBeside
 mod Order
 mod Reading

@@ -5,4 +5,4 @@ use Rattle.lfs_tool_folders.specs.declared.new_image.NewImage.{NewImage}
 
 -- where it is to stand
 abbrev pub image_path : {R F D : Type 0} → NewImage R F D → List ℕ
-image_path i = string_bytes i.path
+image_path i = string_bytes i.paths.path

@@ -1,16 +1,14 @@
-ghost use Rattle.std.specs.Prelude.{◌≡◌, IfErr, IfOk, IfSome, None, OnOk, option_and_then};
+ghost use Rattle.std.specs.Prelude.{◌≡◌, IfErr, IfOk, None, OnOk, false, option_and_then, true};
 ghost use Rattle.std.specs.Io.{WritesAtMost};
 ghost use Rattle.std.specs.Io.KnownBytes.{Keeps, WriteAppends};
-ghost use Rattle.std.specs.Path.{path_buf_bytes};
 ghost use Rattle.std.specs.String.{string_bytes};
 ghost use Rattle.lfs_tool_folders.specs.Beside.{IsBeside};
 ghost use Rattle.lfs_tool_folders.specs.Paths.{image_path};
 
-use crate::temporary_files::{make_for, put_in_place};
+use crate::temporary_files::{ImagePaths, make_for, put_in_place};
 use std::alloc::{AllocError, Global};
 use std::fs::OpenFile;
 use std::io::{ErrorKind, Write};
-use std::path::PathBuf;
 use std::rt::Files;
 use std::{fs, io};
 
@@ -22,25 +20,23 @@ use std::{fs, io};
 /// stays. It gets the old one's permissions. Anything else at the path, as a device, a pipe or a link, is
 /// written as it is.
 pub struct NewImage<'a, R: Files> {
-    alloc: Global,
     files: &'a R,
-    path: String,
+    paths: ImagePaths,
     file: Option<R::File>,
-    // Where the file is, until it is at its path.
-    beside: Option<PathBuf>,
+    // Whether the file is beside its path.
+    is_beside: bool,
 }
 
 impl<'a, R: Files> Drop for NewImage<'a, R> {
     fn drop(self) {
         let NewImage {
-            alloc: _,
             files,
-            path: _,
+            paths,
             file: _,
-            beside,
+            is_beside,
         } = self;
-        if let Some(beside) = beside {
-            let _ = fs::remove_file(files, &beside);
+        if is_beside {
+            let _ = fs::remove_file(files, paths.beside.as_str());
         }
     }
 }
@@ -50,40 +46,39 @@ impl<'a, R: Files> NewImage<'a, R> {
     pub fn new(alloc: Global, files: &'a R, path: &str) -> Result<NewImage<'a, R>, AllocError>
         ensures path { IfOk result (λ i. image_path i ≡ path.now) }
         ensures file { IfOk result (λ i. i.file ≡ None) }
-        ensures beside { IfOk result (λ i. i.beside ≡ None) }
+        ensures beside { IfOk result (λ i. i.is_beside ≡ false) }
     {
         Ok(NewImage {
-            alloc,
             files,
-            path: String::from_str(alloc, path)?,
+            paths: ImagePaths::new(alloc, path)?,
             file: None,
-            beside: None,
+            is_beside: false,
         })
     }
 
     // Makes the file.
     fn make(&mut self) -> io::Result<()>
-        ensures path { self.new.path ≡ self.old.path }
-        ensures beside { OnOk result (IfSome self.new.beside (λ at. IsBeside (string_bytes self.old.path) (path_buf_bytes at))) }
-        ensures err { IfErr result (λ _. self.new ≡ self.old) }
+        ensures path { self.new.paths.path ≡ self.old.paths.path }
+        ensures beside { OnOk result (self.new.is_beside ≡ true → IsBeside (string_bytes self.old.paths.path) (string_bytes self.new.paths.beside)) }
+        ensures err { IfErr result (λ _. (self.new.file ≡ self.old.file) × (self.new.is_beside ≡ self.old.is_beside)) }
     {
-        let (file, beside) = make_for(self.alloc, self.files, self.path.as_str())?;
+        let (file, is_beside) = make_for(self.files, &mut self.paths)?;
         self.file = Some(file);
-        self.beside = beside;
+        self.is_beside = is_beside;
         Ok(())
     }
 
     // Puts the file at its path, where it isn't there.
     fn place(&mut self) -> io::Result<()>
-        ensures file { (self.new.file ≡ self.old.file) × (self.new.path ≡ self.old.path) }
-        ensures placed { OnOk result (self.new.beside ≡ None) }
+        ensures file { (self.new.file ≡ self.old.file) × (self.new.paths ≡ self.old.paths) }
+        ensures placed { OnOk result (self.new.is_beside ≡ false) }
         ensures err { IfErr result (λ _. self.new ≡ self.old) }
     {
-        if let (Some(file), Some(beside)) = (&self.file, &self.beside) {
+        if let (Some(file), true) = (&self.file, self.is_beside) {
             file.sync_all()?;
-            put_in_place(self.files, beside, self.path.as_str())?;
+            put_in_place(self.files, &self.paths)?;
         }
-        self.beside = None;
+        self.is_beside = false;
         Ok(())
     }
 }
@@ -95,7 +90,7 @@ impl<'a, R: Files> Write for NewImage<'a, R> {
     fn write(&mut self, buf: &[u8]) -> io::Result<usize>
         ensures bound { WritesAtMost result buf.now }
         ensures bytes { WriteAppends (option_and_then R.File.contents self.old.file) (option_and_then R.File.contents self.new.file) result buf.now }
-        ensures path { self.new.path ≡ self.old.path }
+        ensures path { self.new.paths.path ≡ self.old.paths.path }
     {
         if self.file.is_none() {
             self.make()?;
@@ -109,8 +104,8 @@ impl<'a, R: Files> Write for NewImage<'a, R> {
     // It is at its path then.
     fn flush(&mut self) -> io::Result<()>
         ensures bytes { Keeps (option_and_then R.File.contents self.old.file) (option_and_then R.File.contents self.new.file) }
-        ensures path { self.new.path ≡ self.old.path }
-        ensures placed { OnOk result (self.new.beside ≡ None) }
+        ensures path { self.new.paths.path ≡ self.old.paths.path }
+        ensures placed { OnOk result (self.new.is_beside ≡ false) }
     {
         if let Some(file) = &mut self.file {
             file.flush()?;

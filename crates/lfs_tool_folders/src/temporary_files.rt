@@ -1,36 +1,74 @@
 // Files beside a path, which come to stand there.
 
-ghost use Rattle.std.specs.Prelude.{◌≡◌, IfOk, IfSome, None};
-ghost use Rattle.std.specs.Path.{path_buf_bytes};
-ghost use Rattle.lfs_tool_folders.specs.Beside.{IsBeside, beside};
+ghost use Rattle.std.specs.Prelude.{◌≡◌, ◌++◌, IfOk, OnOk, false, true};
+ghost use Rattle.std.specs.Fmt.{decimal};
+ghost use Rattle.std.specs.String.{string_bytes};
+ghost use Rattle.lfs_tool_folders.specs.Beside.{IsBeside, name_start};
 
 use crate::path_state::{Standing, standing_of};
 use std::alloc::{AllocError, Global};
 use std::fs::{File, OpenFile, OpenOptions, Permissions};
 use std::io::ErrorKind;
-use std::path::{Path, PathBuf};
+use std::path::Path;
 use std::rt::Files;
 use std::{fs, io};
 
 // How many names are tried.
 const NAMES: u32 = 1000;
 
-// A name in the folder of a path, by a number.
-fn beside_path(alloc: Global, path: &str, number: u32) -> Result<PathBuf, AllocError>
-    ensures { IfOk result (λ p. path_buf_bytes p ≡ beside path.now number) }
-{
-    let name = format!(in alloc; ".mklittlefs-{number}")?;
-    Path::new(path).with_file_name(alloc, name.as_str())
+// How many digits the number of a name may have.
+const DIGITS: usize = 10;
+
+// The path of an image, and one beside it. The memory for each name that is tried is granted when this is
+// made.
+#[derive(Drop)]
+pub(crate) struct ImagePaths {
+    // Where the image is to stand.
+    pub(crate) path: String,
+    // What each path beside it begins with. A number follows.
+    start: String,
+    // The path beside it that was tried last.
+    pub(crate) beside: String,
+    ghost is_start: { string_bytes start ≡ name_start (string_bytes path) },
 }
 
-// Makes a new file in the folder of a path, under the first name that is free.
-fn make_beside<R: Files>(alloc: Global, files: &R, path: &str) -> io::Result<(R::File, PathBuf)>
-    ensures { IfOk result (λ made. IsBeside path.now (path_buf_bytes made.1)) }
+impl ImagePaths {
+    // The paths of an image that is to stand at this one.
+    pub(crate) fn new(alloc: Global, path: &str) -> Result<ImagePaths, AllocError>
+        ensures { IfOk result (λ p. string_bytes p.path ≡ path.now) }
+    {
+        let start = Path::new(path)
+            .with_file_name(alloc, ".mklittlefs-")?
+            .into_string();
+        let beside = String::with_capacity(alloc, start.len().saturating_add(DIGITS))?;
+        Ok(ImagePaths {
+            path: String::from_str(alloc, path)?,
+            start,
+            beside,
+        })
+    }
+
+    // Takes the path beside it of that number.
+    fn take_number(&mut self, number: u32) -> Result<(), AllocError>
+        ensures path { self.new.path ≡ self.old.path }
+        ensures beside { OnOk result (string_bytes self.new.beside ≡ name_start (string_bytes self.old.path) ++ decimal number) }
+    {
+        self.beside.clear();
+        self.beside.push_str(self.start.as_str())?;
+        write!(self.beside, "{number}")?;
+        Ok(())
+    }
+}
+
+// Makes a new file beside a path, under the first name that is free.
+fn make_beside<R: Files>(files: &R, paths: &mut ImagePaths) -> io::Result<R::File>
+    ensures path { paths.new.path ≡ paths.old.path }
+    ensures beside { OnOk result (IsBeside (string_bytes paths.old.path) (string_bytes paths.new.beside)) }
 {
     for number in 0..NAMES {
-        let beside = beside_path(alloc, path, number)?;
-        match File::create_new(files, &beside) {
-            Ok(file) => return Ok((file, beside)),
+        paths.take_number(number)?;
+        match File::create_new(files, paths.beside.as_str()) {
+            Ok(file) => return Ok(file),
             Err(error) if error.kind() == ErrorKind::AlreadyExists => {}
             Err(error) => return Err(error),
         }
@@ -38,18 +76,16 @@ fn make_beside<R: Files>(alloc: Global, files: &R, path: &str) -> io::Result<(R:
     Err(io::Error::from(ErrorKind::AlreadyExists))
 }
 
-// The same, unless the folder takes no new file: then the file at the path is made, or emptied.
-fn make_beside_or_there<R: Files>(
-    alloc: Global,
-    files: &R,
-    path: &str,
-) -> io::Result<(R::File, Option<PathBuf>)>
-    ensures { IfOk result (λ made. IfSome made.1 (λ at. IsBeside path.now (path_buf_bytes at))) }
+// The same, unless the folder takes no new file: then the file at the path is made, or emptied. Returns
+// whether the file is beside the path.
+fn make_beside_or_there<R: Files>(files: &R, paths: &mut ImagePaths) -> io::Result<(R::File, bool)>
+    ensures path { paths.new.path ≡ paths.old.path }
+    ensures beside { IfOk result (λ made. made.1 ≡ true → IsBeside (string_bytes paths.old.path) (string_bytes paths.new.beside)) }
 {
-    match make_beside(alloc, files, path) {
-        Ok((file, beside)) => Ok((file, Some(beside))),
+    match make_beside(files, paths) {
+        Ok(file) => Ok((file, true)),
         Err(error) if error.kind() == ErrorKind::PermissionDenied => {
-            Ok((File::create(files, path)?, None))
+            Ok((File::create(files, paths.path.as_str())?, false))
         }
         Err(error) => Err(error),
     }
@@ -58,15 +94,17 @@ fn make_beside_or_there<R: Files>(
 // The same, for a path at which a file stands that has these permissions. It is refused where that file
 // may not be written.
 fn make_in_place_of<R: Files>(
-    alloc: Global,
     files: &R,
-    path: &str,
+    paths: &mut ImagePaths,
     permissions: Permissions,
-) -> io::Result<(R::File, Option<PathBuf>)>
-    ensures { IfOk result (λ made. IfSome made.1 (λ at. IsBeside path.now (path_buf_bytes at))) }
+) -> io::Result<(R::File, bool)>
+    ensures path { paths.new.path ≡ paths.old.path }
+    ensures beside { IfOk result (λ made. made.1 ≡ true → IsBeside (string_bytes paths.old.path) (string_bytes paths.new.beside)) }
 {
-    let _there = OpenOptions::new().write(true).open(files, path)?;
-    let made = make_beside_or_there(alloc, files, path)?;
+    let _there = OpenOptions::new()
+        .write(true)
+        .open(files, paths.path.as_str())?;
+    let made = make_beside_or_there(files, paths)?;
     // Where the system knows no permissions, the file has those of a new one.
     let _ = made.0.set_permissions(permissions);
     Ok(made)
@@ -74,37 +112,35 @@ fn make_in_place_of<R: Files>(
 
 // Makes the file that is to stand at a path where that stands there now.
 fn make_by<R: Files>(
-    alloc: Global,
     files: &R,
-    path: &str,
+    paths: &mut ImagePaths,
     standing: Standing,
-) -> io::Result<(R::File, Option<PathBuf>)>
-    ensures beside { IfOk result (λ made. IfSome made.1 (λ at. IsBeside path.now (path_buf_bytes at))) }
-    ensures there { standing ≡ Standing.Other → IfOk result (λ made. made.1 ≡ None) }
+) -> io::Result<(R::File, bool)>
+    ensures path { paths.new.path ≡ paths.old.path }
+    ensures beside { IfOk result (λ made. made.1 ≡ true → IsBeside (string_bytes paths.old.path) (string_bytes paths.new.beside)) }
+    ensures there { standing ≡ Standing.Other → IfOk result (λ made. made.1 ≡ false) }
 {
     match standing {
-        Standing::Nothing => make_beside_or_there(alloc, files, path),
-        Standing::File(permissions) => make_in_place_of(alloc, files, path, permissions),
-        Standing::Other => Ok((File::create(files, path)?, None)),
+        Standing::Nothing => make_beside_or_there(files, paths),
+        Standing::File(permissions) => make_in_place_of(files, paths, permissions),
+        Standing::Other => Ok((File::create(files, paths.path.as_str())?, false)),
     }
 }
 
-// Makes the file that is to stand at a path, and says where it is until then. Where something stands there
-// that is no file, that is what is written, and it is nowhere else.
-pub(crate) fn make_for<R: Files>(
-    alloc: Global,
-    files: &R,
-    path: &str,
-) -> io::Result<(R::File, Option<PathBuf>)>
-    ensures { IfOk result (λ made. IfSome made.1 (λ at. IsBeside path.now (path_buf_bytes at))) }
+// Makes the file that is to stand at a path, and says whether it is beside it until then. Where something
+// stands there that is no file, that is what is written.
+pub(crate) fn make_for<R: Files>(files: &R, paths: &mut ImagePaths) -> io::Result<(R::File, bool)>
+    ensures path { paths.new.path ≡ paths.old.path }
+    ensures beside { IfOk result (λ made. made.1 ≡ true → IsBeside (string_bytes paths.old.path) (string_bytes paths.new.beside)) }
 {
-    let found = fs::symlink_metadata(files, path);
-    make_by(alloc, files, path, standing_of(found))
+    let found = fs::symlink_metadata(files, paths.path.as_str());
+    make_by(files, paths, standing_of(found))
 }
 
-// Puts a file in its place. Where the system refuses that, as at a file that is mounted alone, its bytes
-// are copied there.
-pub(crate) fn put_in_place<R: Files>(files: &R, beside: &PathBuf, path: &str) -> io::Result<()> {
+// Puts the file beside a path in its place. Where the system refuses that, as at a file that is mounted
+// alone, its bytes are copied there.
+pub(crate) fn put_in_place<R: Files>(files: &R, paths: &ImagePaths) -> io::Result<()> {
+    let (beside, path) = (paths.beside.as_str(), paths.path.as_str());
     if fs::rename(files, beside, path).is_ok() {
         return Ok(());
     }

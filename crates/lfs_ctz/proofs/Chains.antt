@@ -5,18 +5,8 @@ use Rattle.std.specs.Int.{w32, trailing_zeros}
 use Rattle.std.proofs.lemmas.List.{get_or_at, get_or_append_left}
 use Rattle.lfs_model.specs.Blocks.{Blocks, block_in}
 use Rattle.lfs_model.specs.SkipLists.{word_at, pointers_of, blocks_back, AreListBlocks}
-
-pub length_back : (d : Blocks) (n head : ℕ) → length (blocks_back d n head) ≡ n
-length_back d zero head = refl
-length_back d (suc zero) head = refl
-length_back d (suc (suc n)) head = length-append (blocks_back d (suc n) (word_at (block_in d head) 0)) (head ∷ []) ∙ ap (λ z. z + 1) (length_back d (suc n) (word_at (block_in d head) 0)) ∙ omega arith
-
--- the head is the last of them
-pub head_of_back : (d : Blocks) (n head : ℕ) → slice_index (blocks_back d (n + 1) head) n ≡ head
-head_of_back d zero head = refl
-head_of_back d (suc n) head =
-    ap (λ k. slice_index (blocks_back d k head) (suc n)) (add-one (suc n))
-    ∙ get_or_at (blocks_back d (suc n) (word_at (block_in d head) 0)) head [] 0 (suc n) (length_back d (suc n) (word_at (block_in d head) 0))
+pub use Rattle.lfs_model.proofs.Files.{length_back}
+pub use Rattle.lfs_model.proofs.ListSizes.{head_of_back}
 
 pub pointers_of-pos : (i : ℕ) → 0 < i → pointers_of i ≡ trailing_zeros w32 i + 1
 pointers_of-pos zero some = absurd (omega arith)

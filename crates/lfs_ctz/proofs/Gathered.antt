@@ -7,7 +7,7 @@ use Rattle.lfs_model.specs.Blocks.{Blocks, IsDivided, block_in}
 use Rattle.lfs_model.specs.SkipLists.{word_at, pointers_of, bytes_before, blocks_back, blocks_for, IsList, IsBytePlace, bytes_of}
 use Rattle.lfs_ctz.proofs.Sizes.{placed, place_before, place-lt, pointers_of-le}
 use Rattle.lfs_ctz.proofs.Chains.{in_range_at}
-use Rattle.lfs_ctz.proofs.Parts.{part_of_bytes}
+use Rattle.lfs_model.proofs.ListParts.{part_of_bytes}
 
 slices_joined : (xs : List ℕ) (a b c : ℕ) → a ≤ b → b ≤ c → slice_range xs a b ++ slice_range xs b c ≡ slice_range xs a c
 slices_joined xs a b c ab bc =

@@ -6,7 +6,7 @@ use Rattle.lfs_model.specs.Blocks.{Blocks, block_in}
 use Rattle.lfs_model.specs.SkipLists.{pointers_of, capacity_of, bytes_before, blocks_back, data_of}
 use Rattle.lfs_ctz.proofs.Sizes.{pointers_of-le}
 use Rattle.lfs_ctz.proofs.Chains.{length_back, back-pointer0}
-use Rattle.lfs_ctz.proofs.Parts.{AllSized}
+use Rattle.lfs_model.proofs.ListSizes.{AllSized}
 
 -- from a block of that index on
 abbrev pub joined_from : Blocks → ℕ → List ℕ → List ℕ

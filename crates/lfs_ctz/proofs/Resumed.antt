@@ -14,7 +14,7 @@ use Rattle.lfs_ctz.proofs.Sizes.{pointers_of-le, blocks_for-place, place-lt}
 use Rattle.lfs_ctz.proofs.Chains.{length_back, back-pointer0}
 use Rattle.lfs_ctz.proofs.Filling.{none_chain}
 use Rattle.lfs_ctz.proofs.Joined.{joined_from, joined-append, length-joined, back_prefix}
-use Rattle.lfs_ctz.proofs.Parts.{AllSized}
+use Rattle.lfs_model.proofs.ListSizes.{AllSized}
 
 -- a list of blocks that is a chain's
 record IsChainOf (d : Blocks) (n : ℕ) (bs : List ℕ) : Type 0 where

@@ -6,6 +6,8 @@ use Rattle.std.proofs.Math.Nat.{mul-suc, mul_comm, div-add-mod}
 use Rattle.std.proofs.lemmas.Nat.{mul-le, mod_below, div-mul-add}
 use Rattle.std.proofs.lemmas.Bool.{cases_lt}
 use lib.Count.{ones, ones_step, ones-le, count_trailing_zeros, trailing_le}
+pub use Rattle.lfs_model.proofs.ListSizes.{capacity_of-pos, pointers_of-le}
+pub use Rattle.lfs_model.proofs.ListParts.{bytes_before-more, place-lt, place-mono}
 use Rattle.lfs_ctz.proofs.Zeros.{zeros_even, zeros_odd}
 use Rattle.lfs_model.specs.SkipLists.{pointers_of, capacity_of, bytes_before, IsBytePlace, blocks_from, blocks_for}
 
@@ -116,22 +118,6 @@ module _ (block_size pos : ℕ) (large : 1024 ≤ block_size) where
 
 -- ---- the blocks that hold so many bytes
 
-pub pointers_of-le : (i : ℕ) → pointers_of i ≤ 33
-pointers_of-le zero = omega arith
-pointers_of-le (suc i) = let few = trailing_le 32 (suc i) in omega arith
-
-pub capacity_of-pos : (block_size i : ℕ) → 1024 ≤ block_size → 892 ≤ capacity_of block_size i
-capacity_of-pos block_size i large = let few = pointers_of-le i in omega arith
-
--- further blocks hold more
-pub bytes_before-more : (block_size i j : ℕ) → i ≤ j → bytes_before block_size i ≤ bytes_before block_size j
-bytes_before-more block_size zero zero le = omega arith
-bytes_before-more block_size (suc i) zero le = absurd (omega arith)
-bytes_before-more block_size i (suc j) le =
-    ⊎_elim (λ here. let before = bytes_before-more block_size i j (omega arith) in omega arith)
-    (λ past. let same : i ≡ suc j = omega arith in subst (λ n. bytes_before block_size n ≤ bytes_before block_size (suc j)) (sym same) (omega arith))
-    (cases_lt i (suc j))
-
 pub bytes_before-least : (block_size i : ℕ) → 1024 ≤ block_size → 892 * i ≤ bytes_before block_size i
 bytes_before-least block_size zero large = omega arith
 bytes_before-least block_size (suc i) large =
@@ -194,13 +180,6 @@ placed block_size (suc pos) large =
     (λ next. (suc i, (4 * pointers_of (suc i) + (suc pos - bytes_before block_size (suc i)), record { from = omega arith; below = omega arith; at = refl })))
     (cases_lt (suc pos) (bytes_before block_size i + capacity_of block_size i))
 
--- a later byte is in the same block or a later one
-pub place-mono : (block_size p q i j off end : ℕ) → IsBytePlace block_size p i off → IsBytePlace block_size q j end → p ≤ q → i ≤ j
-place-mono block_size p q i j off end is there le = ⊎_elim
-    (λ less. let more = bytes_before-more block_size (suc j) i (omega arith) in let low = is.from in let high = there.below in absurd (omega arith))
-    (λ ge. ge)
-    (cases_lt j i)
-
 pub place_unique : (block_size p i j off end : ℕ) → IsBytePlace block_size p i off → IsBytePlace block_size p j end → i ≡ j
 place_unique block_size p i j off end is there =
     let a = place-mono block_size p p i j off end is there (omega arith) in
@@ -228,13 +207,6 @@ blocks_for-last block_size size large some =
     let low = last.1.1.from in
     let high = last.1.1.below in
     (last.0, (blocks_for-place block_size size last.0 last.1.0 large some last.1.1 ∙ add-one last.0, (omega arith, omega arith)))
-
-pub place-lt : (block_size size p i off : ℕ) → 1024 ≤ block_size → IsBytePlace block_size p i off → p < size → i < blocks_for block_size size
-place-lt block_size size p i off large is lt =
-    let last = placed block_size (size - 1) large in
-    let count = blocks_for-place block_size size last.0 last.1.0 large (omega arith) last.1.1 in
-    let le = place-mono block_size p (size - 1) i last.0 off last.1.0 is last.1.1 (omega arith) in
-    omega arith
 
 -- more bytes than the blocks before one hold need that one
 pub blocks_for-above : (block_size total n : ℕ) → 1024 ≤ block_size → bytes_before block_size n < total → n < blocks_for block_size total

@@ -26,5 +26,4 @@ pub mod Outside
 pub mod Coming
 pub mod Settlement
 pub mod SharedFronts
-pub mod ListParts
 pub mod Pieces

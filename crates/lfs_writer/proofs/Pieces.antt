@@ -10,7 +10,7 @@ use Rattle.lfs_model.proofs.Files.{length_back}
 use Rattle.lfs_model.proofs.ListSizes.{pointers_of-le}
 use Rattle.lfs_writer.specs.Apart.{IsApart, Spares}
 use Rattle.lfs_writer.specs.Based.{list_blocks}
-use Rattle.lfs_writer.proofs.ListParts.{part_of_bytes, place-lt, place-mono}
+use Rattle.lfs_model.proofs.ListParts.{part_of_bytes, place-lt, place-mono}
 use Rattle.lfs_writer.proofs.Releasings.{in_range_at}
 
 -- a place by another name of the geometry

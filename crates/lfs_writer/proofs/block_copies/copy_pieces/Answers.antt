@@ -11,7 +11,7 @@ use Rattle.lfs_writer.specs.Extended.{IsOwn}
 use Rattle.lfs_writer.proofs.Called.{apart_on, apart_read, apart_reads, quiet}
 use Rattle.lfs_writer.proofs.Copies.{base_list, grown_on, copied, none_behind, sized}
 use Rattle.lfs_writer.proofs.Growth.{Grows-refl, Keeps-refl, Keeps-trans}
-use Rattle.lfs_writer.proofs.ListParts.{place-lt}
+use Rattle.lfs_model.proofs.ListParts.{place-lt}
 use Rattle.lfs_writer.proofs.Pieces.{among, is_there, on_device, piece, placed_by}
 use Rattle.lfs_writer.proofs.block_copies.copy_pieces.Goals as goal
 

@@ -11,7 +11,7 @@ use Rattle.lfs_model.proofs.ListSizes.{AllSized, blocks_for-enough, pointers_of-
 -- ---- places
 
 -- the blocks before a later one hold no fewer bytes
-bytes_before-more : (block_size i j : ℕ) → i ≤ j → bytes_before block_size i ≤ bytes_before block_size j
+pub bytes_before-more : (block_size i j : ℕ) → i ≤ j → bytes_before block_size i ≤ bytes_before block_size j
 bytes_before-more block_size zero zero le = omega arith
 bytes_before-more block_size (suc i) zero le = absurd (omega arith)
 bytes_before-more block_size i (suc j) le =

@@ -13,9 +13,6 @@ use Rattle.lfs_device.specs.declared.device.BlockDevice.{Ghosts}
 use Rattle.lfs_device.specs.declared.error.Error.{Error}
 use Rattle.lfs_device.specs.Partial.{KeepsUnprogrammed, ChangesPart}
 
-pub keeps-none : (b low high : ℕ) (history : List Event) → KeepsUnprogrammed b low high history history
-keeps-none b low high history = record { elsewhere = λ other k ne was. was; below = λ k lt was. was; above = λ k le was. was }
-
 pub keeps-trans : {b low high : ℕ} {old mid new : List Event} → KeepsUnprogrammed b low high old mid → KeepsUnprogrammed b low high mid new → KeepsUnprogrammed b low high old new
 keeps-trans first second = record {
   elsewhere = λ other k ne was. second.elsewhere other k ne (first.elsewhere other k ne was);
@@ -60,15 +57,6 @@ more_faults {old} {failed = failed} is = subst (λ (h : List Event). faults old 
 -- ---- a change of a part
 
 module _ {D : Type 0} (g : Ghosts D) where
-  pub ChangesPart-none : (b low high : ℕ) (d : D) → ChangesPart g b low high d d
-  ChangesPart-none b low high d = record {
-    within = SameOutside-refl low high (block_in (g.blocks d) b);
-    others = SameBut-refl b (g.blocks d);
-    geometry = refl;
-    faults = omega arith;
-    keeps = keeps-none b low high (g.history d);
-  }
-
   pub ChangesPart-trans : {b low high : ℕ} {old mid new : D} → ChangesPart g b low high old mid → ChangesPart g b low high mid new → ChangesPart g b low high old new
   ChangesPart-trans first second = record {
     within = SameOutside-trans first.within second.within;

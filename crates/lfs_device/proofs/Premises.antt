@@ -6,7 +6,7 @@ use Rattle.lfs_model.specs.History.{Call, Read, Program, Erase, Event, event}
 use Rattle.lfs_model.specs.Conformance.{AllConform}
 use Rattle.lfs_model.specs.Premises.{MeetsPremises}
 use Rattle.lfs_model.specs.Stops.{LeftByErase}
-use Rattle.lfs_model.proofs.Premises.{Meets, meets_nothing, meets_whole, premises_begin, premises_newest, premises_next}
+use Rattle.lfs_model.proofs.Premises.{Meets, meets_nothing, meets_whole, premises_newest, premises_next}
 use Rattle.lfs_model.proofs.RepeatedBytes.{no_log-repeated}
 use Rattle.lfs_device.specs.declared.device.BlockDevice.{Ghosts}
 use Rattle.lfs_device.specs.declared.fault.Extent.{Extent}
@@ -20,9 +20,6 @@ use Rattle.lfs_device.specs.Fault.{counts, due, is_torn, is_turn, has_stopped}
 use Rattle.lfs_device.specs.Premises.{AreReliable}
 
 -- ---- a history
-
-pub premises_none : (events : List Event) → events ≡ [] → ∥ MeetsPremises events ∥₁
-premises_none events is = subst (λ h. ∥ MeetsPremises h ∥₁) (sym is) ∣ premises_begin ∣₁
 
 pub premises_after : {call : Call} {failed : Bool} {before after : Blocks} {older later : List Event} → later ≡ event call before after failed ∷ older
     → Meets call failed before after → ∥ MeetsPremises older ∥₁ → ∥ MeetsPremises later ∥₁

@@ -21,23 +21,11 @@ use Rattle.lfs_fs.specs.EntryPaths.{entry_path}
 use Rattle.lfs_fs.specs.Replies.{passed_with}
 use Rattle.lfs_fs.specs.Held.{Held, refused_by, Checks}
 use Rattle.lfs_fs.proofs.Answered.{not_failed, not_refused}
-use Rattle.lfs_fs.proofs.EntryPaths.{is_entry, no_entry, root_false}
+use Rattle.lfs_fs.proofs.EntryPaths.{is_entry, root_false}
 use Rattle.lfs_fs.proofs.Late.{get_late, list_late, remove_attr_late}
 use Rattle.lfs_fs.proofs.Checked.{both, when, decided, negated, neither, unrefused}
 
 -- ---- paths of entries
-
-pub root_only : (bytes : List ℕ) → length bytes ≡ 1 → None ≡ entry_path bytes
-root_only [] e = absurd (cc)
-root_only (b ∷ []) e = go (b == slash)
-  where
-    root : Bool → Option Path
-    root c = cond (not c) None (Some [])
-
-    go : (c : Bool) → None ≡ cond (bad_entry (root c)) None (root c)
-    go true = refl
-    go false = refl
-root_only (b ∷ c ∷ bytes) e = absurd (omega (arith, e))
 
 parts_root : (p : ℕ → Bool) (xs : List ℕ) → is_root (slice_split p xs) ≡ false
 parts_root p [] = refl
@@ -95,9 +83,6 @@ missing f (Some x) y b e is = is ∙ ap is_none e
 get_refused : (h : Held) (bytes : List ℕ) (kind : ℕ) (p : Path) (found : Finding) → h.tree.failed ≡ false → path_of bytes ≡ Some p → is_root p ≡ false → Finds (tree_view h.tree) p found →
     refused_by h (ops.GetAttr bytes kind) ≡ first_of (found.fault ∷ refuse_if (is_absent found.node) ops.NoEnt ∷ refuse_if (is_none (attribute_of kind (attributes_of (tree_view h.tree p)))) ops.NoAttr ∷ [])
 get_refused h bytes kind p found works is entry f = rw (works, is, entry, f.parents, f.nothing) refl
-
-abbrev is_got : Held → List ℕ → ℕ → List ℕ → Type 0
-is_got h bytes kind v = unwrap_or (attribute_of kind (attributes_of (tree_view h.tree (as_path bytes)))) [] ≡ v
 
 pub got : {A : Type 0} (f : A → List ℕ) (o : Option A) (y : Option (List ℕ)) (none got : A) → option_map f o ≡ y → f none ≡ [] → got ≡ unwrap_or o none → unwrap_or y [] ≡ f got
 got f None y none x e empty is = ap (λ z. unwrap_or z []) (sym e) ∙ sym empty ∙ ap f (sym is)
@@ -158,16 +143,6 @@ pub some_path : (bytes : List ℕ) (p : Path) → Some p ≡ entry_path bytes �
 some_path bytes p e = ap is_some (is_entry bytes p e).0
 
 -- ---- no entry's path
-
--- a path that none is an entry's is refused where only a failure, and the profile, are checked before it
-pub entry_refused : (h : Held) (bytes : List ℕ) (kind : ℕ) → h.tree.failed ≡ false → None ≡ entry_path bytes → refused_by h (ops.GetAttr bytes kind) ≡ Some ops.Invalid
-entry_refused h bytes kind works e = rw (works, no_entry bytes e) refl
-
-pub remove_no_entry : (h : Held) (bytes : List ℕ) → h.tree.failed ≡ false → h.tree.writable ≡ true → None ≡ entry_path bytes → refused_by h (ops.Remove bytes) ≡ Some ops.Invalid
-remove_no_entry h bytes works writable e = rw (works, writable, no_entry bytes e) refl
-
-pub remove_attr_no_entry : (h : Held) (bytes : List ℕ) (kind : ℕ) → h.tree.failed ≡ false → h.tree.writable ≡ true → None ≡ entry_path bytes → refused_by h (ops.RemoveAttr bytes kind) ≡ Some ops.Invalid
-remove_attr_no_entry h bytes kind works writable e = rw (works, writable, no_entry bytes e) refl
 
 pub none_from_some : {A : Type 0} (o : Option A) (b : Bool) → is_some o ≡ not b → b ≡ is_none o
 none_from_some None true e = refl

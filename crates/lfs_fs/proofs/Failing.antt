@@ -109,15 +109,6 @@ broken_fails e old op mid new files works other asks itself sound writable asked
   no_fault = λ h. error.no_fault h ∙ asked.no_fault;
 }
 
--- calls that only read leave the disk's shape
-pub broken_by_reads : (t s : TreeState) → IsBrokenAsking t s → IsBroken t s
-broken_by_reads t s b = record {
-  failed = b.failed;
-  geometry = subst (λ d. SameGeometry t.disk d) (sym b.disk) (record { block_size = refl; page = refl; order = refl; count = refl });
-  calls = b.reads.events;
-  called = b.reads.extends;
-}
-
 -- no memory is found for what the session keeps
 pub memory_error : (old mid : TreeState) → IsAsked old mid → IsError old (record mid { failed = true }) NoMemory
 memory_error old mid asked = record { errors = inr refl; fault = λ h. absurd (cc); no_fault = λ h. asked.no_fault }

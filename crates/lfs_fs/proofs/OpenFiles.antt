@@ -458,6 +458,3 @@ open_at_is t p [] = refl
 open_at_is t p (None ∷ fs) = open_at_is t p fs
 open_at_is t p (Some (file.Reading r) ∷ fs) = ap₂ (λ a b. a || b) (chosen (p r.path) (session.Reading (reader_view r))) (open_at_is t p fs)
 open_at_is t p (Some (file.Writing w) ∷ fs) = ap₂ (λ a b. a || b) (chosen (p w.path) (session.Writing (writer_view t w))) (open_at_is t p fs)
-
-pub writers_after : (fs gs : OpenFiles) (n : ℕ) (r : Reader) → n ≡ free_entry fs → gs ≡ put_entry fs n (Some (file.Reading r)) → writers_in gs ≡ writers_in fs
-writers_after fs gs n r e is = ap (λ xs. writers_in xs) (is ∙ ap (λ m. put_entry fs m (Some (file.Reading r))) e) ∙ writers_put fs r

@@ -23,8 +23,7 @@ use Rattle.lfs_tree.specs.TreeState.{TreeState, IsSound, tree_view, around_of, I
 use Rattle.lfs_fs.specs.Replies.{reply_in}
 use Rattle.lfs_fs.specs.FileView.{OpenFiles}
 use Rattle.lfs_fs.specs.Held.{Held, IsReady, held_with, session_of, system_state_of, refused_by, Answers}
-use Rattle.lfs_fs.proofs.Failing.{asking_fails}
-use Rattle.lfs_fs.proofs.Answered.{refused_answer, asked_answer, nothing_asked, asked_ready, not_failed, error_answers, question_answers, question_only_asks, question_keeps, question_recovers_nothing, question_lays_nothing}
+use Rattle.lfs_fs.proofs.Answered.{refused_answer, asked_answer, nothing_asked, question_only_asks, question_keeps, question_recovers_nothing, question_lays_nothing}
 
 -- ---- without a call
 
@@ -71,60 +70,9 @@ error_twice a b c e h k = record {
   no_fault = λ x. k.no_fault x ∙ h.no_fault;
 }
 
-pub still_works : (a b : TreeState) → false ≡ a.failed → IsAsked a b → b.failed ≡ false
-still_works a b works h = ap (λ (t : TreeState). t.failed) h.same ∙ sym works
-
-pub asked_either : {A : Type 0} (a b c : TreeState) (r : Result A Error) → IsAsked a b → OnOk r (IsAsked b c) → OnOk r (IsAsked a c)
-asked_either a b c (Ok x) h k = asked_twice a b c h k
-asked_either a b c (Err e) h k = tt
-
-pub broken_either : {A : Type 0} (a b c : TreeState) (r : Result A Error) → IsAsked a b → OnErr r (IsBrokenAsking b c) → OnErr r (IsBrokenAsking a c)
-broken_either a b c (Ok x) h k = tt
-broken_either a b c (Err e) h k = broken_twice a b c h k
-
 pub error_either : {A : Type 0} (a b c : TreeState) (r : Result A Error) → IsAsked a b → IfErr r (IsError b c) → IfErr r (IsError a c)
 error_either a b c (Ok x) h k = tt
 error_either a b c (Err e) h k = error_twice a b c e h k
-
--- a question that is answered by one more call
-pub asked_done : {A : Type 0} (old now : Held) (op : Operation) (reply : A → Reply) (mid new : TreeState) (r : Result A Error) → old ≡ now → (old.tree.failed ≡ false → IsSound old.tree) → IsAsked old.tree mid → refused_by old op ≡ None →
-    is_question op ≡ true → needs_no_call (session_of old) op ≡ false → OnOk r (IsAsked mid new) → IfOk r (λ x. reply x ≡ (effect_of (around_of old.tree) (session_of old) op).0) →
-    OnErr r (IsBrokenAsking mid new) → IfErr r (IsError mid new) → Answers now op (reply_in reply r) (held_with new old.files)
-asked_done {A} old now op reply mid new r same ready asked e asks silent ok is broken errors =
-    subst (λ z. Answers z op (reply_in reply r) (held_with new old.files)) same (go r ok is broken errors)
-  where
-    go : (r : Result A Error) → OnOk r (IsAsked mid new) → IfOk r (λ x. reply x ≡ (effect_of (around_of old.tree) (session_of old) op).0) →
-        OnErr r (IsBrokenAsking mid new) → IfErr r (IsError mid new) → Answers old op (reply_in reply r) (held_with new old.files)
-    go (Ok x) ok is broken errors =
-        question_answers old op reply (λ x. reply x ≡ (effect_of (around_of old.tree) (session_of old) op).0) (Ok x) new ready asks silent (λ x p. p) (asked_twice old.tree mid new asked ok, e, is)
-    go (Err x) ok is broken errors =
-        error_answers old op x (held_with new old.files) (ops.Refused (refusal_in x)) errors.errors
-        (asking_fails x old op new old.files (not_failed old op e) (broken_twice old.tree mid new asked broken) (error_twice old.tree mid new x asked errors))
-
-pub asked_done_ready : {A : Type 0} (old mid new : TreeState) (files : OpenFiles) (r : Result A Error) → (old.failed ≡ false → IsReady old files) → IsAsked old mid → OnOk r (IsAsked mid new) → OnErr r (IsBrokenAsking mid new) →
-    new.failed ≡ false → IsReady new files
-asked_done_ready old mid new files (Ok x) ready asked ok broken works = asked_ready old new files ready (asked_twice old mid new asked ok) works
-asked_done_ready old mid new files (Err x) ready asked ok broken works = absurd (let l = sym broken.failed ∙ works in cc)
-
-pub asked_by_both : {A : Type 0} (old mid new : TreeState) (r : Result A Error) → IsAsked old mid → OnOk r (IsAsked mid new) → OnErr r (IsBrokenAsking mid new) → new.failed ≡ false → IsAsked old new
-asked_by_both old mid new (Ok x) asked ok broken works = asked_twice old mid new asked ok
-asked_by_both old mid new (Err x) asked ok broken works = absurd (let l = sym broken.failed ∙ works in cc)
-
-pub asked_unless : {A : Type 0} (old new : TreeState) (r : Result A Error) → OnOk r (IsAsked old new) → OnErr r (IsBrokenAsking old new) → new.failed ≡ false → IsAsked old new
-asked_unless old new (Ok x) ok broken works = ok
-asked_unless old new (Err x) ok broken works = absurd (let l = sym broken.failed ∙ works in cc)
-
--- what a list names
-pub list_items : {A : Type 0} (f : A → List ListItem) (old : Held) (bytes : List ℕ) (p : Path) (mid : TreeState) (r : Result A Error) → IsAsked old.tree mid → p ≡ as_path bytes →
-    IfOk r (λ items. map list_item_view (f items) ≡ items_in (tree_view mid) p) → IfOk r (λ items. ops.Items (map list_item_view (f items)) ≡ (effect_of (around_of old.tree) (session_of old) (ops.ListAll bytes)).0)
-list_items f old bytes p mid (Ok items) asked is h = ap (λ z. ops.Items z) (h ∙ ap₂ (λ (t : TreeState) q. items_in (tree_view t) q) asked.same is)
-list_items f old bytes p mid (Err e) asked is h = tt
-
-pub list_directory : (a b : TreeState) (p : Path) → IsAsked a b → is_directory (tree_view a p) ≡ true → is_directory (tree_view b p) ≡ true
-list_directory a b p asked h = ap (λ (t : TreeState). is_directory (tree_view t p)) asked.same ∙ h
-
-pub mid_works : (old : Held) (op : Operation) (mid : TreeState) → IsAsked old.tree mid → refused_by old op ≡ None → mid.failed ≡ false
-mid_works old op mid asked e = ap (λ (t : TreeState). t.failed) asked.same ∙ not_failed old op e
 
 pub is_read_only : (w : Bool) → false ≡ w → refuse_if (not w) ops.ReadOnly ≡ Some ops.ReadOnly
 is_read_only w e = ap (λ b. refuse_if (not b) ops.ReadOnly) (sym e)

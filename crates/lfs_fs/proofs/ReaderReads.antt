@@ -61,14 +61,6 @@ file_there (Some (DirectoryNode attributes names)) size e = absurd (cc)
 pub is_there : (n : Option Node) (size : ℕ) → size_of n ≡ Some size → is_file n ≡ true
 is_there n size e = (file_there n size e).0
 
-pub ends_below : (n : Option Node) (size position count len : ℕ) (items : List ℕ) → size_of n ≡ Some size → size < 2 ^ 32 → position < 2 ^ 32 → len ≡ length items → items ≡ take count (drop position (bytes_at n)) →
-    position + len < 2 ^ 32
-ends_below n size position count len items e small at is are =
-    below (length items) (length (drop position (bytes_at n))) (length (bytes_at n)) refl (ap length are ∙ length-take count (drop position (bytes_at n))) (length-drop position (bytes_at n)) (file_there n size e).1
-  where
-    below : (l d m : ℕ) → length items ≡ l → l ≡ min count d → d ≡ m - position → m ≡ size → position + len < 2 ^ 32
-    below l d m w x y z = omega (arith, w, x, y, z, small, at, is)
-
 -- a call failed on the way
 pub read_fails : {B : Type 0} (old now : Held) (op : Operation) (reply : B → Reply) (e : Error) (tree : TreeState) (r : Result B Error) → old ≡ now → false ≡ old.tree.failed → IsBrokenAsking old.tree tree → IsError old.tree tree e → r ≡ Err e →
     Answers now op (reply_in reply r) (held_with tree old.files)

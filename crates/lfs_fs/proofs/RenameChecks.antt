@@ -24,18 +24,9 @@ use Rattle.lfs_fs.proofs.Answered.{not_failed, not_refused}
 use Rattle.lfs_fs.proofs.Late.{rename_late}
 use Rattle.lfs_fs.proofs.Checked.{both, decided, negated, neither, room_left, unrefused, when}
 use Rattle.lfs_fs.proofs.EntryChecks.{good_root}
-use Rattle.lfs_fs.proofs.EntryPaths.{is_entry, no_entry, root_false}
+use Rattle.lfs_fs.proofs.EntryPaths.{is_entry, root_false}
 
 -- ---- paths that none are an entry's, or one beneath the other
-
-pub from_no_entry : (h : Held) (old new : List ℕ) → h.tree.failed ≡ false → h.tree.writable ≡ true → None ≡ entry_path old → refused_by h (ops.Rename old new) ≡ Some ops.Invalid
-from_no_entry h old new works writable e = rw (works, writable, no_entry old e) refl
-
-pub to_no_entry : (h : Held) (old new : List ℕ) (p : Path) → h.tree.failed ≡ false → h.tree.writable ≡ true → Some p ≡ entry_path old → None ≡ entry_path new → refused_by h (ops.Rename old new) ≡ Some ops.Invalid
-to_no_entry h old new p works writable is e = rw (works, writable, (is_entry old p is).1, no_entry new e) refl
-
-pub beneath_itself : (h : Held) (old new : List ℕ) (p q : Path) → h.tree.failed ≡ false → h.tree.writable ≡ true → Some p ≡ entry_path old → Some q ≡ entry_path new → is_beneath (as_path old) (as_path new) ≡ true → refused_by h (ops.Rename old new) ≡ Some ops.Invalid
-beneath_itself h old new p q works writable is are e = rw (works, writable, (is_entry old p is).1, (is_entry new q are).1, e) refl
 
 -- ---- the others
 

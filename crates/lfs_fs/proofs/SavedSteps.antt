@@ -42,11 +42,6 @@ use Rattle.lfs_fs.proofs.WriterPaths.{sync_path}
 pub unsaved_writer : (o : Option OpenFile) (w : Writer) → is_unsaved_entry o ≡ true → Some (file.Writing w) ≡ o → is_some w.unsaved ≡ true
 unsaved_writer o w e is = ap is_unsaved_entry is ∙ e
 
--- an entry with changes is there, and is a writer
-pub unsaved_there : (o : Option OpenFile) → is_unsaved_entry o ≡ true → is_some o ≡ true
-unsaved_there None e = absurd (cc)
-unsaved_there (Some x) e = refl
-
 pub entry_written : (t : TreeState) (fs : OpenFiles) (fd : ℕ) (w : Writer) → Some (file.Writing w) ≡ entry_of fs fd → IsReady t fs → IsWritten t w
 entry_written t fs fd w is ready = (subst (AllByRecursion (IsWritten t)) (only fs fd w (sym is) ready.one).writers ready.written).0
 

@@ -31,16 +31,9 @@ use Rattle.lfs_fs.proofs.Stopping.{KeepsTree, kept_by_reads, one_changed, then_c
 pub reads_on : (t mid new : TreeState) → IsAsked t mid → OnlyReads mid.disk.blocks mid.history new.history → OnlyReads t.disk.blocks t.history new.history
 reads_on t mid new asked reads = OnlyReads-trans asked.reads reads (ap (λ (z : TreeState). z.disk.blocks) asked.same)
 
-pub reads_on_by : {A : Type 0} (t mid new : TreeState) (r : Result A Error) → IsAsked t mid → OnOk r (IsAsked mid new) → OnErr r (IsBrokenAsking mid new) → OnlyReads t.disk.blocks t.history new.history
-reads_on_by t mid new (Ok x) asked on broken = reads_on t mid new asked on.reads
-reads_on_by t mid new (Err e) asked on broken = reads_on t mid new asked broken.reads
-
 pub reads_of_mount : {A : Type 0} (t new : TreeState) (r : Result A Error) → OnOk r (IsMountedTree t.disk t.history new) → OnErr r (IsBrokenAsking t new) → OnlyReads t.disk.blocks t.history new.history
 reads_of_mount t new (Ok x) mounted broken = mounted.reads
 reads_of_mount t new (Err e) mounted broken = broken.reads
-
-pub reads_same : (t mid new : TreeState) → new ≡ mid → OnlyReads t.disk.blocks t.history mid.history → OnlyReads t.disk.blocks t.history new.history
-reads_same t mid new is reads = subst (λ (z : TreeState). OnlyReads t.disk.blocks t.history z.history) (sym is) reads
 
 -- ---- contents of a writer
 

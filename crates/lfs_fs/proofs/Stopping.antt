@@ -120,23 +120,6 @@ still_asked t m new k asked = record {
   survives = then_reads t m new.history (tree_view t) k asked.reads;
 }
 
--- an operation that keeps the tree was carried out
-pub still_carried : (t m new : TreeState) (op : Operation) → KeepsTree t m → IsAppliedOn m op new → tree_view new ≡ tree_view m → SurvivesAs m new (tree_view m) → KeepsTree t new
-still_carried t m new op k carried same survives = record {
-  sound = carried.sound;
-  writable = carried.writable;
-  geometry = record {
-    block_size = carried.geometry.block_size ∙ k.geometry.block_size;
-    page = carried.geometry.page ∙ k.geometry.page;
-    order = carried.geometry.order ∙ k.geometry.order;
-    count = carried.geometry.count ∙ k.geometry.count;
-  };
-  tree = same ∙ k.tree;
-  calls = carried.calls ++ k.calls;
-  called = carried.called ∙ ap (λ z. carried.calls ++ z) k.called ∙ sym (append_assoc carried.calls k.calls t.history);
-  survives = then_changes t m carried.calls new.history (tree_view t) k carried.called (subst (λ z. SurvivesAs m new z) k.tree survives);
-}
-
 pub kept_by_reads : (t m : TreeState) → IsSound t → t.writable ≡ true → IsAsked t m → KeepsTree t m
 kept_by_reads t m sound writable asked = still_asked t t m (nothing_yet t sound writable) asked
 

@@ -121,15 +121,6 @@ settle_truncated limit size f v other h = first (size == form_size f) refl
 changed_in : (t : TreeState) (w : Writer) (u : Unsaved) → IsUnsavedIn t w w.unsaved → w.unsaved ≡ Some u → IsChanged t w u
 changed_in t w u h e = subst (IsUnsavedIn t w) e h
 
-pub has_contents : (t : TreeState) (w : Writer) → CanChange t w → HasContents t w.path w.unsaved
-has_contents t w can = record {
-  works = can.works;
-  writable = can.written.writable;
-  file = can.written.there;
-  idle = can.idle;
-  over = λ u e. (changed_in t w u can.written.changed e).over;
-}
-
 pub kept_by_form : (t : TreeState) (w : Writer) (shape : Form) → IsWritten t w → IsFormOf t.disk.block_size w.unsaved (length (bytes_of t w.path w.unsaved)) shape → IsWriterForm t.disk.block_size shape (writer_view t w)
 kept_by_form t w shape opened h = go w.unsaved refl h
   where
@@ -432,6 +423,3 @@ has_saved t new w u path can is same stored = record {
 
     node : (is_file (tree_view new w.path) ≡ true) × (bytes_at (tree_view new w.path) ≡ bytes_held (kept_of t) u.contents)
     node = rw at (stored_node (tree_view t w.path) (bytes_held (kept_of t) u.contents) can.written.there)
-
-pub stored_as : (t new : TreeState) (w : Writer) (u : Unsaved) (path : Path) → w.unsaved ≡ Some u → path ≡ w.path → IsStoredAt t path (bytes_held (kept_of t) u.contents) new → IsStoredAt t w.path (bytes_of t w.path w.unsaved) new
-stored_as t new w u path is same stored = subst (λ z. IsStoredAt t w.path (bytes_of t w.path z) new) (sym is) (subst (λ p. IsStoredAt t p (bytes_held (kept_of t) u.contents) new) same stored)

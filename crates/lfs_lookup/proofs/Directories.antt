@@ -78,17 +78,6 @@ list_on ps qs first index d from next olds more news same at l m n o before =
     ∙ ap (λ z. olds ++ z) (sym (shapes_on ps index d next l goes) ∙ ap (shapes_from ps) (sym at))
     ∙ before
 
--- something stands in one of the pairs
-pub some_on : (ps qs : List Pair) (index : ℕ) (d : Pair) (from start : Option ℕ) (more : List Shape) → qs ≡ ps → from ≡ Some index → index < length ps →
-    more ≡ map shape_of (visible (gstate_of qs) (get_or qs index d)) → shapes_from ps from ≡ shapes_from ps start → 0 < length more → has_entries_from ps start ≡ true
-some_on ps qs index d from start more same at l m before some =
-    let next = cond (is_hard (get_or ps index d).content.tail) (Some (index + 1)) None in
-    let shown = m ∙ ap (λ rs. map shape_of (visible (gstate_of rs) (get_or rs index d))) same in
-    let are = sym before ∙ ap (shapes_from ps) at ∙ shapes_on ps index d next l refl ∙ ap (λ z. z ++ shapes_from ps next) (sym shown) in
-    let n = ap length are in
-    let k = length-append more (shapes_from ps next) in
-    lt-ltb 0 (length (shapes_from ps start)) (omega (arith, n, k, some))
-
 -- ---- how many they are
 
 run_step : (ps : List Pair) (index : ℕ) (d : Pair) → index < length ps → run_length (drop index ps) ≡ cond (is_hard (get_or ps index d).content.tail) (1 + run_length (drop (index + 1) ps)) 1

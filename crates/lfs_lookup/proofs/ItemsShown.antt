@@ -35,13 +35,6 @@ map_remove f [] (suc id) = refl
 map_remove f (x ∷ xs) zero = refl
 map_remove f (x ∷ xs) (suc id) = ap (λ ys. f x ∷ ys) (map_remove f xs id)
 
--- past the end there is none
-pub remove_none : {X : Type 0} (xs : List X) (id : ℕ) → length xs ≤ id → xs ≡ remove xs id
-remove_none [] zero l = refl
-remove_none [] (suc id) l = refl
-remove_none (x ∷ xs) zero l = absurd (omega arith)
-remove_none (x ∷ xs) (suc id) l = ap (λ ys. x ∷ ys) (remove_none xs id (omega arith))
-
 pub complete_without : (moved : Option ℕ) (xs : List RawSlot) (us : List Slot) → complete_all xs ≡ Some us → complete_all (without moved xs) ≡ Some (without moved us)
 complete_without None xs us h = h
 complete_without (Some id) xs us h = complete_remove xs us id h

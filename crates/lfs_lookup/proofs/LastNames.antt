@@ -84,15 +84,6 @@ last_name_len (b ∷ bytes) h = first (b == slash) refl h
 
 -- ---- the names of a path, by its bytes
 
-pub short_path : (bytes : List ℕ) → length bytes ≤ 1 → as_path bytes ≡ []
-short_path [] l = refl
-short_path (b ∷ []) l = go (b == slash)
-  where
-    go : (c : Bool) → unwrap_or (if not c then None else (let o : Option (List Name) = Some [] in o)) [] ≡ []
-    go true = refl
-    go false = refl
-short_path (b ∷ x ∷ bytes) l = absurd (omega arith)
-
 pub long_path : (b : ℕ) (bytes : List ℕ) → is_some (path_of (b ∷ bytes)) ≡ true → 0 < length bytes → as_path (b ∷ bytes) ≡ slice_split (λ c. c == slash) bytes
 long_path b bytes h l = first (b == slash) refl h
   where

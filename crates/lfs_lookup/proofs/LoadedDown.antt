@@ -98,9 +98,6 @@ pub record HasSearched (path : Path) (i : ℕ) (old now : State) : Type 0 where
   pub stay : AreCachedBeneath old (parents path) → StayCached old.cache now.cache
   pub recent : AreSmall old.kept.pairs (parents path) → AreRecentOn i old.kept.disk now.cache old.kept.pairs (parents (take i path))
 
-pub searched_none : (path : Path) (old : State) → HasSearched path 0 old old
-searched_none path old = record { disk = refl; none = λ there. refl; stay = λ there b h. h; recent = λ small. tt }
-
 -- what isn't all the way brings no more than that
 abbrev pub StopsShort : {Y : Type 0} → (Y → Type 0) → Result Y Error → Type 1
 StopsShort through s = (Q : Type 0) → IfOk s (λ x. through x → Q)

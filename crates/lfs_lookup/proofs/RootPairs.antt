@@ -58,32 +58,6 @@ pub record IsAhead (ps : List Pair) (index : ℕ) : Type 0 where
 pub ahead_first : (disk : Disk) (ps : List Pair) → IsAccepted disk ps → IsAhead ps 0
 ahead_first disk ps ok = record { meets = meets_from ps ok.root; root = omega arith }
 
-pub ahead_next : (ps : List Pair) (n : ℕ) → n < length ps → length (at ps n).content.slots ≡ 0 → IsAhead ps n → IsAhead ps (n + 1)
-ahead_next ps n l none h =
-    let empty = no_slots (at ps n).content.slots none in
-    let meets = sym (ap (λ z. superblock_or z (is_hard (at ps n).content.tail && meets_superblock (drop (n + 1) ps))) empty) ∙ sym (meets_at ps n l) ∙ h.meets in
-    let both = and_parts (is_hard (at ps n).content.tail) (meets_superblock (drop (n + 1) ps)) meets in
-    let goes = and_from (meets_superblock (drop (n + 1) ps)) (leads_on (at ps n)) both.1 (and_from (is_bare (at ps n).content.slots) (is_hard (at ps n).content.tail) (ap is_bare empty) both.0) in
-    let more = before_at ps n l ∙ ap (λ b. cond b (1 + superblocks_before (drop (n + 1) ps)) 0) goes in
-    let root = h.root in
-    record { meets = both.1; root = omega arith }
-
-pub ahead_ends : (ps : List Pair) (n : ℕ) → length ps ≤ n → IsAhead ps n → ⊥
-ahead_ends ps n l h = let e = ap meets_superblock (drop_all ps n l) ∙ refl in let k = sym h.meets ∙ e in cc
-  where
-    drop_all : (xs : List Pair) (k : ℕ) → length xs ≤ k → drop k xs ≡ []
-    drop_all [] zero l = refl
-    drop_all [] (suc k) l = refl
-    drop_all (x ∷ xs) zero l = absurd (omega arith)
-    drop_all (x ∷ xs) (suc k) l = drop_all xs k (omega arith)
-
-pub ahead_found : (t : Kept) (n : ℕ) → n < length t.pairs → 0 < length (pair_in t n).content.slots → IsAhead t.pairs n → IsInChain t n
-ahead_found t n l some h = record {
-  below = l;
-  starts = sym (meets_slots (pair_in t n).content.slots (is_hard (pair_in t n).content.tail && meets_superblock (drop (n + 1) t.pairs)) some) ∙ sym (meets_at t.pairs n l) ∙ h.meets;
-  root = h.root;
-}
-
 -- a thread with the same pairs has the same chain
 pub in_chain_on : (a b : Kept) (n : ℕ) → b.pairs ≡ a.pairs → IsInChain b n → IsInChain a n
 in_chain_on a b n e h = record {

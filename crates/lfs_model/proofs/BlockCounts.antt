@@ -23,19 +23,12 @@ in_flight-freed sets b flying = let e = count_by-set is_in_flight sets b InFligh
 pub used-freed_in_flight : (sets : BlockSets) (b : ℕ) → IsInFlight sets b → used_count (set sets b Free) ≡ used_count sets
 used-freed_in_flight sets b flying = let e = count_by-set is_used sets b InFlight Free flying in omega (arith, e)
 
--- a block in flight comes into use
-pub in_flight-settled : (sets : BlockSets) (b : ℕ) → IsInFlight sets b → in_flight_count (set sets b Used) + 1 ≡ in_flight_count sets
-in_flight-settled sets b flying = let e = count_by-set is_in_flight sets b InFlight Used flying in omega (arith, e)
-
 pub used-settled : (sets : BlockSets) (b : ℕ) → IsInFlight sets b → used_count (set sets b Used) ≡ used_count sets + 1
 used-settled sets b flying = let e = count_by-set is_used sets b InFlight Used flying in omega (arith, e)
 
 -- a used block is released
 pub used-freed : (sets : BlockSets) (b : ℕ) → IsUsed sets b → used_count (set sets b Free) + 1 ≡ used_count sets
 used-freed sets b used = let e = count_by-set is_used sets b Used Free used in omega (arith, e)
-
-pub in_flight-freed_used : (sets : BlockSets) (b : ℕ) → IsUsed sets b → in_flight_count (set sets b Free) ≡ in_flight_count sets
-in_flight-freed_used sets b used = let e = count_by-set is_in_flight sets b Used Free used in omega (arith, e)
 
 -- ---- at most so many
 

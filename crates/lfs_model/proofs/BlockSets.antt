@@ -69,29 +69,6 @@ module _ (state : BlockState) (sets : BlockSets) (b : ℕ) where
       let within = slice_get_within (set sets b to) b state has in
       ne (same_Some to state (sym (slice_get-set_same sets b to (omega (arith, within, length-set sets b to))) ∙ has))
 
-  -- a block comes to the state
-  pub come_in : (bs : List ℕ) → b < length sets → AreIn state sets bs → AreIn state (set sets b state) (b ∷ bs)
-  come_in bs lt are other = ⊎_elim
-      (λ same. (λ _. subst (Contains (b ∷ bs)) (sym same) (Contains-head b bs), λ _. ap (slice_get (set sets b state)) same ∙ slice_get-set_same sets b state lt))
-      (λ ne. (
-        λ has. Contains-tail b other bs ((are other).0 (sym (slice_get-set_other sets b other state ne) ∙ has)),
-        λ has. slice_get-set_other sets b other state ne ∙ (are other).1 (⊎_elim (λ same. absurd (ne (sym same))) (λ behind. behind) (Contains-cons b other bs has)),
-      ))
-      (cases_eq other b)
-
-  -- a block of another state changes to one that isn't this
-  pub stay_in : (bs : List ℕ) (to : BlockState) → slice_get sets b ≢ Some state → to ≢ state → AreIn state sets bs → AreIn state (set sets b to) bs
-  stay_in bs to not_here ne_state are other = ⊎_elim
-      (λ same. (
-        λ has. absurd (left to ne_state (ap (slice_get (set sets b to)) (sym same) ∙ has)),
-        λ has. absurd (not_here (ap (slice_get sets) (sym same) ∙ (are other).1 has)),
-      ))
-      (λ ne. (
-        λ has. (are other).0 (sym (slice_get-set_other sets b other to ne) ∙ has),
-        λ has. slice_get-set_other sets b other to ne ∙ (are other).1 has,
-      ))
-      (cases_eq other b)
-
   -- a block goes from the state
   pub go_from : (bs : List ℕ) (to : BlockState) → ¬ (Contains bs b) → to ≢ state → AreIn state sets (b ∷ bs) → AreIn state (set sets b to) bs
   go_from bs to not_behind ne_state are other = ⊎_elim
@@ -214,10 +191,3 @@ counts_le (s ∷ sets) =
     at_most_one Free = omega arith
     at_most_one InFlight = omega arith
     at_most_one Used = omega arith
-
--- where one is free, they don't
-pub counts_from_free : (sets : BlockSets) (b : ℕ) → IsFree sets b → used_count sets + in_flight_count sets < length sets
-counts_from_free sets b free =
-    let used = count_by-set is_used sets b Free Used free in
-    let flying = count_by-set is_in_flight sets b Free Used free in
-    omega (arith, used, flying, counts_le (set sets b Used), length-set sets b Used)

@@ -24,9 +24,6 @@ holding slots = record { slots = slots; tail = None; move = no_gstate }
 abbrev changes : List Change
 changes = empty_file 1 (codes "b") ++ (empty_file 1 (codes "a") ++ (Delete 1 ∷ PutAttribute 1 0x41 (codes "x") ∷ []))
 
-pub ids_shift : changed_by (holding (superblock ∷ [])) changes ≡ Some (holding (superblock ∷ file ∷ []))
-ids_shift = refl
-
 pub tags : map (λ (e : LogEntry). e.tag) (entries_of_changes changes)
     ≡ 0x40100400 ∷ 0x00100401 ∷ 0x20100400 ∷ 0x40100400 ∷ 0x00100401 ∷ 0x20100400 ∷ 0x4ff00400 ∷ 0x34100401 ∷ []
 tags = refl
@@ -41,13 +38,3 @@ malformed = refl
 -- a tail and a move state, and none again
 abbrev going : RawContent
 going = record { slots = superblock ∷ []; tail = Some (record { hard = false; to = (2, 3) }); move = record { sync = true; kind = 0x4ff; id = 2; pair = (2, 3) } }
-
-pub tail_and_move : changed_by (holding (superblock ∷ [])) (PutTail false (Some (2, 3)) ∷ PutMove going.move ∷ []) ≡ Some going
-tail_and_move = refl
-
-pub none_again : changed_by going (PutTail true None ∷ PutMove no_gstate ∷ []) ≡ Some (holding (superblock ∷ []))
-none_again = refl
-
--- written anew, it reads back
-pub reads_back : content_after_all no_content (written_entries going) ≡ Some going
-reads_back = refl

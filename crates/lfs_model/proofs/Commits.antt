@@ -31,10 +31,6 @@ has_commit-end block = go (chain_reach block)
     go (nowhere n e) = le-ltb 0 (length (chain_of block).commits) (omega arith) ∙ sym (le-ltb 4 (chain_of block).end (omega arith))
     go (somewhere n e) = lt-ltb 0 (length (chain_of block).commits) n ∙ sym (lt-ltb 4 (chain_of block).end e)
 
--- a test that shows whether there is one
-pub has_commit-from : (block : List ℕ) (b : Bool) → IsTrue b ↔ (4 < (chain_of block).end) → b ≡ has_commit block
-has_commit-from block b h = ltb_from_iff h ∙ sym (has_commit-end block)
-
 ends_within : (block : List ℕ) (start at before : ℕ) (cs : List (List LogEntry)) (end last : ℕ) → IsChain block start at before cs end last → at ≤ length block → end ≤ length block
 ends_within block start at before [] end last h below = omega (arith, h.0)
 ends_within block start at before (c ∷ cs) end last (mid, carry, commit, rest) below =

@@ -75,17 +75,6 @@ complete_set (x ∷ xs) us (suc id) s t h e =
     let p = complete_parts x xs us h in
     complete_cons x (slice_set xs id s) p.first (slice_set p.others id t) p.is_first (complete_set xs p.others id s t p.are_others e) ∙ ap (λ ts. Some (slice_set ts (suc id) t)) (sym p.all_are)
 
--- the slot at an id
-pub complete_at : (front : List RawSlot) (s : RawSlot) (back : List RawSlot) (all : List Slot) → complete_all (front ++ s ∷ back) ≡ Some all →
-    (us : List Slot) × (t : Slot) × (vs : List Slot) × ((complete_all front ≡ Some us) × ((complete s ≡ Some t) × ((complete_all back ≡ Some vs) × (all ≡ us ++ t ∷ vs))))
-complete_at [] s back all h =
-    let p = complete_parts s back all h in
-    ([], p.first, p.others, (refl, (p.is_first, (p.are_others, p.all_are))))
-complete_at (x ∷ front) s back all h =
-    let p = complete_parts x (front ++ s ∷ back) all h in
-    let (us, t, vs, (a, (b, (c, d)))) = complete_at front s back p.others p.are_others in
-    (p.first ∷ us, t, vs, (complete_cons x front p.first us p.is_first a, (b, (c, p.all_are ∙ ap (λ ts. p.first ∷ ts) d))))
-
 -- ---- sizes
 
 -- what is in the table, no attribute and of none of the other lengths, has 8 bytes

@@ -71,14 +71,6 @@ name_types type bytes h = go (kind_named type) (type_is type bytes h)
     go Directory e = inr (inl e)
     go Superblock e = inr (inr e)
 
-pub superblock_typed : (type : ℕ) (bytes : List ℕ) → IsPart 0 (type, bytes) → is_superblock_kind (kind_named type) ≡ true → type ≡ superblock_name_type
-superblock_typed type bytes h s = go (kind_named type) (type_is type bytes h) s
-  where
-    go : (k : Kind) → type ≡ type_of k → is_superblock_kind k ≡ true → type ≡ superblock_name_type
-    go File e t = absurd (cc)
-    go Directory e t = absurd (cc)
-    go Superblock e t = e
-
 -- ---- complete slots
 
 -- a slot's name as the log has it

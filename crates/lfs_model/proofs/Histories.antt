@@ -37,10 +37,6 @@ EachEvent-weaker P Q (e ∷ events) of all = (of e all.0, EachEvent-weaker P Q e
 pub EachSince-weaker : {P Q : Event → Type 0} {old new : List Event} → ((e : Event) → P e → Q e) → EachSince P old new → EachSince Q old new
 EachSince-weaker {P} {Q} of since = record { events = since.events; extends = since.extends; each = EachEvent-weaker P Q since.events of since.each }
 
--- the histories under other names
-pub EachSince-same : {P : Event → Type 0} {old new other later : List Event} → EachSince P old new → other ≡ old → later ≡ new → EachSince P other later
-EachSince-same since start end = record { events = since.events; extends = end ∙ since.extends ∙ ap (λ (l : List Event). since.events ++ l) (sym start); each = since.each }
-
 -- What holds of all calls holds of those up to a history between, of those after it, and of the only one.
 
 same_events : {P Q R : Event → Type 0} {old mid new : List Event} (all : EachSince P old new) (first : EachSince Q old mid) (second : EachSince R mid new) → all.events ≡ second.events ++ first.events
@@ -71,10 +67,6 @@ EachSince-only {P} {old} {new} {e} all is = (subst (EachEvent P) (append_cancel_
 
 -- What a stop leaves, over one call more, over another stretch, and what that implies.
 
-pub LeavesOnly-call : {stops : Event → Blocks → Type 0} {P : Blocks → Type 0} {old mid new : List Event} {e : Event}
-    → LeavesOnly stops old mid P → new ≡ e ∷ mid → ((disk : Blocks) → stops e disk → P disk) → LeavesOnly stops old new P
-LeavesOnly-call so_far is here = goes_on so_far is here
-
 pub LeavesOnly-trans : {stops : Event → Blocks → Type 0} {P : Blocks → Type 0} {old mid new : List Event} → LeavesOnly stops old mid P → LeavesOnly stops mid new P → LeavesOnly stops old new P
 LeavesOnly-trans first second = goes_on_by first second
 
@@ -88,26 +80,12 @@ reads-append : (events old : List Event) → reads old ≤ reads (events ++ old)
 reads-append [] old = omega arith
 reads-append (e ∷ events) old = let rest = reads-append events old in omega arith
 
-programs-append : (events old : List Event) → programs old ≤ programs (events ++ old)
-programs-append [] old = omega arith
-programs-append (e ∷ events) old = let rest = programs-append events old in omega arith
-
-erases-append : (events old : List Event) → erases old ≤ erases (events ++ old)
-erases-append [] old = omega arith
-erases-append (e ∷ events) old = let rest = erases-append events old in omega arith
-
 faults-append : (events old : List Event) → faults old ≤ faults (events ++ old)
 faults-append [] old = omega arith
 faults-append (e ∷ events) old = let rest = faults-append events old in omega arith
 
 pub reads-since : {P : Event → Type 0} {old new : List Event} → EachSince P old new → reads old ≤ reads new
 reads-since {old = old} since = rw since.extends (reads-append since.events old)
-
-pub programs-since : {P : Event → Type 0} {old new : List Event} → EachSince P old new → programs old ≤ programs new
-programs-since {old = old} since = rw since.extends (programs-append since.events old)
-
-pub erases-since : {P : Event → Type 0} {old new : List Event} → EachSince P old new → erases old ≤ erases new
-erases-since {old = old} since = rw since.extends (erases-append since.events old)
 
 pub faults-since : {P : Event → Type 0} {old new : List Event} → EachSince P old new → faults old ≤ faults new
 faults-since {old = old} since = rw since.extends (faults-append since.events old)
@@ -192,18 +170,6 @@ AllUnprogrammed-part history block was above below k from to = was k (omega arit
 pub unprogrammed-erase : {old new : List Event} {block low high : ℕ} {before after : Blocks} → new ≡ event (Erase block) before after false ∷ old → AllUnprogrammed new block low high
 unprogrammed-erase {block = block} is k above below = ap (λ (h : List Event). unprogrammed h block k) is ∙ grind (arith, nat_tests)
 
--- after an erase of another block, also one that failed
-pub unprogrammed-erase_elsewhere : {old new : List Event} {block erased low high : ℕ} {before after : Blocks} {failed : Bool} → new ≡ event (Erase erased) before after failed ∷ old
-    → block ≢ erased → AllUnprogrammed old block low high → AllUnprogrammed new block low high
-unprogrammed-erase_elsewhere {old} {block = block} {erased = erased} is apart was k above below =
-    let still : unprogrammed old block k ≡ true = was k above below in
-    let other : (block == erased) ≡ false = grind (arith, nat_tests) in
-    ap (λ (h : List Event). unprogrammed h block k) is ∙ grind (arith, nat_tests, still, other)
-
-pub unprogrammed-read : {old new : List Event} {read off len low high : ℕ} {before after : Blocks} {failed : Bool} (block : ℕ) → new ≡ event (Read read off len) before after failed ∷ old
-    → AllUnprogrammed old block low high → AllUnprogrammed new block low high
-unprogrammed-read block is was k above below = ap (λ (h : List Event). unprogrammed h block k) is ∙ was k above below
-
 -- after a program the bytes after it, also one that failed
 pub unprogrammed-program : {old new : List Event} {block off : ℕ} {bytes : List ℕ} {before after : Blocks} {failed : Bool} {low high later : ℕ} → new ≡ event (Program block off bytes) before after failed ∷ old
     → AllUnprogrammed old block low high → low ≤ later → off + length bytes ≤ later → AllUnprogrammed new block later high
@@ -211,22 +177,6 @@ unprogrammed-program {old} {block = block} {off = off} {bytes = bytes} is was le
     let still : unprogrammed old block k ≡ true = was k (omega arith) below in
     let past : nat_lt k (off + length bytes) ≡ false = grind (arith, nat_tests) in
     ap (λ (h : List Event). unprogrammed h block k) is ∙ grind (arith, nat_tests, still, past)
-
--- those before it
-pub unprogrammed-program_above : {old new : List Event} {block off : ℕ} {bytes : List ℕ} {before after : Blocks} {failed : Bool} {low high : ℕ} → new ≡ event (Program block off bytes) before after failed ∷ old
-    → AllUnprogrammed old block low high → high ≤ off → AllUnprogrammed new block low high
-unprogrammed-program_above {old} {block = block} {off = off} is was le k above below =
-    let still : unprogrammed old block k ≡ true = was k above below in
-    let short : nat_le off k ≡ false = grind (arith, nat_tests) in
-    ap (λ (h : List Event). unprogrammed h block k) is ∙ grind (arith, nat_tests, still, short)
-
--- and those of another block
-pub unprogrammed-program_elsewhere : {old new : List Event} {block programmed off : ℕ} {bytes : List ℕ} {before after : Blocks} {failed : Bool} {low high : ℕ}
-    → new ≡ event (Program programmed off bytes) before after failed ∷ old → block ≢ programmed → AllUnprogrammed old block low high → AllUnprogrammed new block low high
-unprogrammed-program_elsewhere {old} {block = block} {programmed = programmed} is apart was k above below =
-    let still : unprogrammed old block k ≡ true = was k above below in
-    let other : (block == programmed) ≡ false = grind (arith, nat_tests) in
-    ap (λ (h : List Event). unprogrammed h block k) is ∙ grind (arith, nat_tests, still, other)
 
 -- What was unprogrammed outside some blocks and still is.
 

@@ -32,11 +32,6 @@ listed = (nodes, (walk, rw (decimal_digit 5 (omega arith), decimal_digit 0 (omeg
 pub unpacked : IsUnpacking tree (PutFile (codes "/a") (codes "hello") ∷ MakeDirectory (codes "/d") ∷ PutFile (codes "/d/x") [] ∷ [])
 unpacked = (nodes, (walk, refl))
 
-pub carried_over : IsCarryingOver tree
-    (ops.Open (codes "/a") new_file_flags ∷ ops.Write 0 (codes "hello") ∷ ops.Close 0 ∷ ops.Mkdir (codes "/d")
-    ∷ ops.Open (codes "/d/x") new_file_flags ∷ ops.Write 0 [] ∷ ops.Close 0 ∷ [])
-carried_over = (nodes, (walk, refl))
-
 -- a name with a newline, a backslash and two bytes above 0x7e
 pub escapes : lines_of (record { path = (0x61 ∷ 0x0a ∷ 0x5c ∷ 0xc3 ∷ 0xa9 ∷ []) ∷ []; node = FileNode [] [] } ∷ [])
     ≡ codes "f 0 /a" ++ 0x5c ∷ codes "x0a" ++ 0x5c ∷ codes "x5c" ++ 0x5c ∷ codes "xc3" ++ 0x5c ∷ codes "xa9" ++ 0x0a ∷ []

@@ -26,7 +26,7 @@ use Rattle.lfs_model.proofs.Changes.{Follows}
 use Rattle.lfs_model.proofs.Became.{Became}
 use Rattle.lfs_model.proofs.Profiles.{step_writable}
 use Rattle.lfs_model.proofs.Chained.{InTwo, mkdir_in_two}
-use Rattle.lfs_model.proofs.StepsTaken.{IsTaken, IsPut, IsPutBeside, beside_taken, taken_before, put_within, put_filled}
+use Rattle.lfs_model.proofs.StepsTaken.{IsTaken, IsPut, IsPutBeside, beside_taken, put_within, put_filled}
 
 -- ---- in one commit
 
@@ -71,11 +71,6 @@ module _ (disk new : Disk) (chain before left after : List Pair) (p q : Pair) (m
         (alike_itself (chain ++ ((before ++ left) ++ ((q ∷ more) ++ after))));
   }
 
-  pub mkdir_in_one_completed : (s : Session) (path : List ℕ) → s.tree ≡ tree_in disk (thread_at (last_site chain before left after) (p ∷ [])) → as_path path ≡ P ++ name ∷ []
-      → IsCompleted disk (thread_at (last_site chain before left after) (p ∷ [])) s (ops.Mkdir path) new (thread_at (last_site chain before left after) (q ∷ (more ++ f ∷ [])))
-  mkdir_in_one_completed s path tree is =
-      mkdir_completed disk new (thread_at (last_site chain before left after) (q ∷ (more ++ f ∷ []))) chain (before ++ left) after p q more (chain ++ ((before ++ left) ++ (q ∷ more))) after f l r P name made s path tree is
-
 -- ---- in two: the fresh pair is threaded behind the last pair of the parent, with the sync bit set; then the entry comes into a pair in front of that
 
 module _ (disk middle new : Disk) (chain before front mid after : List Pair) (x y f : Pair) (extra : List ℕ) (l0 r0 : List Slot) (p q : Pair) (more : List Pair) (extra2 : List ℕ) (l r : List Slot) (P : Path) (name : Name)
@@ -112,10 +107,6 @@ module _ (disk middle new : Disk) (chain before front mid after : List Pair) (x 
   first : IsTaken disk (thread_at (last_site chain before (front ++ p ∷ mid) after) (x ∷ [])) middle (thread_at (last_site chain before (front ++ p ∷ mid) after) (y ∷ ([] ++ f ∷ []))) (λ t. t) (λ d. d)
   first = beside_taken disk middle chain before (front ++ p ∷ mid) after x y [] f l0 [] [] r0 put extra [] (λ t. t) (λ d. d) step P a leads same
       (threaded disk middle chain before (front ++ p ∷ mid) after x [] y [] f extra l0 r0 step P a leads same sync)
-
-  -- between the steps the tree is the one from before
-  pub mkdir_between : (new_tree : Tree) → IsLeftByStop middle (tree_in disk (thread_at (last_site chain before (front ++ p ∷ mid) after) (x ∷ []))) new_tree
-  mkdir_between new_tree = taken_before disk ps middle (thread_at (last_site chain before (front ++ p ∷ mid) after) (y ∷ ([] ++ f ∷ []))) (λ d. d) new_tree first
 
   leads2 : Leads (thread_at (record { chain = chain; before = before; left = front; right = mid ++ y ∷ []; after = f ∷ after }) (p ∷ [])) P a
   leads2 = subst (λ z. Leads z P a) same_thread (ap (λ d. d P) first.follows.leads ∙ leads)

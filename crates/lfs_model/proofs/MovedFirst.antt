@@ -68,14 +68,6 @@ module _ (disk new : Disk) (w : Site) (p : Pair) (mid : List Pair) (y : Pair) (l
     });
   }
 
--- the pair stays, with its other slots
-pub moved_stays : (disk new : Disk) (w : Site) (p y : Pair) (l : List Slot) (u : Slot) (r : List Slot) → IsMoveEnd disk new w p [] y [] l u r
-    → IsTaken disk (thread_at w (p ∷ [])) new (thread_at w (y ∷ [])) (λ t. t) (λ d. d)
-    → IsRecovering disk (thread_at w (p ∷ [])) new w.chain [] (dirs_at w (p ∷ [])) [] (singles (w.before ++ w.left) ++ (((y ∷ []) ∷ []) ++ singles (w.right ++ w.after))) []
-moved_stays disk new w p y l u r step taken =
-    begins_with disk new w p [] y l u r step taken ((y ∷ []) ∷ []) refl
-    ((step.shape.at, sym (append-nil y.content.slots) ∙ step.is ∙ sym step.hidden ∙ append-nil (unmoved (gstate_of (thread_at w (p ∷ []))) p)), tt)
-
 -- the pair o after p goes: p becomes y, with p's slots
 pub moved_goes : (disk new : Disk) (w : Site) (p o y : Pair) (l : List Slot) (u : Slot) (r : List Slot) → IsMoveEnd disk new w p (o ∷ []) y [] l u r
     → IsTaken disk (thread_at w (p ∷ o ∷ [])) new (thread_at w (y ∷ [])) (λ t. t) (λ d. d) → is_hard p.content.tail ≡ true → unmoved (gstate_of (thread_at w (p ∷ o ∷ []))) o ≡ []

@@ -33,10 +33,6 @@ longer_equal (x ∷ xs) (y ∷ ys) e = go (nat_cmp x y) refl e (longer_equal xs 
     go Equal f h rest = ap₂ (λ z zs. z ∷ zs) (ranked x y Equal (sym f)) (rest h)
     go Greater f h rest = absurd (cc)
 
-longer_itself : (a : Name) → longer_first a a ≡ Equal
-longer_itself [] = refl
-longer_itself (x ∷ xs) = ap (λ o. ordering_then o (longer_first xs xs)) (tied_itself nat_cmp_total x) ∙ longer_itself xs
-
 longer_trans : (a b c : Name) → longer_first a b ≡ Less → longer_first b c ≡ Less → longer_first a c ≡ Less
 longer_trans [] [] c h g = absurd (cc)
 longer_trans [] (y ∷ ys) c h g = absurd (cc)
@@ -156,34 +152,6 @@ pub in_order_insert : (o : NameOrder) (xs : List Name) (k : ℕ) (n : Name) → 
 in_order_insert o xs zero n = refl
 in_order_insert o [] (suc k) n = refl
 in_order_insert o (x ∷ xs) (suc k) n = ap (with_name_by o x) (in_order_insert o xs k n) ∙ put_both o x n (in_order o xs)
-
-in_order_put : (o p : NameOrder) (n : Name) (xs : List Name) → in_order o (with_name_by p n xs) ≡ with_name_by o n (in_order o xs)
-in_order_put o p n [] = refl
-in_order_put o p n (x ∷ xs) = go (is_less (name_cmp p n x)) refl (in_order_put o p n xs)
-  where
-    go : (b : Bool) → is_less (name_cmp p n x) ≡ b → in_order o (with_name_by p n xs) ≡ with_name_by o n (in_order o xs)
-        → in_order o (with_name_by p n (x ∷ xs)) ≡ with_name_by o n (in_order o (x ∷ xs))
-    go true e h = ap (in_order o) (first_put p n x xs e)
-    go false e h = ap (in_order o) (later_put p n x xs e) ∙ ap (with_name_by o x) h ∙ put_both o x n (in_order o xs)
-
--- putting names in one order and then in another is putting them in the other
-pub in_order_again : (o p : NameOrder) (xs : List Name) → in_order o (in_order p xs) ≡ in_order o xs
-in_order_again o p [] = refl
-in_order_again o p (x ∷ xs) = in_order_put o p x (in_order p xs) ∙ ap (with_name_by o x) (in_order_again o p xs)
-
--- names that increase are in order
-pub in_order_rising : (o : NameOrder) (xs : List Name) → AllPairs (λ a b. name_cmp o a b ≡ Less) xs → in_order o xs ≡ xs
-in_order_rising o [] h = refl
-in_order_rising o (x ∷ xs) h =
-    ap (with_name_by o x) (in_order_rising o xs (λ i j d l m. h (suc i) (suc j) d (omega arith) (omega arith))) ∙ put xs h
-  where
-    put : (ys : List Name) → AllPairs (λ a b. name_cmp o a b ≡ Less) (x ∷ ys) → with_name_by o x ys ≡ x ∷ ys
-    put [] k = refl
-    put (y ∷ ys) k = first_put o x y ys (ap is_less (k 0 1 x (omega arith) (omega arith)))
-
--- the disk's names again
-pub in_order_back : (o p : NameOrder) (xs : List Name) → AllPairs (λ a b. name_cmp o a b ≡ Less) xs → in_order o (in_order p xs) ≡ xs
-in_order_back o p xs h = in_order_again o p xs ∙ in_order_rising o xs h
 
 -- ---- without a name
 

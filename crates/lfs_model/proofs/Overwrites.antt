@@ -42,17 +42,6 @@ drop-overwritten block at new fits =
 pub SameOutside-overwritten : (block : List ℕ) (at : ℕ) (new : List ℕ) → at ≤ length block → SameOutside at (at + length new) block (overwritten block at new)
 SameOutside-overwritten block at new fits = record { below = take-overwritten block at new fits; above = drop-overwritten block at new fits }
 
--- bytes with their own in their place
-pub overwritten_same : (block : List ℕ) (at n : ℕ) → at + n ≤ length block → overwritten block at (take n (drop at block)) ≡ block
-overwritten_same block at n fits =
-    append_assoc (take at block) (take n (drop at block)) (drop (at + length (take n (drop at block))) block)
-    ∙ ap (λ (l : List ℕ). take at block ++ (take n (drop at block) ++ l)) (ap (λ k. drop (at + k) block) long ∙ sym (drop-drop n at block))
-    ∙ ap (λ (l : List ℕ). take at block ++ l) (take-append-drop n (drop at block))
-    ∙ take-append-drop at block
-  where
-    long : length (take n (drop at block)) ≡ n
-    long = length-take-le n (drop at block) (omega (arith, length-drop at block))
-
 pub overwritten_whole : (block new : List ℕ) → length new ≡ length block → overwritten block 0 new ≡ new
 overwritten_whole block new size = ap (λ (l : List ℕ). new ++ l) (drop_all (0 + length new) block (omega arith)) ∙ append-nil new
 
@@ -99,16 +88,6 @@ SameBut-trans first second = record {
   count = second.count ∙ first.count;
   size = second.size ∙ first.size;
   others = λ other ne. second.others other ne ∙ first.others other ne;
-}
-
--- as many blocks of the same size
-pub SameBut-divided : {b size count : ℕ} {old new : Blocks} → SameBut b old new → IsDivided size count old → IsDivided size count new
-SameBut-divided {b} {size} {count} {old} {new} same shape = record {
-  count = same.count ∙ shape.count;
-  sizes = λ other below. elim (cases_eq other b) [
-    | inl is ↦ ap (λ k. length (block_in new k)) is ∙ same.size ∙ ap (λ k. length (block_in old k)) (sym is) ∙ shape.sizes other below
-    | inr ne ↦ ap length (same.others other ne) ∙ shape.sizes other below
-  ];
 }
 
 -- the block has these bytes then

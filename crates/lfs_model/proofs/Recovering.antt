@@ -23,7 +23,7 @@ use Rattle.lfs_model.proofs.Layouts.{singles, joined_parts, joined_singles, join
 use Rattle.lfs_model.proofs.Alike.{AreAlike, alike_itself, alike_append}
 use Rattle.lfs_model.proofs.Committed.{IsCompleted}
 use Rattle.lfs_model.proofs.RecoveredImage.{Fates, recover_completed}
-use Rattle.lfs_model.proofs.StepsTaken.{IsTaken, taken_then, taken_before}
+use Rattle.lfs_model.proofs.StepsTaken.{IsTaken, taken_then}
 use Rattle.lfs_model.proofs.Unthreaded.{IsUnthreaded, IsReady, unthread}
 
 -- ---- the pairs still to come
@@ -90,19 +90,6 @@ module _ (disk : Disk) (ps : List Pair) (now : Disk) (chain seen : List Pair) (p
     wait = subst (λ z. AllWait ps z todo waits) (sym (onward_end None seen p)) r.wait.1;
     taken = subst (λ z. IsTaken disk ps now (chain ++ z) (λ t. t) (λ d. d)) (sym (append_assoc kept (x ∷ []) (joined_parts waits))) r.taken;
     ready = subst (IsReady now chain) (sym (append_assoc kept (x ∷ []) (joined_parts waits))) r.ready;
-  }
-
-  -- one that went with its only slot is gone
-  pub recovery_skips : IsRecovering disk ps now chain seen (p ∷ todo) parts ([] ∷ waits) kept → IsRecovering disk ps now chain (seen ++ p ∷ []) todo (parts ++ [] ∷ []) waits kept
-  recovery_skips r = record {
-    are = r.are ∙ seen_more chain seen p todo;
-    was_chain = ap superblocks_before (sym (seen_more chain seen p todo)) ∙ r.was_chain;
-    plain = r.plain;
-    fates = fates_append ps None seen (p ∷ []) parts ([] ∷ []) r.fates (inr r.wait.0, tt);
-    alike = subst (λ z. AreAlike z kept) (sym (joined_append parts ([] ∷ []) ∙ append-nil (joined_parts parts))) r.alike;
-    wait = subst (λ z. AllWait ps z todo waits) (sym (onward_end None seen p)) r.wait.1;
-    taken = r.taken;
-    ready = r.ready;
   }
 
   -- a pair whose directory isn't reached goes
@@ -182,8 +169,3 @@ recovery_ends disk ps now chain seen parts kept new rs walk s r fits last alike 
     alike_through (x ∷ xs) [] zs h k = absurd h
     alike_through (x ∷ xs) (y ∷ ys) [] h k = absurd k
     alike_through (x ∷ xs) (y ∷ ys) (z ∷ zs) h k = (k.0 ∙ h.0, k.1 ∙ h.1, alike_through xs ys zs h.2 k.2)
-
--- on each disk in between the tree is the one from before
-pub recovery_leaves : (disk : Disk) (ps : List Pair) (now : Disk) (chain seen todo : List Pair) (parts waits : List (List Pair)) (kept : List Pair) (after : Tree)
-    → IsRecovering disk ps now chain seen todo parts waits kept → IsLeftByStop now (tree_in disk ps) after
-recovery_leaves disk ps now chain seen todo parts waits kept after r = taken_before disk ps now (chain ++ (kept ++ joined_parts waits)) (λ d. d) after r.taken

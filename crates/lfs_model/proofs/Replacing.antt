@@ -19,7 +19,7 @@ use Rattle.lfs_model.proofs.Sites.{IsLedTo}
 use Rattle.lfs_model.proofs.Moves.{AllReached, AllReachedBut}
 use Rattle.lfs_model.proofs.Renames.{rename_walk}
 use Rattle.lfs_model.proofs.Committed.{no_move_from}
-use Rattle.lfs_model.proofs.StepsTaken.{IsTaken, taken_then, taken_after}
+use Rattle.lfs_model.proofs.StepsTaken.{IsTaken, taken_then}
 use Rattle.lfs_model.proofs.Unthreaded.{IsReady, unthread}
 use Rattle.lfs_model.proofs.RmdirSteps.{IsGone}
 
@@ -72,10 +72,6 @@ module _ (disk middle new : Disk) (ps : List Pair) (old_path new_path : Path) (d
     (address : same_pair o.at d ≡ true) (alone : is_hard o.content.tail ≡ false) (gone : IsGone middle new chain front x o y back) where
   abbrev qs : List Pair
   qs = chain ++ (front ++ x ∷ o ∷ back)
-
-  -- between the steps the tree is the new one already
-  pub replacing_between : (before : Tree) → IsLeftByStop middle before (renamed old_path new_path (tree_in disk ps))
-  replacing_between before = taken_after disk ps middle qs (renamed old_path new_path) (rename_walk old_path new_path) before first
 
   but_o : AllReachedBut (chain ++ (front ++ x ∷ o ∷ back)) o.at
   but_o = every (λ z. IsReached qs z ⊎ (same_pair z o.at ≡ true)) (All-from_recursion (λ (z : ThreadDirectory). IsReached qs z.at ⊎ (same_pair z.at o.at ≡ true)) (directories_in ps)

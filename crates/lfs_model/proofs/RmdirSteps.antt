@@ -26,7 +26,7 @@ use Rattle.lfs_model.proofs.Superblocks.{IsChain}
 use Rattle.lfs_model.proofs.Changes.{Follows, chain_now}
 use Rattle.lfs_model.proofs.Sites.{Site, dirs_at, thread_at, begin_of}
 use Rattle.lfs_model.proofs.Splices.{IsDevice, splice_change}
-use Rattle.lfs_model.proofs.Moves.{IsStep, AllReachedBut, place_at, shown_before, shown_behind, entry_only, get_here, goes_from, directory_goes, directory_goes_reached, directory_goes_unled}
+use Rattle.lfs_model.proofs.Moves.{IsStep, AllReachedBut, place_at, goes_from, directory_goes, directory_goes_reached, directory_goes_unled}
 use Rattle.lfs_model.proofs.Beside.{last_site}
 use Rattle.lfs_model.proofs.Became.{fits_same}
 use Rattle.lfs_model.proofs.Writable.{IsWithin, flag}
@@ -37,8 +37,8 @@ use Rattle.lfs_model.proofs.OneCommit.{slot_there}
 use Rattle.lfs_model.proofs.Committed.{IsCompleted, recovered_from, no_move_from}
 use Rattle.lfs_model.proofs.TwoPlaces.{two, fits_fewer}
 use Rattle.lfs_model.proofs.RemovedDirectory.{IsRmdir, rmdir_completed, onward_append}
-use Rattle.lfs_model.proofs.Drops.{softened, IsStepDrop, directory_goes_beside, own_entries}
-use Rattle.lfs_model.proofs.StepsTaken.{IsTaken, taken_then, taken_after, within_at, fit_spliced}
+use Rattle.lfs_model.proofs.Drops.{softened, IsStepDrop, directory_goes_beside}
+use Rattle.lfs_model.proofs.StepsTaken.{IsTaken, taken_then, within_at, fit_spliced}
 use Rattle.lfs_model.proofs.Unthreaded.{Unthreads, unthread}
 use Rattle.lfs_model.proofs.Searches.{avoids_front, avoids_behind}
 
@@ -74,10 +74,6 @@ module _ (disk middle new : Disk) (w : Site) (p : Pair) (mids : List Pair) (q : 
 
   first : IsTaken disk (thread_at w (p ∷ mids)) middle (thread_at w (q ∷ [])) (removed (P ++ u.name ∷ [])) (planted (P ++ u.name ∷ []) (λ t. None))
   first = record { follows = directory_goes disk middle w p mids q [] [] [] l r u step other P a leads same d branch empty sync; writable = writable }
-
-  -- between the steps the tree is the new one already
-  pub rmdir_between : (old_tree : Tree) → IsLeftByStop middle old_tree (removed (P ++ u.name ∷ []) (tree_in disk (thread_at w (p ∷ mids))))
-  rmdir_between old_tree = taken_after disk ps middle (thread_at w (q ∷ [])) (removed (P ++ u.name ∷ [])) (planted (P ++ u.name ∷ []) (λ t. None)) old_tree first
 
   thread_is : thread_at w (q ∷ []) ≡ w.chain ++ (front ++ x ∷ o ∷ back)
   thread_is = ap (λ z. w.chain ++ z) there
@@ -288,38 +284,3 @@ module _ (disk new : Disk) (chain before left after : List Pair) (p o q : Pair) 
       soft_tail : (t : Option Tail) → is_hard (softened t) ≡ false
       soft_tail None = refl
       soft_tail (Some t) = refl
-
-  distinct3 : IsDistinct nat_eq (blocks_of ((chain ++ ((before ++ left) ++ p ∷ [])) ++ o ∷ after))
-  distinct3 = subst (λ z. IsDistinct nat_eq (blocks_of z)) (ap (λ z. chain ++ z) (sym (append_assoc (before ++ left) (p ∷ []) (o ∷ after))) ∙ sym (append_assoc chain ((before ++ left) ++ p ∷ []) (o ∷ after))) step.accepted.thread.distinct
-
-  made3 : IsRmdir disk new (thread_at (last_site chain before left after) (q ∷ [])) true chain (before ++ left) [] after p o (q ∷ []) l u r d (P ++ u.name ∷ [])
-  made3 = record {
-    is_chain = step.is_chain;
-    accepted = step.accepted;
-    writable = old_writable;
-    settled = settled;
-    still = still;
-    walk = planted (P ++ u.name ∷ []) (λ t. None);
-    follows = follows;
-    still_writable = still_writable;
-    held = held;
-    branch = branch;
-    alike_address = address;
-    soft = alone;
-    begins = soft_end None (before ++ left) p soft;
-    apart =
-        let ahead_of = each_right (λ (z : Pair). same_pair z.at d ≡ false) chain ((before ++ left) ++ p ∷ []) (avoids_front (chain ++ ((before ++ left) ++ p ∷ [])) o after d distinct3 address) in
-        each_append (λ (z : Pair). same_pair z.at d ≡ false) (before ++ left) (p ∷ after) (each_left (λ (z : Pair). same_pair z.at d ≡ false) (before ++ left) (p ∷ []) ahead_of)
-        ((each_right (λ (z : Pair). same_pair z.at d ≡ false) (before ++ left) (p ∷ []) ahead_of).0, avoids_behind (chain ++ ((before ++ left) ++ p ∷ [])) o after d distinct3 address);
-    stays = (step.shape.at, kept, some);
-    alike = alike_itself (thread_at (last_site chain before left after) (q ∷ []));
-    named = slot_there disk all P a (place_at (last_site chain before left after) l) u step.accepted leads
-        (ap (λ s. slice_get s (place_at (last_site chain before left after) l)) (own_entries disk new chain before left after p [] o q [] [] [] l (u ∷ []) [] r step a same
-        ∙ ap (λ s. shown_before (last_site chain before left after) l ++ (s ++ shown_behind (last_site chain before left after) r)) (entry_only u other))
-        ∙ get_here (shown_before (last_site chain before left after) l) (shown_behind (last_site chain before left after) r) u);
-  }
-
-  pub rmdir_in_one_completed : (s : Session) (path : List ℕ) → s.tree ≡ tree_in disk (thread_at (last_site chain before left after) (p ∷ ([] ++ o ∷ []))) → as_path path ≡ P ++ u.name ∷ []
-      → IsCompleted disk (thread_at (last_site chain before left after) (p ∷ ([] ++ o ∷ []))) s (ops.Remove path) new (thread_at (last_site chain before left after) (q ∷ []))
-  rmdir_in_one_completed s path tree is =
-      rmdir_completed disk new (thread_at (last_site chain before left after) (q ∷ [])) true chain (before ++ left) [] after p o (q ∷ []) l u r d (P ++ u.name ∷ []) made3 s path tree is

@@ -8,8 +8,7 @@ use Rattle.lfs_model.specs.Disk.{Disk, block_at}
 use Rattle.lfs_model.specs.Log.{log_entries}
 use Rattle.lfs_model.specs.Content.{holder, holder_at, raw_at, content_at, content_after_all, no_content}
 use Rattle.lfs_model.specs.SkipLists.{blocks_for, blocks_back, AreListBlocks, IsList, bytes_of}
-use Rattle.lfs_model.proofs.Devices.{content_same}
-use Rattle.lfs_model.proofs.Files.{Same, back_same, chain_same, list_same, bytes_same}
+use Rattle.lfs_model.proofs.Files.{Same, list_same, bytes_same}
 
 -- ---- at an address
 
@@ -32,9 +31,6 @@ holder_same {at} {disk} {new} same = ap₂ holder same.first same.second
 pub raw_same : {at : ℕ × ℕ} {disk new : Disk} → IsSameAt disk new at → raw_at new at ≡ raw_at disk at
 raw_same same = ap (option_and_then (λ block. content_after_all no_content (log_entries block))) (holder_same same)
 
-pub content_stays : {at : ℕ × ℕ} {disk new : Disk} → IsSameAt disk new at → content_at new at ≡ content_at disk at
-content_stays {at} {disk} {new} same = content_same disk new at same.first same.second
-
 -- with other blocks changed
 pub holder_at-stays : {at : ℕ × ℕ} {bs : List ℕ} (disk : Disk) {blocks : Blocks} → AreElsewhere at bs → SameButThese bs disk.blocks blocks
     → holder_at (record disk { blocks = blocks }) at ≡ holder_at disk at
@@ -43,10 +39,6 @@ holder_at-stays disk {blocks} elsewhere same = holder_same (same_elsewhere disk 
 pub raw_at-stays : {at : ℕ × ℕ} {bs : List ℕ} (disk : Disk) {blocks : Blocks} → AreElsewhere at bs → SameButThese bs disk.blocks blocks
     → raw_at (record disk { blocks = blocks }) at ≡ raw_at disk at
 raw_at-stays disk {blocks} elsewhere same = raw_same (same_elsewhere disk (record disk { blocks = blocks }) elsewhere same)
-
-pub content_at-stays : {at : ℕ × ℕ} {bs : List ℕ} (disk : Disk) {blocks : Blocks} → AreElsewhere at bs → SameButThese bs disk.blocks blocks
-    → content_at (record disk { blocks = blocks }) at ≡ content_at disk at
-content_at-stays disk {blocks} elsewhere same = content_stays (same_elsewhere disk (record disk { blocks = blocks }) elsewhere same)
 
 -- ---- a list
 
@@ -58,12 +50,6 @@ pub same_apart : (own : List ℕ) {bs : List ℕ} (old new : Blocks) → AreApar
 same_apart own old new apart same = recursion_from_All (λ b. block_in new b ≡ block_in old b) own (λ k x l. same.others (get_or own k x) (apart k x l))
 
 module _ (old new : Blocks) (bs : List ℕ) (same : SameButThese bs old new) where
-  pub back-stays : (count head : ℕ) → AreApart (blocks_back old count head) bs → blocks_back new count head ≡ blocks_back old count head
-  back-stays count head apart = back_same old new count head (same_apart (blocks_back old count head) old new apart same)
-
-  pub chain-stays : (count head : ℕ) → AreApart (blocks_back old count head) bs → AreListBlocks old count head → AreListBlocks new count head
-  chain-stays count head apart ok = chain_same old new count head same.count (same_apart (blocks_back old count head) old new apart same) ok
-
   pub list-stays : (block_size head size : ℕ) → AreApart (blocks_back old (blocks_for block_size size) head) bs → IsList old block_size head size → IsList new block_size head size
   list-stays block_size head size apart ok = list_same old new block_size head size same.count (same_apart (blocks_back old (blocks_for block_size size) head) old new apart same) ok
 

@@ -41,9 +41,6 @@ taken_then a b c ps qs rs f g v w parts first second = record { follows = follow
 pub taken_before : (disk : Disk) (ps : List Pair) (new : Disk) (qs : List Pair) (walk : Walk → Walk) (after : Tree) → IsTaken disk ps new qs (λ t. t) walk → IsLeftByStop new (tree_in disk ps) after
 taken_before disk ps new qs walk after step = record { pairs = qs; accepted = step.follows.accepted; writable = step.writable; tree = inl step.follows.shows }
 
-pub taken_after : (disk : Disk) (ps : List Pair) (new : Disk) (qs : List Pair) (change : Tree → Tree) (walk : Walk → Walk) (before : Tree) → IsTaken disk ps new qs change walk → IsLeftByStop new before (change (tree_in disk ps))
-taken_after disk ps new qs change walk before step = record { pairs = qs; accepted = step.follows.accepted; writable = step.writable; tree = inr step.follows.shows }
-
 -- ---- the profile of a pair that changes
 
 -- the pair of a site keeps to the profile

@@ -55,6 +55,3 @@ torn = small_commit ++ take 10 second ++ replicate 886 0xff
 torn_log : log_of torn ≡ log_of first
 unfolding chain_of chain_within commit_within entry_at closes crc_of next_bits
 torn_log = refl
-
-pub torn_left : Stops (event (Program 0 128 second) (first ∷ []) (torn ∷ []) true) (torn ∷ [])
-torn_left = (record { count = refl; size = refl; others = λ other d. get_or-set_other (first ∷ []) 0 other torn [] d }, inl torn_log)

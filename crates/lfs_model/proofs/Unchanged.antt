@@ -14,7 +14,6 @@ use Rattle.lfs_model.specs.SlotEdits.{slot_of_path}
 use Rattle.lfs_model.proofs.LeftFiles.{stays_same}
 use Rattle.lfs_model.proofs.Changes.{Follows, SameFiles, rearranged_follows, owned_same}
 use Rattle.lfs_model.proofs.Files.{HasSameFile, is_list_same}
-use Rattle.lfs_model.proofs.Global.{gstate_append, gstate_cons}
 use Rattle.lfs_model.proofs.Splices.{IsDevice}
 use Rattle.lfs_model.proofs.Superblocks.{IsChain, meets_first, meets_from}
 use Rattle.lfs_model.proofs.Uses.{accepted_sound}
@@ -43,13 +42,6 @@ pub accepted_first : (disk : Disk) (ps : List Pair) (p : Pair) (rest : List Pair
 accepted_first disk ps p rest ok is = record { kind = meets_first ps p rest is (meets_from ps ok.root); name = ap first_name (sym is) ∙ ok.named }
 
 -- ---- the global state
-
--- a pair that becomes another with the same delta leaves it
-pub state_same : (front : List Pair) (p q : Pair) (back : List Pair) → q.content.move ≡ p.content.move → gstate_of (front ++ q ∷ back) ≡ gstate_of (front ++ p ∷ back)
-state_same front p q back move =
-    gstate_append front (q ∷ back)
-    ∙ ap (λ z. gstate_xor (gstate_of front) z) (gstate_cons q back ∙ ap (λ m. gstate_xor m (gstate_of back)) move ∙ sym (gstate_cons p back))
-    ∙ sym (gstate_append front (p ∷ back))
 
 -- ---- nothing came of it
 

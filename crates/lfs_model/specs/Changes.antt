@@ -62,7 +62,3 @@ is_storable (PutMove state) = nat_lt state.kind (2 ^ 11) && (nat_lt state.id (2 
 -- What the changes make of the content, in order; none where one can't be stored, or isn't allowed in the log.
 abbrev pub changed_by : RawContent → List Change → Option RawContent
 changed_by c changes = if list_all is_storable changes then content_after_all c (entries_of_changes changes) else None
-
--- the same, where each slot then has a name and a struct
-abbrev pub content_by : RawContent → List Change → Option Content
-content_by c changes = option_and_then completed (changed_by c changes)

@@ -332,13 +332,6 @@ module _ (disk : Disk) (history : List Event) (hs : List Header) (has : HasHeade
   abbrev ps : List Pair
   ps = pairs_on disk hs
 
-  pub some_header : 1 ≤ length hs
-  some_header = go hs has.thread
-    where
-      go : (xs : List Header) → IsThread (content_at disk) (block_count disk) (pairs_on disk xs) → 1 ≤ length xs
-      go [] t = absurd (let wrong : Some anchor ≡ None = t.links in cc)
-      go (x ∷ xs) t = omega arith
-
   -- ---- one step
 
   leads_seen : (h : Header) → IsSeen disk h → leads_on h ≡ ((length (pair_of disk h).content.slots == 0 || length (pair_of disk h).content.slots == 1) && is_hard (pair_of disk h).content.tail)

@@ -14,13 +14,5 @@ ends = record { at = (2, 3); content = record { slots = []; tail = Some (record 
 abbrev behind : Pair
 behind = record { at = (4, 5); content = record { slots = []; tail = Some (record { hard = false; to = (6, 7) }); move = no_gstate } }
 
--- the first directory's last pair is that of number 1
-last_of_first : IsLastFrom (goes_on ∷ ends ∷ behind ∷ []) 0 1
-last_of_first = record { below = omega arith; is = refl }
-
--- and the second one's only pair is its last
-last_of_second : IsLastFrom (goes_on ∷ ends ∷ behind ∷ []) 2 2
-last_of_second = record { below = omega arith; is = refl }
-
 room : HasRoomFor 4 (Used ∷ Free ∷ Free ∷ InFlight ∷ Free ∷ Free ∷ [])
 room = omega arith

@@ -200,33 +200,6 @@ reports_after_read old mid new index changes r only same h = record {
     go (inl e) = inl e
     go (inr (e, o)) = inr (e, only_then old.kept mid.kept new.kept only o)
 
--- the slot couldn't be read
-pub reports_unread : {X Y : Type 0} (old new : State) (index : ℕ) (changes : List Change) (e : Error) (result : Result X Error) (given : Result Y Error) → result ≡ Err e → given ≡ Err e
-    → new.failed ≡ false → IsOnlyRead old.kept new.kept → HasReported old.kept new.kept result → ReportsInSteps old new index changes given
-reports_unread old new index changes e result given is same works only reported = record {
-  failed = inr (works, only);
-  errors = subst (λ r. IfErr r (λ x. (x ≡ Io) ⊎ ((x ≡ NoMemory) ⊎ (x ≡ NoSpace)))) (sym same) (wider one);
-  fault = λ io. reported.fault (is ∙ ap Err (same_err e Io given same io));
-  no_fault = λ other. reported.no_fault (λ io. other (same ∙ ap Err (same_err e Io result is io)));
-  unchanged = λ none. only;
-  no_space = λ none. absurd (not_space one (same_err e NoSpace given same none));
-  too_large = λ none. absurd (not_space one (same_err e NoSpace given same none));
-}
-  where
-    one : (e ≡ Io) ⊎ (e ≡ NoMemory)
-    one = subst (λ r. IfErr r (λ x. (x ≡ Io) ⊎ (x ≡ NoMemory))) is reported.errors
-
-    same_err : {A : Type 0} (a b : Error) (r : Result A Error) → r ≡ Err a → r ≡ Err b → a ≡ b
-    same_err a b r h k = cc
-
-    wider : (e ≡ Io) ⊎ (e ≡ NoMemory) → (e ≡ Io) ⊎ ((e ≡ NoMemory) ⊎ (e ≡ NoSpace))
-    wider (inl a) = inl a
-    wider (inr b) = inr (inl b)
-
-    not_space : (e ≡ Io) ⊎ (e ≡ NoMemory) → e ≡ NoSpace → ⊥
-    not_space (inl a) k = absurd (cc)
-    not_space (inr b) k = absurd (cc)
-
 -- no room for the changes
 pub reports_unmade : {Y : Type 0} (old new : State) (index : ℕ) (changes : List Change) (given : Result Y Error) → given ≡ Err NoMemory → new.failed ≡ false → IsOnlyRead old.kept new.kept
     → faults new.kept.history ≡ faults old.kept.history → ReportsInSteps old new index changes given

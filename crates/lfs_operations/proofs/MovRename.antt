@@ -230,14 +230,6 @@ module _ (t : Kept) (old_pair old_id first new_pair new_id : ℕ) (name : Name) 
   pub can_put_across : CanPut t new_pair (moving_changes t old_pair old_id new_pair new_id name)
   can_put_across = can_put false t old_pair old_id new_pair can address rename.to_first p (b.later ++ b.rest) b.place rename.logged [] b.left b.right leaves fits_left new_id b.number name rename.is_name rename.fits
 
-  pub has_slot_across : HasSlot t old_pair old_id
-  has_slot_across =
-      let e = ap (λ (z : Pair). length z.content.slots) (here t can.ready can.first old_pair q can.stands.rest can.stands.place) in
-      let h = ap length can.stands.stands.held in
-      let k = length-append lo (s ∷ ro) in
-      let n = can.stands.stands.number in
-      record { below = below t can.ready can.first old_pair q can.stands.rest can.stands.place; there = omega arith }
-
   entry : IsEntry s
   entry =
       let here = each_pair t can.ready can.first old_pair q can.stands.rest can.stands.place (λ x. Each IsEntryIfOther x.content.slots) (other_entries t.disk t.pairs can.ready.accepted) in

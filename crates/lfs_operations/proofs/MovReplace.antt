@@ -38,7 +38,7 @@ use Rattle.lfs_operations.specs.Dropping.{HasShrunk}
 use Rattle.lfs_operations.specs.Ready.{IsLoggedAt}
 use Rattle.lfs_operations.specs.Removing.{goes_whole}
 use Rattle.lfs_operations.specs.RenamingSlots.{HasSlot}
-use Rattle.lfs_operations.proofs.Held.{IsEntryIfOther, below, each_pair, fits_there, here, other_entries}
+use Rattle.lfs_operations.proofs.Held.{IsEntryIfOther, each_pair, fits_there, here, other_entries}
 use Rattle.lfs_operations.proofs.MovSet.{HasTurned, IsSetting, chain_same, set_onto, walk_by}
 use Rattle.lfs_operations.proofs.MovStep.{IsFirst, first_survives, first_turned, grown, mid_ends, mid_shows, rename_becomes, rename_completed, rename_once, same_at}
 use Rattle.lfs_operations.proofs.MovTurned.{IsTurn}
@@ -161,14 +161,6 @@ module _ (sync : Bool) (t : Kept) (old_pair old_id first new_pair new_id : ℕ) 
 
   pub can_put_onto : CanPut t new_pair (onto_changes sync t old_pair old_id new_pair new_id name)
   can_put_onto = can_put sync t old_pair old_id new_pair can address rename.to_first p b.rest b.place rename.logged (Delete new_id ∷ []) l r leaves fits_left new_id b.stands.number name is_named rename.fits
-
-  pub has_slot_onto : HasSlot t old_pair old_id
-  has_slot_onto =
-      let e = ap (λ (z : Pair). length z.content.slots) (here t can.ready can.first old_pair q can.stands.rest can.stands.place) in
-      let h = ap length can.stands.stands.held in
-      let k = length-append lo (s ∷ ro) in
-      let n = can.stands.stands.number in
-      record { below = below t can.ready can.first old_pair q can.stands.rest can.stands.place; there = omega arith }
 
   entry : IsEntry s
   entry =

@@ -24,17 +24,6 @@ use Rattle.lfs_operations.specs.MoveEnds.{end_at, is_led}
 use Rattle.lfs_operations.specs.MovingSteps.{EndsAfter, SurvivesBoth, ReportsInSteps, WritesInTwo, place_after}
 use Rattle.lfs_operations.specs.Removing.{ReportsOfCalls}
 
-pub reports_of_put : {X : Type 0} (old new : State) (index : ℕ) (changes : List Change) (r : Result X Error) → ReportsPut old new index changes r → ReportsInSteps old new index changes r
-reports_of_put old new index changes r h = record {
-  failed = inl h.reports.failed;
-  errors = h.reports.reports.errors;
-  fault = h.reports.reports.fault;
-  no_fault = h.reports.reports.no_fault;
-  unchanged = h.reports.reports.unchanged;
-  no_space = h.reports.reports.no_space;
-  too_large = h.too_large;
-}
-
 failing : (e : Error) → (e ≡ Io) ⊎ (e ≡ NoMemory) → has_failed {X = Unit {0}} (Err e) ≡ true
 failing e (inl io) = ap (λ z. has_failed {X = Unit {0}} (Err z)) io
 failing e (inr memory) = ap (λ z. has_failed {X = Unit {0}} (Err z)) memory
@@ -267,9 +256,6 @@ writes_at_end old mid new old_pair old_id true new_pair changes put below ends f
     writes_in_front old mid new old_pair new_pair changes put below ends.apart (not_first mid.pairs (place_after old_pair new_pair (length mid.pairs - length old.pairs)) (ends.can.alone refl).0) first second
 
 -- ---- at a stop
-
-pub survives_first : (old mid : Kept) (index : ℕ) (changes : List Change) → StopsLeave old.history mid.history (IsLeftByPut old index changes) → SurvivesBoth old index changes mid
-survives_first old mid index changes stops before after first shows = first mid.history stops
 
 same_disk : (old new : Disk) (blocks : Blocks) → HasShape old new → with_blocks blocks new ≡ with_blocks blocks old
 same_disk old new blocks h = λ j. record { block_size = h.block_size j; page = h.page j; order = h.order j; blocks = blocks }

@@ -143,9 +143,6 @@ module _ (t : Kept) (h : List Event) (reads : OnlyReads t.disk.blocks t.history 
   abbrev later : Kept
   later = with_history t h
 
-  pub can_later : CanPut t index changes → CanPut later index changes
-  can_later k = record { can = record { below = k.can.below; content = k.can.content; made = k.can.made; next = k.can.next }; raw = k.raw; made = k.made; cut = k.cut }
-
   parts_earlier : {content : Content} {cut : ℕ} {fresh : ℕ × ℕ} {disk : Disk} → ArePartsOf later index content cut fresh disk → ArePartsOf t index content cut fresh disk
   parts_earlier p = record { front_fits = p.front_fits; back_fits = p.back_fits; inside = p.inside; first = p.first }
 

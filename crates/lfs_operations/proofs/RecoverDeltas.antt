@@ -84,9 +84,6 @@ xor_fits a b h k = record { kind = xor_lt 11 a.kind b.kind h.kind k.kind; id = x
 pub none_fits : FitsFields no_gstate
 none_fits = record { kind = omega arith; id = omega arith }
 
-abbrev PairFits : Pair → Type 0
-PairFits p = FitsFields p.content.move
-
 content_fits : (disk : Disk) (at : ℕ × ℕ) (c : Content) → content_at disk at ≡ Some c → FitsFields c.move
 content_fits disk at c is =
     let k = completes_to (raw_at disk at) c is in

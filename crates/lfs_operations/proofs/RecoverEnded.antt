@@ -12,7 +12,6 @@ use Rattle.lfs_model.specs.Shown.{tree_in, used_blocks}
 use Rattle.lfs_model.proofs.Counts.{count, once_from_distinct}
 use Rattle.lfs_model.proofs.Global.{HasNoMove}
 use Rattle.lfs_model.proofs.Histories.{LeavesOnly-weaker}
-use Rattle.lfs_model.proofs.Changes.{follows_itself}
 use Rattle.lfs_model.proofs.StepsTaken.{IsTaken}
 use Rattle.lfs_thread.specs.Device.{StopsLeave}
 use Rattle.lfs_thread.specs.Kept.{Kept}
@@ -104,16 +103,3 @@ module _ (t : Kept) (can : CanEndMove t) (index : ℕ) (m : IsMovedAt t index) w
     pub survives_goes : IsAddress (takes_delta t (index - 1) index g).pair → IsAddressIfSome (target_of (pair_in t index).content.tail) → (new : List Event)
         → StopsLeave t.history new (IsLeftByChange t (index - 1) (taking_over t (index - 1) index g)) → Survives t.disk t.history new (tree_in t.disk t.pairs) (tree_in t.disk t.pairs)
     survives_goes address words new stops clean = LeavesOnly-weaker (λ left x. goes_left t can index m alone can_over address words left x) (stops clean)
-
--- no move was set
-pub ended_already : (t : Kept) → CanEndMove t → HasNoMove (gstate_of t.pairs) → HasEndedMove t t
-ended_already t can none = record {
-  taken = record { follows = follows_itself t.disk t.pairs can.accepted; writable = can.writable };
-  none = none;
-  used = can.used;
-  size = can.size;
-  fewer = λ b. omega arith;
-  flying = λ b. ((λ flies. flies), (λ flies. flies));
-  root = refl;
-  leads_on = λ s disk qs laid_out. laid_out;
-}

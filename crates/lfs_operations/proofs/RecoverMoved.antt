@@ -20,10 +20,6 @@ use Rattle.lfs_operations.specs.EndingMove.{IsMovedAt}
 
 -- ---- no move, or one that names a slot
 
-pub unset_none : (ps : List Pair) → IsMove ps (gstate_of ps) → ((gstate_of ps).kind ≡ set_move → ⊥) → HasNoMove (gstate_of ps)
-unset_none ps (inl h) n = record { kind = h.0; id = h.1; pair = h.2 }
-unset_none ps (inr h) n = absurd (n h.0)
-
 named : (ps : List Pair) → IsMove ps (gstate_of ps) → (gstate_of ps).kind ≡ set_move → NamesSlot ps (gstate_of ps).pair (gstate_of ps).id
 named ps (inl h) e = absurd (let k : no_move ≡ set_move = sym h.0 ∙ e in omega arith)
 named ps (inr h) e = h.1

@@ -57,9 +57,6 @@ module _ (t : Kept) (chain front : List Pair) (p : Pair) (back : List Pair) (ind
   pub here_is : pair_in t index ≡ p
   here_is = ap₂ (λ (z : List Pair) (i : ℕ). get_or z i no_pair) grouped counted ∙ get_here (chain ++ front) p back no_pair
 
-  pub here_below : index < length t.pairs
-  here_below = let e = ap length grouped in let l = length-append (chain ++ front) (p ∷ back) in let c = counted in omega arith
-
   -- with another content
   pub with_is : (c : Content) → with_pair t index c ≡ chain ++ (front ++ record { at = p.at; content = c } ∷ back)
   with_is c =

@@ -75,22 +75,6 @@ moves_unread old new index changes e result given is same works only reported =
         go (inl a) = absurd (cc)
         go (inr b) = absurd (cc)
 
--- memory was lacking after it was read
-pub moves_unmade : {Y : Type 0} (old new : State) (index : ℕ) (changes : List Change) (given : Result Y Error) → given ≡ Err NoMemory
-    → new.failed ≡ false → IsOnlyRead old.kept new.kept → faults new.kept.history ≡ faults old.kept.history → ReportsMove old new index changes given
-moves_unmade old new index changes given is works only same = record {
-  failed = inr (works, only);
-  reports = record {
-    errors = subst (λ r. IfErr r (λ x. (x ≡ Io) ⊎ ((x ≡ NoMemory) ⊎ (x ≡ NoSpace)))) (sym is) (inr (inl refl));
-    fault = λ io. absurd (let z = sym is ∙ io in cc);
-    no_fault = λ other. same;
-    unwritten = λ none. record { disk = only.disk; reads = only.reads };
-    unchanged = λ none. only;
-    no_space = λ none. absurd (let z = sym is ∙ none in cc);
-  };
-  too_large = λ none. absurd (let z = sym is ∙ none in cc);
-}
-
 -- ---- changed or split then
 
 pub written_earlier : (t : Kept) (h : List Event) (index : ℕ) (content : Content) (disk : Disk) → IsWrittenAs (with_history t h) index content disk → IsWrittenAs t index content disk

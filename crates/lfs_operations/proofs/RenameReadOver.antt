@@ -90,17 +90,6 @@ pub over_unread : {X Y : Type 0} (old new : State) (e : Error) (result : Result 
     → HasReported old.kept new.kept result → ReportsOver old new given
 over_unread old new e result given is same works only reported = record { failed = inr (works, only); reported = reported_again old.kept new.kept e result given is same reported }
 
-pub over_unmade : {Y : Type 0} (old new : State) (given : Result Y Error) → given ≡ Err NoMemory → new.failed ≡ false → IsOnlyRead old.kept new.kept → faults new.kept.history ≡ faults old.kept.history → ReportsOver old new given
-over_unmade old new given is works only same = record {
-  failed = inr (works, only);
-  reported = record {
-    errors = subst (λ r. IfErr r (λ x. (x ≡ Io) ⊎ (x ≡ NoMemory))) (sym is) (inr refl);
-    fault = λ io. absurd (let z = sym is ∙ io in cc);
-    no_fault = λ other. same;
-    unwritten = λ none. record { disk = only.disk; reads = only.reads };
-  };
-}
-
 later : {X : Type 0} (t : Kept) (h : List Event) (new : Kept) (result : Result X Error) → OnlyReads t.disk.blocks t.history h → faults h ≡ faults t.history → HasReported (with_history t h) new result → HasReported t new result
 later t h new result reads same reported = record {
   errors = reported.errors;

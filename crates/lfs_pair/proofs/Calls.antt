@@ -76,9 +76,6 @@ only_by_reads {g = g} {bs = bs} {old = old} reads = record {
   at_worst = LeavesOnly-reads AtWorst-read reads.reads (SameButThese-refl bs (g.blocks old));
 }
 
-pub only_none : {D : Type 0} {g : Ghosts D} {bs : List ℕ} {d : D} → ChangesOnly g bs d d
-only_none = only_by_reads reads_none
-
 pub only_trans : {D : Type 0} {g : Ghosts D} {bs : List ℕ} {old mid new : D} → ChangesOnly g bs old mid → ChangesOnly g bs mid new → ChangesOnly g bs old new
 only_trans first second = record {
   others = SameButThese-trans first.others second.others;
@@ -115,9 +112,6 @@ reading_trans first second = record {
 -- one read, where more are allowed
 pub reading_by_read : {D : Type 0} {g : Ghosts D} {n : ℕ} {bs : List ℕ} {old new : D} → ReadsOnly g old new → reads (g.history new) ≤ reads (g.history old) + 1 → 1 ≤ n → ChangesReading g n bs old new
 reading_by_read read few some = record { only = only_by_reads read; few = omega (arith, few, some) }
-
-pub reading_none : {D : Type 0} {g : Ghosts D} {n : ℕ} {bs : List ℕ} {d : D} → ChangesReading g n bs d d
-reading_none = record { only = only_none; few = omega arith }
 
 -- one read
 pub few_by_read : {old new : List Event} {before after : Blocks} {b off len : ℕ} {failed : Bool} → new ≡ event (Read b off len) before after failed ∷ old → reads new ≤ reads old + 1

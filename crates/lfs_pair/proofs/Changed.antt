@@ -36,13 +36,6 @@ changed_content held new changes h = go (list_all is_storable changes) refl
     go true e = sym (ap (λ s. cond s (content_after_all held (entries_of_changes changes)) None) e) ∙ h
     go false e = absurd (let none : None ≡ Some new = sym (ap (λ s. cond s (content_after_all held (entries_of_changes changes)) None) e) ∙ h in cc)
 
-pub changed_storable : (held new : RawContent) (changes : List Change) → changed_by held changes ≡ Some new → list_all is_storable changes ≡ true
-changed_storable held new changes h = go (list_all is_storable changes) refl
-  where
-    go : (s : Bool) → list_all is_storable changes ≡ s → list_all is_storable changes ≡ true
-    go true e = e
-    go false e = absurd (let none : None ≡ Some new = sym (ap (λ s. cond s (content_after_all held (entries_of_changes changes)) None) e) ∙ h in cc)
-
 -- ---- a commit behind others
 
 pub gets_content : (b : Building) (held new : RawContent) (old left : List ℕ) → b.revision ≡ None

@@ -40,17 +40,7 @@ held_commit disk at active holds = holder_has (block_at disk at.0) (block_at dis
 pub raw_held : (disk : Disk) (at : ℕ × ℕ) (active : ℕ) → holder_at disk at ≡ Some (block_at disk active) → raw_at disk at ≡ content_after_all no_content (log_entries (block_at disk active))
 raw_held disk at active holds = ap (option_and_then (λ block. content_after_all no_content (log_entries block))) holds
 
--- where neither has a commit, none holds
-pub holder_none : (a b : List ℕ) → has_commit a ≡ false → has_commit b ≡ false → holder a b ≡ None
-holder_none a b e f = ap₂ (λ x y. cond (not x) (cond y (Some b) None) (cond (y && is_later (revision_of a) (revision_of b)) (Some b) (Some a))) e f
-
 -- ---- a commit behind others
-
-pub second_holds-first_grows : (a b new : List ℕ) → has_commit a ≡ true → has_commit new ≡ true → revision_of new ≡ revision_of a → second_holds new b ≡ second_holds a b
-second_holds-first_grows a b new e f r = rw (e, f, r) refl
-
-pub second_holds-second_grows : (a b new : List ℕ) → has_commit b ≡ true → has_commit new ≡ true → revision_of new ≡ revision_of b → second_holds a new ≡ second_holds a b
-second_holds-second_grows a b new e f r = rw (e, f, r) refl
 
 -- ---- a first commit in the other block, with the next revision
 

@@ -72,6 +72,3 @@ IsPair-reads {pair = pair} reads is = record {
   whole_pages = is.whole_pages;
   unprogrammed = λ written. AllUnprogrammed-reads pair.active reads (is.unprogrammed written);
 }
-
-pub NowHolds-reads : {blocks : Blocks} {disk : Disk} {before after : List Event} {at : ℕ × ℕ} {pair : Pair} {held : RawContent} → OnlyReads blocks before after → NowHolds disk before at pair held → NowHolds disk after at pair held
-NowHolds-reads reads holds = record { is_pair = IsPair-reads reads holds.is_pair; same = holds.same; content = holds.content; written = holds.written }

@@ -106,9 +106,6 @@ few_entries block small =
 
 -- ---- the first wanted one
 
-true_false : true ≡ false → ⊥
-true_false h = cc
-
 record FirstFrom (same : Bool) (skip : Option ℕ) (at : ℕ) (ranks : List Rank) (id : ℕ) : Type 0 where
   above : at ≤ id
   within : id ≤ at + length ranks

@@ -13,9 +13,6 @@ use Rattle.lfs_tag.specs.declared.summary.Mark.{Mark}
 use Rattle.lfs_tag.specs.Summary.{mark_of, mark_of_id, marked, marks_up_to, no_mark, is_whole, marks_after, Outline, outline_of, outline_after, outline_after_all, no_outline}
 use Rattle.lfs_tag.proofs.Places.{map-insert, map-remove}
 
-marks_of : List RawSlot → List Mark
-marks_of slots = map mark_of slots
-
 -- ---- one slot
 
 mark_at : (slots : List RawSlot) (i : ℕ) → mark_of_id (map mark_of slots) i ≡ mark_of (slot_of_id slots i)

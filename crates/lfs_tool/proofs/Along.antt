@@ -23,10 +23,6 @@ contents_more : (disk : Disk) (ps : List Pair) (p : Pair) → AllByRecursion (λ
 contents_more disk [] p all e = (e, tt)
 contents_more disk (q ∷ ps) p all e = (all.0, contents_more disk ps p all.1 e)
 
--- nothing is read yet
-pub held_none : (disk : Disk) → AreHeld disk (Some anchor) []
-held_none disk = record { pairs = []; begins = record { links = refl; contents = tt }; are = refl }
-
 -- the thread names what stands behind these pairs
 pub named_next : (disk : Disk) (at : ℕ × ℕ) (held : List HeldPair) → AreHeld disk (Some at) held → IsNamed disk at
 named_next disk at held h = (h.pairs, h.begins)

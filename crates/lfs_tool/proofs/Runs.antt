@@ -134,6 +134,3 @@ entry_more es i d a b c lt h k =
     let more : flat_map operations_of (take (i + 1) es) ≡ flat_map operations_of (take i es) ++ operations_of (get_or es i d) =
     ap (flat_map operations_of) (take_more es i d lt) ∙ flat_map-append operations_of (take i es) (get_or es i d ∷ []) ∙ ap (λ zs. flat_map operations_of (take i es) ++ zs) (append-nil (operations_of (get_or es i d))) in
     subst (λ xs. AreAllAccepted a xs c) (sym more) (carried_on (flat_map operations_of (take i es)) (operations_of (get_or es i d)) a b c h k)
-
-pub all_entries : (es : List SourceEntry) (i : ℕ) (a b : SystemState) → length es ≤ i → AreAllAccepted a (flat_map operations_of (take i es)) b → AreAllAccepted a (flat_map operations_of es) b
-all_entries es i a b h k = subst (λ xs. AreAllAccepted a (flat_map operations_of xs) b) (take_all i es h) k

@@ -109,14 +109,6 @@ bad_from (n ∷ ns) h e = go (is_component n) refl e
 pub bad_names : (xs : List Listed) → IsSortedBy comes_before xs → rise_behind [] (map name_in xs) ≡ false → AreBad (map name_in xs)
 bad_names xs h e = bad_from (map name_in xs) (never_fall xs h) e
 
--- one more name that is in order
-pub rise_more : (last : Name) (x : Listed) (xs : List Listed) → is_component x.name.items ≡ true → is_less (name_cmp ShorterFirst last x.name.items) ≡ true
-    → rise_behind last (map name_in (x ∷ xs)) ≡ rise_behind x.name.items (map name_in xs)
-rise_more last x xs c l = ap (λ b. b && is_less (name_cmp ShorterFirst last x.name.items) && rise_behind x.name.items (map name_in xs)) c ∙ ap (λ b. b && rise_behind x.name.items (map name_in xs)) l
-
-pub rise_ends : (last : Name) (x : Listed) (xs : List Listed) → (is_component x.name.items && is_less (name_cmp ShorterFirst last x.name.items)) ≡ false → rise_behind last (map name_in (x ∷ xs)) ≡ false
-rise_ends last x xs e = ap (λ b. b && rise_behind x.name.items (map name_in xs)) e
-
 -- ---- in another order
 
 same_times : (xs ys : List Listed) (name : Name) → IsPermutation xs ys → times name (map name_in ys) ≡ times name (map name_in xs)

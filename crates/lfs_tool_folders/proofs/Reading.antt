@@ -57,9 +57,6 @@ pub places_reversed : (folder : List ℕ) (xs ys : List Listed) → ys ≡ rever
 places_reversed folder xs ys e =
     ap (λ zs. places_in folder (map listed zs)) e ∙ ap (places_in folder) (map_reverse listed xs) ∙ map_reverse (λ (g : Name × Bool). (path_in folder g.0, g.1)) (map listed xs)
 
-pub places_more : (folder : List ℕ) (xs : List Listed) (x : Listed) → places_in folder (map listed (xs ++ x ∷ [])) ≡ places_in folder (map listed xs) ++ places_in folder (listed x ∷ [])
-places_more folder xs x = ap (places_in folder) (map-append listed xs (x ∷ [])) ∙ map-append (λ (g : Name × Bool). (path_in folder g.0, g.1)) (map listed xs) (listed x ∷ [])
-
 -- ---- entries in turn
 
 -- what is read at the places that wait ends the entries
@@ -127,10 +124,6 @@ folders_on (Some s) front p places bytes within h holds after =
     (each_append (LeadsHere s) front (reverse (places_in p.0 within)) (each_left (LeadsHere s) front (p ∷ []) h) (within_folders s p p.1 bytes within refl here.0 holds))
 
 -- ---- faults
-
-pub bad_top : (known : Option Source) → IfSome known (λ s. AreBad (given_names (s.names []))) → IfSome known HasBadNames
-bad_top None h = tt
-bad_top (Some s) h = ([], (([], refl), h))
 
 pub bad_below : (known now : Option Source) (front : List Place) (p : Place) → AreFolders known (front ++ p ∷ []) → Rests known now → p.1 ≡ true → IfSome now (λ s. AreBad (given_names (s.names p.0)))
     → IfSome known HasBadNames

@@ -81,18 +81,3 @@ module _ (thread : State) (root : ℕ) (writable : Bool) (now : TreeState) (kept
   -- what works and may be written, is seen so
   pub seen_working : now.failed ≡ false → now.writable ≡ true → bare now ≡ tree_state_of thread.kept true false
   seen_working e w = ap bare (sym view) ∙ ap₂ (λ a b. tree_state_of thread.kept a b) (ap (λ (s : TreeState). s.writable) view ∙ w) (works_held e)
-
-  -- an operation of the thread is one of what is seen
-  pub carried_working : now.failed ≡ false → now.writable ≡ true → (new : State) (op : Operation) → new.failed ≡ false → AppliesOn thread.kept op new.kept → IsAppliedOn now op (seen_thread new writable)
-  carried_working e w new op works c =
-      subst (λ a. IsAppliedOn now op (tree_state_of new.kept a new.failed)) (sym (ap (λ (s : TreeState). s.writable) view ∙ w))
-      (subst (λ b. IsAppliedOn now op (tree_state_of new.kept true b)) (sym works)
-      (subst (λ s. IsAppliedOn s op (tree_state_of new.kept true false)) (sym (seen_working e w)) c))
-
-  pub spares_working : now.failed ≡ false → now.writable ≡ true → (new : State) (op : Operation) → Spares thread.kept op new.kept → LeavesRest now op (seen_thread new writable)
-  spares_working e w new op c = subst (λ s. LeavesRest s op (seen_thread new writable)) (sym (seen_working e w)) c
-
-  -- and so is what a loss of power on its way leaves
-  pub survives_working : now.failed ≡ false → now.writable ≡ true → (new : List Event) (f : Tree → Tree) → Survives thread.kept.disk thread.kept.history new (tree_in thread.kept.disk thread.kept.pairs) (f (tree_in thread.kept.disk thread.kept.pairs)) →
-      Survives now.disk now.history new (tree_view now) (f (tree_view now))
-  survives_working e w new f k = subst (λ s. Survives s.disk s.history new (tree_view s) (f (tree_view s))) (sym (seen_working e w)) k

@@ -166,14 +166,6 @@ module _ (a b : State) (root : ℕ) (writable : Bool) (h : IsRooted a root writa
   all_over path contents bytes shape (Err e) over holds owned = tt
   all_over path contents bytes shape (Ok c) over holds owned = over_beside a.kept b.kept leaves sound.accepted sound.used path contents c bytes shape over holds owned
 
-pub bytes_after : (t : Kept) (bytes : List ℕ) (shape : Form) (r : Result Contents Error) → IfOk r (λ c. HoldsContents t c bytes shape) → IfOk r (λ c. bytes_held t c ≡ bytes)
-bytes_after t bytes shape (Ok c) h = bytes_of_held t c bytes shape h
-bytes_after t bytes shape (Err e) h = tt
-
-pub form_after : (t : Kept) (bytes : List ℕ) (shape : Form) (r : Result Contents Error) → IfOk r (λ c. HoldsContents t c bytes shape) → IfOk r (λ c. form_of c ≡ shape)
-form_after t bytes shape (Ok c) h = h.has.form
-form_after t bytes shape (Err e) h = tt
-
 -- ---- what is asked for, on the thread
 
 limit_short : (block_size limit : ℕ) → 1024 ≤ block_size → limit ≡ inline_limit block_size → limit < block_size

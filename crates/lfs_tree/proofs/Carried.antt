@@ -68,13 +68,6 @@ pair_blocks (p ∷ ps) (suc index) below =
     let q = slice_index_or ps index no_pair in
     (Contains-tail p.at.0 q.at.0 (p.at.1 ∷ blocks_of ps) (Contains-tail p.at.1 q.at.0 (blocks_of ps) k.0), Contains-tail p.at.0 q.at.1 (p.at.1 ∷ blocks_of ps) (Contains-tail p.at.1 q.at.1 (blocks_of ps) k.1))
 
--- the blocks of a pair are used
-pub pair_used : (t : Kept) (index : ℕ) → index < length t.pairs → AreUsed t.map (used_blocks t.disk t.pairs) → IsUsed t.map (pair_in t index).at.0 × IsUsed t.map (pair_in t index).at.1
-pair_used t index below used =
-    let k = pair_blocks t.pairs index below in
-    let p = pair_in t index in
-    ((used p.at.0).1 (in_left (blocks_of t.pairs) _ p.at.0 k.0), (used p.at.1).1 (in_left (blocks_of t.pairs) _ p.at.1 k.1))
-
 -- those of a pair, and some that are free
 pub among_one : (t : Kept) (index : ℕ) (fresh : List ℕ) → index < length t.pairs → AllByRecursion (IsFree t.map) fresh → AllByRecursion (IsPairsOrFree t) ((pair_in t index).at.0 ∷ (pair_in t index).at.1 ∷ fresh)
 among_one t index fresh below free = let k = pair_blocks t.pairs index below in (inl k.0, (inl k.1, each_weaker (IsFree t.map) (IsPairsOrFree t) (λ c f. inr f) fresh free))

@@ -224,9 +224,6 @@ steps_both old mid new x result given is t failed w =
       no_fault = λ other. w.no_fault other ∙ same;
     }
 
-reported_of_steps : {X : Type 0} (old new : State) (result : Result X Error) → ReportsOfSteps old new result → ReportsFaultsSince old.kept.history new.kept.history result
-reported_of_steps old new result t = record { errors = t.errors; fault = t.fault; no_fault = t.no_fault }
-
 -- ---- a loss of power on the way
 
 -- an entry of a path

@@ -57,9 +57,6 @@ no_room sets room none = not_none (λ a free. go a free)
 
 -- ---- names
 
-pub charge_fits : (t : Kept) (name : Name) → nat_lt (entry_limit t.disk.block_size t.disk.page) (charge_of t.disk.block_size name []) ≡ false → charge_of t.disk.block_size name [] ≤ entry_limit t.disk.block_size t.disk.page
-charge_fits t name e = ltb-false _ _ e
-
 last_component : (path : Path) → path ≢ [] → list_all is_component path ≡ true → is_component (last_name path) ≡ true
 last_component [] some all = absurd (some refl)
 last_component (n ∷ []) some all = first_holds (is_component n) true all

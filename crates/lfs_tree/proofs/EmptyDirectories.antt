@@ -32,10 +32,6 @@ path_some : (above : Path) (name : Name) → [] ≡ above ++ name ∷ [] → ⊥
 path_some [] name e = absurd (cc)
 path_some (x ∷ above) name e = absurd (cc)
 
-no_hard : (b : Bool) → (b ≡ true → ⊥) → b ≡ false
-no_hard true h = absurd (h refl)
-no_hard false h = refl
-
 -- the pair has no slots, and no hard tail
 pub record IsBare (p : Pair) : Type 0 where
   pub empty : p.content.slots ≡ []
@@ -105,6 +101,3 @@ module _ (disk : Disk) (ps : List Pair) (above : Path) (name : Name) (a : ℕ ×
 -- the pair of that number is at that address
 pub at_there : (ps : List Pair) (a : ℕ × ℕ) (n : ℕ) → BeginsAt ps a n → same_pair (get_or ps n no_pair).at a ≡ true
 at_there ps a n b = subst (λ (p : Pair). same_pair p.at a ≡ true) (sym (get_or_from_slice_get ps n b.pair no_pair b.there)) b.same
-
-pub begins_within : (ps : List Pair) (a : ℕ × ℕ) (n : ℕ) → BeginsAt ps a n → n < length ps
-begins_within ps a n b = slice_get_within ps n b.pair b.there

@@ -156,11 +156,6 @@ pub mark_named : (disk : Disk) (ps : List Pair) (to : ℕ × ℕ) (number : ℕ)
 mark_named disk ps to number m n p q ok b h = mark_as (λ k. k ≡ number) (IsNamedBy ps (Branch to)) m n p q
     (λ k x. begins_same ps to k number ok.thread.distinct x b) (λ k x. subst (λ z. BeginsAt ps to z) (sym x) b) h
 
-pub not_named : (ps : List Pair) (s : Struct) → branch_of s ≡ None → (k : ℕ) → IsNamedBy ps s k → ⊥
-not_named ps (Branch to) e k h = absurd (cc)
-not_named ps (Inline bytes) e k h = h
-not_named ps (Ctz head size) e k h = h
-
 -- ---- entries of directories
 
 named_there : (name : Name) (xs : List Slot) (u : Slot) → entry_named name xs ≡ Some u → (k : ℕ) × (slice_get xs k ≡ Some u)

@@ -28,17 +28,6 @@ module _ {D : Type 0} (g : Ghosts D) where
     no_fault = λ other. reported.no_fault other ∙ none;
   }
 
-  -- success after calls without a fault
-  pub reported_ok : {X : Type 0} {old new : D} {x : X} → faults (g.history new) ≡ faults (g.history old) → ReportsFaults {X = X} g old new (Ok x)
-  reported_ok none = record { fault = λ is. absurd (cc); no_fault = λ other. none }
-
-  -- no memory after calls without a fault
-  pub reported_no_memory : {X : Type 0} {old new : D} {e : Error} → e ≡ NoMemory → faults (g.history new) ≡ faults (g.history old) → ReportsFaults {X = X} g old new (Err e)
-  reported_no_memory {X} {e = e} is none = record {
-    fault = λ io. (let same : e ≡ Io = cc in let both : NoMemory ≡ Io = cc in absurd (cc));
-    no_fault = λ other. none;
-  }
-
   -- the same error of a call with another result
   pub reported_as : {X Y : Type 0} {old new : D} {e : Error} → ReportsFaults {X = X} g old new (Err e) → ReportsFaults {X = Y} g old new (Err e)
   reported_as {X} {Y} {e = e} reported = record {

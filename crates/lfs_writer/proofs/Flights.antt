@@ -23,8 +23,6 @@ use Rattle.lfs_model.proofs.BlockCounts.{few_flying}
 use Rattle.lfs_model.proofs.Files.{length_back}
 use Rattle.lfs_model.proofs.ListSizes.{blocks_for-more, length-back_data, length-bytes_of}
 use Rattle.lfs_writer.proofs.Bases.{bytes_stay}
-use Rattle.lfs_writer.proofs.Copies.{counted}
-use Rattle.lfs_writer.proofs.Hands.{hand_grows}
 
 -- ---- contents
 
@@ -78,12 +76,6 @@ begun_flying map d block_size g base shared begun =
     omega (arith, few, length-append (kept_of d g) (lent base.in_flight bb), length-lent d block_size base base.in_flight)
 
 -- ---- a list in hand that grows, also under another name of the geometry
-
-pub hand_on : (map later : BlockSets) (d e : Blocks) (geometry now : Geometry) (g h : Growing) (base : Stored) (shared : ℕ) → now ≡ geometry → IsListBegun map d geometry.block_size g base shared → Spares map (pending_of g) d e → Keeps map later
-    → Grows map d g later e h → IsGrowing e h → IsMarked later e h → blocks_of_list e h ≡ kept_of e h → length (kept_of e h) ≡ blocks_for now.block_size (size_of now.block_size h) → is_held h ≡ false → IsHand later e now.block_size h base shared
-hand_on map later d e geometry now g h base shared same begun spared keeps grown growing marked own many listed =
-    subst (λ (k : Geometry). IsHand later e k.block_size h base shared) (sym same)
-    (hand_grows map later d e geometry.block_size g h base shared begun spared keeps grown growing marked own (counted geometry now h (length (kept_of e h)) same many) listed)
 
 pub wrote : (map : BlockSets) (d e : Blocks) (geometry now : Geometry) (g h : Growing) (base : Stored) (shared : ℕ) (bytes : List ℕ) → now ≡ geometry → IsListBegun map d geometry.block_size g base shared → Spares map (pending_of g) d e
     → content_of e h ≡ content_of d g ++ bytes → size_of now.block_size h ≡ size_of geometry.block_size g + length bytes → length (content_of d g) ≡ size_of geometry.block_size g

@@ -37,9 +37,6 @@ owned_is map {xs} {ys} same = record { each = λ b has used. subst (λ (l : List
 pub owned_both : {map : BlockSets} {xs ys zs : List ℕ} → AreOwned map xs ys → AreOwned map xs zs → AreOwned map xs (ys ++ zs)
 owned_both {ys = ys} {zs = zs} first second = record { each = λ b has used. ⊎_elim (λ l. first.each b l used) (λ r. second.each b r used) (Contains-append_cases ys zs b has) }
 
-pub owned_none : (map : BlockSets) (own : List ℕ) → AreOwned map own []
-owned_none map own = record { each = λ b has used. absurd (omega (arith, has.1)) }
-
 pub owned_right : {map : BlockSets} (xs : List ℕ) {ys zs : List ℕ} → AreOwned map ys zs → AreOwned map (xs ++ ys) zs
 owned_right xs {ys} first = record { each = λ b has used. Contains-append_right xs ys b (first.each b has used) }
 

@@ -41,16 +41,6 @@ releases_one sets new b lt unused is =
       others = λ other apart. there other (λ e. apart 0 0 (omega arith) (sym e));
     }
 
--- a used block stays
-pub releases_kept : (sets : BlockSets) (b : ℕ) → IsUsed sets b → Releases sets sets (b ∷ [])
-releases_kept sets b used = record {
-  count = refl;
-  used = refl;
-  stays = λ c is. is;
-  gone = All-cons (λ x. ¬ (IsInFlight sets x)) b [] (λ flying. let both : Some Used ≡ Some InFlight = sym used ∙ flying in cc) (λ k x l. absurd (omega (arith, l)));
-  others = λ c apart. refl;
-}
-
 -- one more
 pub releases_more : (old mid new : BlockSets) (b : ℕ) (bs : List ℕ) → Releases old mid bs → Releases mid new (b ∷ []) → Releases old new (b ∷ bs)
 releases_more old mid new b bs first second =

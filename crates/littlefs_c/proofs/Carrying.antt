@@ -121,11 +121,6 @@ pub asks_one : {X : Type 0} (block_size page : ℕ) (image : List ℕ) (old new 
 asks_one block_size page image old new op reply r m h none other accepted =
     asks block_size page image (system_state_of old) (system_state_of new) (op ∷ []) reply r m (carries_one old new op reply r accepted h) none (other, tt)
 
--- nothing was begun
-pub not_asked : {X : Type 0} (block_size page : ℕ) (image : List ℕ) (operations : List Operation) (reply : X → Reply) (r : Result X Error) (e : Error) → IsErrAnd r (λ f. f ≡ e) → Prevents block_size page image e → Asks block_size page image operations reply r
-not_asked block_size page image operations reply (Ok x) e is h = absurd is
-not_asked block_size page image operations reply (Err f) e is h = inl (subst (Prevents block_size page image) (sym is) h)
-
 pub not_run : {X : Type 0} (block_size page : ℕ) (image : List ℕ) (operations : List Operation) (r : Result X Error) (e : Error) → IsErrAnd r (λ f. f ≡ e) → Prevents block_size page image e → IfErr r (Refuses block_size page image operations)
 not_run block_size page image operations (Ok x) e is h = tt
 not_run block_size page image operations (Err f) e is h = inl (subst (Prevents block_size page image) (sym is) h)

@@ -111,7 +111,7 @@ kinds_within s folder within w =
 -- ---- the walk
 
 record IsWalked (tree : Tree) (qs : List Path) (es : List SourceEntry) : Type 0 where
-  entries : List listing.SourceEntry
+  entries : List listing.Entry
   walk : IsWalk tree qs entries
   same : flat_map operations_of es ≡ flat_map listing.operations_of entries
 

@@ -18,6 +18,7 @@ mod faults;
 mod geometry;
 #[cfg(test)]
 mod hand_made_list;
+#[cfg(test)]
 mod list_clients;
 #[cfg(test)]
 mod list_extensions;
@@ -41,5 +42,3 @@ mod ram;
 mod sizes;
 #[cfg(test)]
 mod write_faults;
-
-pub use list_clients::{Memory, is_list, patch, read_front};

@@ -9,6 +9,7 @@ mod blocks;
 mod checksums;
 #[cfg(test)]
 mod client_runs;
+#[cfg(test)]
 mod clients;
 #[cfg(test)]
 mod commits;
@@ -46,5 +47,3 @@ mod storable;
 mod tags;
 #[cfg(test)]
 mod thread_reads;
-
-pub use clients::{commit_or_stop, split_before};

@@ -1,4 +1,4 @@
-// A script on devices whose calls fail, and which stop.
+// A script on devices that stop.
 
 use crate::scripts::{SCRIPT, are_kept_at, read_rows, run, small};
 use lfs_device::{BlockDevice, Erased, Error, FaultDevice, RamDevice, Which};
@@ -48,20 +48,6 @@ fn a_stop_leaves_all_or_nothing(rt: HostRuntime) -> Result<(), Fail> {
                 assert_eq!(rt; leaves_all_or_nothing(alloc, device), Ok(true));
             }
         }
-    }
-    Ok(())
-}
-
-// A call that fails with nothing of it carried out.
-#[test]
-fn a_failed_call_leaves_the_pairs_of_then(rt: HostRuntime) -> Result<(), Fail> {
-    let alloc = rt.alloc();
-    for nth in 1..=call_count(alloc)? {
-        let inner = small(alloc, Erased::Fill(0xff))?;
-        let device = FaultDevice::new(inner, Which::Any, nth, false);
-        let (done, error, device) = run(alloc, device, &SCRIPT);
-        let rows = read_rows(alloc, device)?;
-        assert_eq!(rt; (error, are_kept_at(&rows, done)), (Some(Error::Io), true));
     }
     Ok(())
 }

@@ -28,3 +28,7 @@ pub mod AttributeAtSlots
 mod AttributesPut
 mod PairAddresses
 mod FileContentsAt
+mod Halved
+mod HalvedReads
+mod InOrder
+mod HalvedDown

@@ -18,3 +18,4 @@ pub mod BytesAt
 pub mod FileContents
 pub mod AttributeAt
 pub mod CachedPairs
+pub mod Halves

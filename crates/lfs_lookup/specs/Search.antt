@@ -1,11 +1,13 @@
 -- What a search for a name returns.
-use Rattle.std.specs.Prelude.{ℕ, ◌≡◌, ◌+◌, ◌==◌, ◌&&◌, if◌then◌else◌, true, false, List, [], ◌∷◌, drop, slice_get, Option, None, Some}
+use Rattle.std.specs.Prelude.{ℕ, ◌≡◌, ◌+◌, ◌==◌, ◌&&◌, if◌then◌else◌, true, false, List, [], ◌∷◌, drop, map, slice_get, AllPairs, Option, None, Some, IsSome}
+use Rattle.std.specs.declared.cmp.Ordering.TheVariants.{Less}
 use Rattle.lfs_model.specs.declared.order.NameOrder.{NameOrder}
-use Rattle.lfs_model.specs.Names.{Name}
+use Rattle.lfs_model.specs.Names.{Name, name_cmp}
 use Rattle.lfs_model.specs.Slots.{Slot, Content, Gstate, is_superblock, same_pair}
 use Rattle.lfs_model.specs.Thread.{Pair, is_hard}
-use Rattle.lfs_model.specs.InDirectory.{StandsAt, PlaceAt, Stands, Belongs}
-use Rattle.lfs_thread.specs.CachedLog.{IsBlockOf}
+use Rattle.lfs_model.specs.InDirectory.{StandsAt, PlaceAt, Stands, Belongs, HaveNoSuperblock, entries_only, slots_in}
+use Rattle.lfs_thread.specs.CachedLog.{IsBlockOf, cached_log}
+use Rattle.lfs_thread.specs.Kept.{State}
 use Rattle.lfs_lookup.specs.declared.entry.Entry.{Entry}
 use Rattle.lfs_lookup.specs.declared.search.Spot.{Spot}
 use Rattle.lfs_lookup.specs.declared.search.Sought.{Sought}
@@ -13,6 +15,7 @@ use Rattle.lfs_lookup.specs.declared.search.Sought.TheVariants.{Found, Place}
 use Rattle.lfs_lookup.specs.declared.search.SoughtInPair.{SoughtInPair}
 use Rattle.lfs_lookup.specs.declared.search.SoughtInPair.TheVariants as in_pair
 use Rattle.lfs_lookup.specs.Entry.{EntryShows}
+use Rattle.lfs_lookup.specs.Listed.{joined_run}
 
 -- a block's log comes to a content in which each slot has a name and a struct
 abbrev pub HoldsContent : List ℕ → Type 0
@@ -42,6 +45,16 @@ AnswersIn order skip slots name (in_pair.Place id) = BelongsShown order skip slo
 abbrev pub SearchFinds : NameOrder → List Pair → ℕ → Name → Sought → Type 0
 SearchFinds order ps first name (Found spot entry) = (s : Stands ps first name spot.pair spot.id) × EntryShows entry s.stands.slot.struct
 SearchFinds order ps first name (Place spot) = Belongs order ps first name spot.pair spot.id
+
+-- the block of the slot that was found is cached
+abbrev pub IsSoughtCached : State → Sought → Type 0
+IsSoughtCached t (Found spot entry) = IsSome (cached_log t spot.pair)
+IsSoughtCached t (Place spot) = Unit {0}
+
+-- The names in the directory that begins with the pair of number `first` rise, and only this pair may have a superblock.
+pub record IsInOrder (order : NameOrder) (ps : List Pair) (first : ℕ) : Type 0 where
+  pub rise : AllPairs (λ a b. name_cmp order a b ≡ Less) (map (λ s. s.name) (entries_only (slots_in (joined_run (drop first ps)))))
+  pub plain : HaveNoSuperblock (drop (first + 1) ps)
 
 -- ---- where a slot counts as deleted
 

@@ -7,7 +7,8 @@ ghost use Rattle.lfs_model.specs.Frame.{pairs_of_path, parents};
 ghost use Rattle.lfs_model.specs.History.{reads};
 ghost use Rattle.lfs_model.specs.LoggedContent.{Ascend, HaveParts};
 ghost use Rattle.lfs_model.specs.Slots.{Content as ModelContent, Slot as ModelSlot, attributes_size};
-ghost use Rattle.lfs_model.specs.Thread.{superblocks_before};
+ghost use Rattle.lfs_model.specs.Slots.{no_gstate};
+ghost use Rattle.lfs_model.specs.Thread.{gstate_of, superblocks_before};
 ghost use Rattle.lfs_model.specs.View.{IsAccepted};
 ghost use Rattle.lfs_model.specs.Shown.{tree_in};
 ghost use Rattle.lfs_tag.specs.ContentView.{attribute_view, slot_view};
@@ -15,6 +16,7 @@ ghost use Rattle.lfs_thread.specs.CachedLog.{IsBlockOf, cached_log};
 ghost use Rattle.lfs_lookup.specs.CachedPairs.{AreCachedBeneath};
 ghost use Rattle.lfs_lookup.specs.AttributeAt.{IsAttributesSize};
 ghost use Rattle.lfs_lookup.specs.BytesAt.{IsSlotAt};
+ghost use Rattle.lfs_lookup.specs.Halves.{ReadsByHalves};
 ghost use Rattle.lfs_lookup.specs.Reading.{IsReading};
 ghost use Rattle.lfs_lookup.specs.Search.{HoldsContent};
 
@@ -79,7 +81,8 @@ fn size_of_slot<D: BlockDevice>(
 
 /// Returns how many bytes the attributes of the entry at a path take in its pair, each with its tag
 /// of 4 bytes. Returns 0 where no entry is there, and for the root. The call reads no more pairs
-/// than the directories above the path have, and none where all these are cached.
+/// than the directories above the path have, as [`crate::shown_at`], and none where all these are
+/// cached.
 ///
 /// `root` is the number of the root directory's first pair.
 ///
@@ -95,6 +98,7 @@ pub fn attributes_size_at<D: BlockDevice>(
     requires root { root ≡ superblocks_before thread.old.kept.pairs }
     ensures is { IfOk result (IsAttributesSize (attributes_of (tree_in thread.old.kept.disk thread.old.kept.pairs path.now))) }
     ensures few { reads thread.new.kept.history ≤ reads thread.old.kept.history + sum_by (pairs_of_path thread.old.kept.pairs) (parents path.now) }
+    ensures halves { gstate_of thread.old.kept.pairs ≡ no_gstate → ReadsByHalves thread.old thread.new (parents path.now) }
     ensures kept { AreCachedBeneath thread.old (parents path.now) → reads thread.new.kept.history ≡ reads thread.old.kept.history }
     ensures reading { IsReading thread.old thread.new result }
 {

@@ -6,8 +6,8 @@ ghost use Rattle.lfs_model.specs.TreeEdits.{attributes_of};
 ghost use Rattle.lfs_model.specs.Content.{attribute_of};
 ghost use Rattle.lfs_model.specs.Frame.{pairs_of_path, parents};
 ghost use Rattle.lfs_model.specs.History.{reads};
-ghost use Rattle.lfs_model.specs.Slots.{Attributes, Content as ModelContent, Slot};
-ghost use Rattle.lfs_model.specs.Thread.{superblocks_before};
+ghost use Rattle.lfs_model.specs.Slots.{Attributes, Content as ModelContent, Slot, no_gstate};
+ghost use Rattle.lfs_model.specs.Thread.{gstate_of, superblocks_before};
 ghost use Rattle.lfs_model.specs.View.{IsAccepted};
 ghost use Rattle.lfs_model.specs.Shown.{tree_in};
 ghost use Rattle.lfs_thread.specs.CachedLog.{IsBlockOf, cached_log};
@@ -15,6 +15,7 @@ ghost use Rattle.lfs_lookup.specs.CachedPairs.{AreCachedBeneath};
 ghost use Rattle.lfs_lookup.specs.AttributeAt.{AreHeld, IsAttribute, IsShort, slot_shown};
 ghost use Rattle.lfs_lookup.specs.BytesAt.{IsSlotAt};
 ghost use Rattle.lfs_lookup.specs.Finds.{Finds};
+ghost use Rattle.lfs_lookup.specs.Halves.{ReadsByHalves};
 ghost use Rattle.lfs_lookup.specs.Reading.{IsReading};
 ghost use Rattle.lfs_lookup.specs.Search.{HoldsContent};
 
@@ -116,7 +117,7 @@ fn attribute_held<D: BlockDevice>(
 
 /// Returns what a path leads to, and its attribute of type `kind`, if it has one. The attribute has
 /// at most 1,022 bytes; the root has none. The call reads no more pairs than the directories above
-/// the path have, and none where all these are cached.
+/// the path have, as [`crate::shown_at`], and none where all these are cached.
 ///
 /// `root` is the number of the root directory's first pair.
 ///
@@ -135,6 +136,7 @@ pub fn attribute_at<D: BlockDevice>(
     ensures short { IfOk result (λ found. IsShort found.bytes) }
     ensures is { IfOk result (λ found. IsAttribute kind (attributes_of (tree_in thread.old.kept.disk thread.old.kept.pairs path.now)) found.bytes) }
     ensures few { reads thread.new.kept.history ≤ reads thread.old.kept.history + sum_by (pairs_of_path thread.old.kept.pairs) (parents path.now) }
+    ensures halves { gstate_of thread.old.kept.pairs ≡ no_gstate → ReadsByHalves thread.old thread.new (parents path.now) }
     ensures kept { AreCachedBeneath thread.old (parents path.now) → reads thread.new.kept.history ≡ reads thread.old.kept.history }
     ensures reading { IsReading thread.old thread.new result }
 {

@@ -3,7 +3,8 @@
 ghost use Rattle.std.specs.Prelude.{◌≡◌, ◌≤◌, ◌+◌, ◌++◌, [], ◌∷◌, IfOk, None, false, sum_by};
 ghost use Rattle.lfs_model.specs.Frame.{pairs_of_path, parents};
 ghost use Rattle.lfs_model.specs.History.{reads};
-ghost use Rattle.lfs_model.specs.Thread.{superblocks_before};
+ghost use Rattle.lfs_model.specs.Slots.{no_gstate};
+ghost use Rattle.lfs_model.specs.Thread.{gstate_of, superblocks_before};
 ghost use Rattle.lfs_model.specs.View.{IsAccepted};
 ghost use Rattle.lfs_model.specs.Shown.{tree_in};
 ghost use Rattle.lfs_lookup.specs.CachedPairs.{LoadsDown};
@@ -11,6 +12,7 @@ ghost use Rattle.lfs_lookup.specs.AtPath.{IsInEntry, IsInEntryIfFile, IsThrough,
 ghost use Rattle.lfs_lookup.specs.AttributeAt.{IsPairCached};
 ghost use Rattle.lfs_lookup.specs.Finds.{Finds, has_names};
 ghost use Rattle.lfs_lookup.specs.declared.found_entries.Node.TheVariants.{Directory, File, Nothing};
+ghost use Rattle.lfs_lookup.specs.Halves.{ReadsByHalves};
 ghost use Rattle.lfs_lookup.specs.Reading.{IsReading};
 
 use crate::directory::has_entries;
@@ -25,8 +27,9 @@ use std::alloc::Global;
 
 /// Returns what a path leads to, where the slot that a set move names counts as deleted, and no
 /// other (DESIGN.md of littlefs, "The move problem"). The call reads no more pairs than the
-/// directories above the path have, and none where all these are cached. The pair of a slot that is
-/// found is cached then.
+/// directories above the path have, and none where all these are cached. Where nothing is to be
+/// recovered and each of these pairs has a slot, a directory of n pairs takes 1 + log2 n reads at
+/// most. The pair of a slot that is found is cached then.
 ///
 /// `root` is the number of the root directory's first pair.
 ///
@@ -43,6 +46,7 @@ pub fn shown_at<D: BlockDevice>(
     ensures shown { IfOk result (ShowsAt thread.old.kept path.now) }
     ensures cached_log { IfOk result (IsPairCached thread.new) }
     ensures few { reads thread.new.kept.history ≤ reads thread.old.kept.history + sum_by (pairs_of_path thread.old.kept.pairs) (parents path.now) }
+    ensures halves { gstate_of thread.old.kept.pairs ≡ no_gstate → ReadsByHalves thread.old thread.new (parents path.now) }
     ensures loads { LoadsDown IsThrough (parents path.now) thread.old thread.new result }
     ensures reading { IsReading thread.old thread.new result }
 {
@@ -124,7 +128,7 @@ pub(crate) fn first_of(root: usize, shown: Shown) -> Option<usize>
 
 /// Looks up a path. Returns a file with its size in bytes, a directory, or nothing. Where a
 /// directory above it isn't there, or isn't one, the refusal is returned, too. The call reads no
-/// more pairs than these directories have, and none where all these are cached.
+/// more pairs than these directories have, as [`shown_at`], and none where all these are cached.
 ///
 /// `root` is the number of the root directory's first pair.
 ///
@@ -140,6 +144,7 @@ pub fn find_at<D: BlockDevice>(
     requires root { root ≡ superblocks_before thread.old.kept.pairs }
     ensures found { IfOk result (Finds (tree_in thread.old.kept.disk thread.old.kept.pairs) path.now) }
     ensures few { reads thread.new.kept.history ≤ reads thread.old.kept.history + sum_by (pairs_of_path thread.old.kept.pairs) (parents path.now) }
+    ensures halves { gstate_of thread.old.kept.pairs ≡ no_gstate → ReadsByHalves thread.old thread.new (parents path.now) }
     ensures loads { LoadsDown (λ found. found.fault ≡ None) (parents path.now) thread.old thread.new result }
     ensures reading { IsReading thread.old thread.new result }
 {

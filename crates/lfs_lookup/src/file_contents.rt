@@ -5,7 +5,8 @@ ghost use Rattle.lfs_model.specs.Frame.{pairs_of_path, parents};
 ghost use Rattle.lfs_model.specs.History.{reads};
 ghost use Rattle.lfs_model.specs.Shown.{tree_in};
 ghost use Rattle.lfs_model.specs.Slots.{Inline, Slot};
-ghost use Rattle.lfs_model.specs.Thread.{superblocks_before};
+ghost use Rattle.lfs_model.specs.Slots.{no_gstate};
+ghost use Rattle.lfs_model.specs.Thread.{gstate_of, superblocks_before};
 ghost use Rattle.lfs_model.specs.Tree.{Path as ModelPath};
 ghost use Rattle.lfs_model.specs.TreeEdits.{bytes_at};
 ghost use Rattle.lfs_model.specs.View.{IsAccepted, IsListIfCtz};
@@ -14,6 +15,7 @@ ghost use Rattle.lfs_lookup.specs.CachedPairs.{AreCachedBeneath};
 ghost use Rattle.lfs_lookup.specs.BytesAt.{IsFileAt};
 ghost use Rattle.lfs_lookup.specs.FileContents.{AreContentsAt, AreContentsOf, AreFoundAt, FitsEntry, struct_of};
 ghost use Rattle.lfs_lookup.specs.Finds.{Finds};
+ghost use Rattle.lfs_lookup.specs.Halves.{ReadsByHalves};
 ghost use Rattle.lfs_lookup.specs.Reading.{IsReading};
 
 use crate::by_path::{finding_of, shown_at};
@@ -67,7 +69,7 @@ fn contents_of_slot<D: BlockDevice>(
 }
 
 /// Looks up a path, and returns the contents of a file there. The call reads no more pairs than the
-/// directories above the path have, and none where all these are cached.
+/// directories above the path have, as [`crate::shown_at`], and none where all these are cached.
 ///
 /// `root` is the number of the root directory's first pair.
 ///
@@ -84,6 +86,7 @@ pub fn file_at<D: BlockDevice>(
     ensures found { IfOk result (λ found. Finds (tree_in thread.old.kept.disk thread.old.kept.pairs) path.now found.finding) }
     ensures contents { IfOk result (λ found. AreFoundAt thread.old.kept path.now found.contents) }
     ensures few { reads thread.new.kept.history ≤ reads thread.old.kept.history + sum_by (pairs_of_path thread.old.kept.pairs) (parents path.now) }
+    ensures halves { gstate_of thread.old.kept.pairs ≡ no_gstate → ReadsByHalves thread.old thread.new (parents path.now) }
     ensures kept { AreCachedBeneath thread.old (parents path.now) → reads thread.new.kept.history ≡ reads thread.old.kept.history }
     ensures reading { IsReading thread.old thread.new result }
 {

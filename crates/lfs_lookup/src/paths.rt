@@ -4,6 +4,7 @@ ghost use Rattle.std.specs.Prelude.{◌≡◌, None, ◌<◌, ◌≤◌, ◌+◌
 ghost use Rattle.lfs_model.specs.Frame.{pairs_of_path, parents};
 ghost use Rattle.lfs_model.specs.History.{reads};
 ghost use Rattle.lfs_model.specs.InDirectory.{run_length};
+ghost use Rattle.lfs_model.specs.Slots.{no_gstate};
 ghost use Rattle.lfs_model.specs.Thread.{gstate_of};
 ghost use Rattle.lfs_model.specs.Tree.{Path};
 ghost use Rattle.lfs_model.specs.View.{IsAccepted};
@@ -12,6 +13,7 @@ ghost use Rattle.lfs_tag.specs.FieldsView.{move_view};
 ghost use Rattle.lfs_lookup.specs.CachedPairs.{LoadsAlong, LoadsDown};
 ghost use Rattle.lfs_lookup.specs.AtPath.{IsThrough};
 ghost use Rattle.lfs_lookup.specs.AttributeAt.{IsPairCached};
+ghost use Rattle.lfs_lookup.specs.Halves.{ReadsByHalves, ReadsByHalvesFrom};
 ghost use Rattle.lfs_lookup.specs.Listed.{joined_run};
 ghost use Rattle.lfs_lookup.specs.Reading.{IsReading};
 ghost use Rattle.lfs_lookup.specs.Search.{HidesFrom};
@@ -87,7 +89,8 @@ pub enum Shown {
 // (DESIGN.md of littlefs, "The move problem"). Returns None where no move is set.
 pub(crate) fn moved_slot<D: BlockDevice>(thread: &Thread<D>, state: &MoveState) -> Option<Spot>
     requires { IsAccepted thread.now.kept.disk thread.now.kept.pairs }
-    ensures { HidesFrom (move_view state.now) result 0 thread.now.kept.pairs }
+    ensures hides { HidesFrom (move_view state.now) result 0 thread.now.kept.pairs }
+    ensures none { move_view state.now ≡ no_gstate → result ≡ None }
 {
     if state.kind != DELETE {
         return None;
@@ -111,10 +114,9 @@ fn enter<D: BlockDevice>(
     requires reached { (path : Path) × BeginsOnPath thread.old.kept.pairs path first }
     ensures answer { IfOk result (λ parent. (path : Path) → BeginsOnPath thread.old.kept.pairs path first → Enters thread.old.kept (path ++ name.now ∷ []) parent) }
     ensures few { reads thread.new.kept.history ≤ reads thread.old.kept.history + run_length (drop first thread.old.kept.pairs) }
+    ensures halves { moved ≡ None → ReadsByHalvesFrom thread.old thread.new first }
     ensures loads { LoadsAlong (joined_run (drop first thread.old.kept.pairs)) thread.old thread.new result }
-    ensures only { IsOnlyRead thread.old.kept thread.new.kept }
-    ensures works { thread.new.failed ≡ false }
-    ensures errors { HasReported thread.old.kept thread.new.kept result }
+    ensures reading { IsReading thread.old thread.new result }
 {
     match find_shown(alloc, thread, first, name, moved)? {
         Some((_, Entry::Directory(at))) => {
@@ -143,10 +145,9 @@ pub(crate) fn find_directory<D: BlockDevice>(
     requires root { BeginsOnPath thread.old.kept.pairs [] root }
     ensures answer { IfOk result (Descends thread.old.kept (map (λ name. name.now) path.now)) }
     ensures few { reads thread.new.kept.history ≤ reads thread.old.kept.history + sum_by (pairs_of_path thread.old.kept.pairs) (parents (map (λ name. name.now) path.now)) }
+    ensures halves { moved ≡ None → ReadsByHalves thread.old thread.new (parents (map (λ name. name.now) path.now)) }
     ensures loads { LoadsDown (λ parent. fault_of parent ≡ None) (parents (map (λ name. name.now) path.now)) thread.old thread.new result }
-    ensures only { IsOnlyRead thread.old.kept thread.new.kept }
-    ensures works { thread.new.failed ≡ false }
-    ensures errors { HasReported thread.old.kept thread.new.kept result }
+    ensures reading { IsReading thread.old thread.new result }
 {
     let mut first = root;
     for name in path {
@@ -171,6 +172,7 @@ fn look_in<D: BlockDevice>(
     requires reached { (above : Path) × BeginsOnPath thread.old.kept.pairs above parent }
     ensures answer { IfOk result (λ found. (above : Path) → BeginsOnPath thread.old.kept.pairs above parent → IsThere thread.old.kept.disk.order thread.old.kept.pairs above name.now found) }
     ensures few { reads thread.new.kept.history ≤ reads thread.old.kept.history + run_length (drop parent thread.old.kept.pairs) }
+    ensures halves { ReadsByHalvesFrom thread.old thread.new parent }
     ensures only { IsOnlyRead thread.old.kept thread.new.kept }
     ensures works { thread.new.failed ≡ false }
     ensures errors { HasReported thread.old.kept thread.new.kept result }
@@ -195,6 +197,7 @@ fn look_in<D: BlockDevice>(
 
 /// Looks up a path by the names of its components, from the root down. The root begins with the
 /// pair of number `root`. The call reads no more pairs than the directories above the path have.
+/// Where each of these pairs has a slot, a directory of n pairs takes 1 + log2 n reads at most.
 ///
 /// Errors: `Io` where a read failed. `NoMemory` where memory for a block isn't granted. The thread
 /// works after either.
@@ -209,6 +212,7 @@ pub fn look_up<D: BlockDevice>(
     requires root { BeginsOnPath thread.old.kept.pairs [] root }
     ensures answer { IfOk result (LeadsTo thread.old.kept (map (λ name. name.now) path.now)) }
     ensures few { reads thread.new.kept.history ≤ reads thread.old.kept.history + sum_by (pairs_of_path thread.old.kept.pairs) (parents (map (λ name. name.now) path.now)) }
+    ensures halves { ReadsByHalves thread.old thread.new (parents (map (λ name. name.now) path.now)) }
     ensures only { IsOnlyRead thread.old.kept thread.new.kept }
     ensures works { thread.new.failed ≡ false }
     ensures errors { HasReported thread.old.kept thread.new.kept result }
@@ -237,6 +241,7 @@ fn show_in<D: BlockDevice>(
     ensures answer { IfOk result (λ shown. (above : Path) → BeginsOnPath thread.old.kept.pairs above parent → IsShownAt thread.old.kept.pairs moved (above ++ name.now ∷ []) shown) }
     ensures cached_log { IfOk result (IsPairCached thread.new) }
     ensures few { reads thread.new.kept.history ≤ reads thread.old.kept.history + run_length (drop parent thread.old.kept.pairs) }
+    ensures halves { moved ≡ None → ReadsByHalvesFrom thread.old thread.new parent }
     ensures loads { LoadsAlong (joined_run (drop parent thread.old.kept.pairs)) thread.old thread.new result }
     ensures reading { IsReading thread.old thread.new result }
 {
@@ -268,6 +273,7 @@ pub(crate) fn look_up_shown<D: BlockDevice>(
     ensures answer { IfOk result (ShowsTo thread.old.kept moved (map (λ name. name.now) path.now)) }
     ensures cached_log { IfOk result (IsPairCached thread.new) }
     ensures few { reads thread.new.kept.history ≤ reads thread.old.kept.history + sum_by (pairs_of_path thread.old.kept.pairs) (parents (map (λ name. name.now) path.now)) }
+    ensures halves { moved ≡ None → ReadsByHalves thread.old thread.new (parents (map (λ name. name.now) path.now)) }
     ensures loads { LoadsDown IsThrough (parents (map (λ name. name.now) path.now)) thread.old thread.new result }
     ensures reading { IsReading thread.old thread.new result }
 {

@@ -1,6 +1,6 @@
 // Names in directories of several pairs.
 
-ghost use Rattle.std.specs.Prelude.{◌≡◌, ◌<◌, ◌≤◌, ◌+◌, ◌∷◌, [], false, length, drop, IfOk, IfSome, IsSome, OnOk};
+ghost use Rattle.std.specs.Prelude.{◌≡◌, ◌<◌, ◌≤◌, ◌+◌, ◌-◌, ◌/◌, ◌∷◌, [], false, length, drop, IfOk, IfSome, IsSome, OnOk};
 ghost use Rattle.lfs_model.specs.History.{reads};
 ghost use Rattle.lfs_model.specs.InDirectory.{HaveNoSuperblock, run_length};
 ghost use Rattle.lfs_model.specs.Slots.{Content};
@@ -9,7 +9,8 @@ ghost use Rattle.lfs_thread.specs.Steps.{HasReported, IsOnlyRead, pair_in};
 ghost use Rattle.lfs_lookup.specs.CachedPairs.{LoadsAlong};
 ghost use Rattle.lfs_lookup.specs.Listed.{joined_run};
 ghost use Rattle.lfs_lookup.specs.Reading.{IsReading};
-ghost use Rattle.lfs_lookup.specs.Search.{SearchFinds, AnswersIn, AnswersShown, HoldsContent, passed_in};
+ghost use Rattle.lfs_lookup.specs.Halves.{EndsSoft, ReadsByHalvesFrom};
+ghost use Rattle.lfs_lookup.specs.Search.{SearchFinds, AnswersIn, AnswersShown, HoldsContent, IsInOrder, IsSoughtCached, passed_in};
 
 use crate::entry::{Entry, entry_of};
 use lfs_device::{BlockDevice, Error, NameOrder};
@@ -84,10 +85,47 @@ fn find_in_pair<D: BlockDevice>(
     Ok(found)
 }
 
+// Returns the number behind the last pair of the directory that begins with the pair of number
+// `first`. A directory continues along the hard tails (SPEC.md of littlefs, "0x601
+// LFS_TYPE_HARDTAIL").
+fn end_of<D: BlockDevice>(thread: &Thread<D>, first: usize) -> usize
+    requires works { thread.now.failed ≡ false }
+    requires below { first < length thread.now.kept.pairs }
+    ensures count { result ≡ first + run_length (drop first thread.now.kept.pairs) }
+    ensures within { result ≤ length thread.now.kept.pairs }
+    ensures soft { EndsSoft (joined_run (drop first thread.now.kept.pairs)) }
+{
+    let count = thread.len();
+    let mut pair = first;
+    while let Some(next) = thread.next(pair) {
+        pair = next;
+    }
+    if pair < count { pair + 1 } else { count }
+}
+
+// Returns which of the pairs from `low` to before `high` is looked at next: the middle one, or
+// `low` where that one has no slots.
+fn middle_of<D: BlockDevice>(thread: &Thread<D>, low: usize, high: usize) -> usize
+    requires works { thread.now.failed ≡ false }
+    requires some { low < high }
+    requires below { high ≤ length thread.now.kept.pairs }
+    ensures within { (low ≤ result) × (result < high) }
+    ensures middle { 0 < length (pair_in thread.now.kept (low + (high - low) / 2)).content.slots → result ≡ low + (high - low) / 2 }
+    ensures low { length (pair_in thread.now.kept result).content.slots ≡ 0 → result ≡ low }
+{
+    let middle = low + (high - low) / 2;
+    if thread.slot_count(middle) > 0 {
+        middle
+    } else {
+        low
+    }
+}
+
 // Finds where a name is among the entries of the directory that begins with the pair of number
-// `first`, or where it belongs. A set move is ignored here; `find_shown` regards it. A directory
-// continues along the hard tails (SPEC.md of littlefs, "0x601 LFS_TYPE_HARDTAIL"), and its entries
-// are sorted by name. The call reads no more pairs than the directory has.
+// `first`, or where it belongs. A set move is ignored here; `find_shown` regards it. The entries of
+// a directory are sorted by name along its pairs, so the search goes by halves. The call reads no
+// more pairs than the directory has. Where each pair has a slot these are 1 + log2 n of n pairs at
+// most.
 //
 // Errors: `Io` where a read failed. `NoMemory` where memory for a block isn't granted. The thread
 // works after either.
@@ -101,39 +139,45 @@ pub(crate) fn find_name<D: BlockDevice>(
     requires below { first < length thread.old.kept.pairs }
     requires entries { HaveNoSuperblock (drop (first + 1) thread.old.kept.pairs) }
     ensures answer { IfOk result (SearchFinds thread.old.kept.disk.order thread.old.kept.pairs first name.now) }
-    ensures only { IsOnlyRead thread.old.kept thread.new.kept }
+    ensures cached_log { IfOk result (IsSoughtCached thread.new) }
     ensures few { reads thread.new.kept.history ≤ reads thread.old.kept.history + run_length (drop first thread.old.kept.pairs) }
-    ensures works { thread.new.failed ≡ false }
-    ensures errors { HasReported thread.old.kept thread.new.kept result }
+    ensures halves { ReadsByHalvesFrom thread.old thread.new first }
+    ensures loads { LoadsAlong (joined_run (drop first thread.old.kept.pairs)) thread.old thread.new result }
+    ensures reading { IsReading thread.old thread.new result }
 {
+    let mut low = first;
+    let mut high = end_of(thread, first);
     let mut spot = Spot { pair: first, id: 0 };
-    let mut pair = first;
-    loop {
+    while low < high {
+        let pair = middle_of(thread, low, high);
+        let count = thread.slot_count(pair);
+        if count == 0 && pair > first {
+            // No name is here, and the names before this pair are less.
+            low = pair + 1;
+            continue;
+        }
         let id = match find_in_pair(alloc, thread, pair, name, None)? {
             SoughtInPair::Found(id, entry) => return Ok(Sought::Found(Spot { pair, id }, entry)),
             SoughtInPair::Place(id) => id,
         };
-        if pair == first || id > 0 {
-            spot = Spot { pair, id };
+        if id == 0 && count > 0 {
+            // All names from this pair on are greater.
+            high = pair;
+            continue;
         }
-        if usize::from(id) < thread.slot_count(pair) {
+        spot = Spot { pair, id };
+        if usize::from(id) < count {
             return Ok(Sought::Place(spot));
         }
-        pair = match thread.next(pair) {
-            Some(next) => next,
-            None => return Ok(Sought::Place(spot)),
-        };
+        // All names up to this pair are less.
+        low = pair + 1;
     }
+    Ok(Sought::Place(spot))
 }
 
-/// Finds the entry of a name in the directory that begins with the pair of number `first`, where
-/// the slot `moved` counts as deleted: the one that a set move names (DESIGN.md of littlefs, "The
-/// move problem"). Returns None where no entry has the name. The call reads no more pairs than the
-/// directory has, and none where all these are cached. The pair that has the name is cached then.
-///
-/// Errors: `Io` where a read failed. `NoMemory` where memory for a block isn't granted. The thread
-/// works after either.
-pub fn find_shown<D: BlockDevice>(
+// Finds the entry of a name pair by pair, where the slot `moved` counts as deleted. The other
+// clauses are those of `find_shown`.
+fn find_along<D: BlockDevice>(
     alloc: Global,
     thread: &mut Thread<D>,
     first: usize,
@@ -159,6 +203,43 @@ pub fn find_shown<D: BlockDevice>(
             Some(next) => next,
             None => return Ok(None),
         };
+    }
+}
+
+/// Finds the entry of a name in the directory that begins with the pair of number `first`, where
+/// the slot `moved` counts as deleted: the one that a set move names (DESIGN.md of littlefs, "The
+/// move problem"). Returns None where no entry has the name. The call reads no more pairs than the
+/// directory has, and none where all these are cached. Without a moved slot it goes by halves, by
+/// 1 + log2 n reads of n pairs where each has a slot. The pair that has the name is cached then.
+///
+/// The caller's condition is that the directory's names rise where no slot is moved, as in an
+/// accepted image.
+///
+/// Errors: `Io` where a read failed. `NoMemory` where memory for a block isn't granted. The thread
+/// works after either.
+pub fn find_shown<D: BlockDevice>(
+    alloc: Global,
+    thread: &mut Thread<D>,
+    first: usize,
+    name: &[u8],
+    moved: Option<Spot>,
+) -> Result<Option<(Spot, Entry)>, Error>
+    requires works { thread.old.failed ≡ false }
+    requires below { first < length thread.old.kept.pairs }
+    requires in_order { moved ≡ None → IsInOrder thread.old.kept.disk.order thread.old.kept.pairs first }
+    ensures answer { IfOk result (AnswersShown thread.old.kept.pairs moved first name.now) }
+    ensures cached_log { IfOk result (λ found. IfSome found (λ f. IsSome (cached_log thread.new f.0.pair))) }
+    ensures few { reads thread.new.kept.history ≤ reads thread.old.kept.history + run_length (drop first thread.old.kept.pairs) }
+    ensures halves { moved ≡ None → ReadsByHalvesFrom thread.old thread.new first }
+    ensures loads { LoadsAlong (joined_run (drop first thread.old.kept.pairs)) thread.old thread.new result }
+    ensures reading { IsReading thread.old thread.new result }
+{
+    match moved {
+        Some(_) => find_along(alloc, thread, first, name, moved),
+        None => match find_name(alloc, thread, first, name)? {
+            Sought::Found(spot, entry) => Ok(Some((spot, entry))),
+            Sought::Place(_) => Ok(None),
+        },
     }
 }
 

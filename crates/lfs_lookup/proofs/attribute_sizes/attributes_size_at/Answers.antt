@@ -50,3 +50,9 @@ returns-in_default-clause-kept g c = c.shown_at.ensures.loads.none
 
 pub returns-clause-kept : goal.returns-clause-kept
 returns-clause-kept g c = λ there. ap (λ (t : Kept). reads t.history) c.size_of_slot.ensures.no_call ∙ c.shown_at.ensures.loads.none there
+
+pub returns-clause-halves : goal.returns-clause-halves
+returns-clause-halves g c settled slots =
+    let k = c.shown_at.ensures.halves settled slots in
+    let e = ap (λ (t : Kept). reads t.history) c.size_of_slot.ensures.no_call in
+    omega (arith, k, e)

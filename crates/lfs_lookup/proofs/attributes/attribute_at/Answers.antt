@@ -66,3 +66,15 @@ returns-in_err-bytes-clause-kept g c = λ there. ap (λ (t : Kept). reads t.hist
 
 pub returns-clause-kept : goal.returns-clause-kept
 returns-clause-kept g c = λ there. ap (λ (t : Kept). reads t.history) c.attribute_held.ensures.no_call ∙ c.shown_at.ensures.loads.none there
+
+pub returns-clause-halves : goal.returns-clause-halves
+returns-clause-halves g c settled slots =
+    let k = c.shown_at.ensures.halves settled slots in
+    let e = ap (λ (t : Kept). reads t.history) c.attribute_held.ensures.no_call in
+    omega (arith, k, e)
+
+pub returns-in_err-bytes-clause-halves : goal.returns-in_err-bytes-clause-halves
+returns-in_err-bytes-clause-halves g c settled slots =
+    let k = c.shown_at.ensures.halves settled slots in
+    let e = ap (λ (t : Kept). reads t.history) c.attribute_held.ensures.no_call in
+    omega (arith, k, e)

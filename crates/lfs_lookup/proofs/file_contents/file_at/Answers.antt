@@ -90,3 +90,15 @@ returns-in_err-contents-clause-reading g c =
     let p = err_from_is_err_and c.from_residual-in_err-contents.result c.from_residual-in_err-contents.ensures.1 in
     passed _ _ c.contents_of_slot.result c.from_residual-in_err-contents.result _ p.0 c.in_err-contents.was p.1 p.2
     (further _ _ _ c.contents_of_slot.result (answered _ _ c.shown_at.result c.in_ok-shown.shown c.in_ok-shown.was c.shown_at.ensures.reading) c.contents_of_slot.ensures.reading)
+
+pub returns-clause-halves : goal.returns-clause-halves
+returns-clause-halves g c settled slots =
+    let k = c.shown_at.ensures.halves settled slots in
+    let e = ap (λ (t : Kept). reads t.history) c.contents_of_slot.ensures.no_call in
+    omega (arith, k, e)
+
+pub returns-in_err-contents-clause-halves : goal.returns-in_err-contents-clause-halves
+returns-in_err-contents-clause-halves g c settled slots =
+    let k = c.shown_at.ensures.halves settled slots in
+    let e = ap (λ (t : Kept). reads t.history) c.contents_of_slot.ensures.no_call in
+    omega (arith, k, e)

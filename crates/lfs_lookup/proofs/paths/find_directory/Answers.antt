@@ -8,6 +8,8 @@ use Rattle.lfs_lookup.proofs.ReadOnly.{only_read, reported_on}
 use Rattle.lfs_lookup.proofs.LoadedDown.{run_same, searched_all, searched_on, searched_to_here, stops_none}
 use Rattle.lfs_lookup.proofs.RecentBlocks.{on_ok, passes_none}
 use Rattle.lfs_lookup.proofs.Descended.{name_at, some_at, begins_same, enters_same, few_same, few_whole, stops_at, descends_on, has_descended}
+use Rattle.lfs_lookup.proofs.HalvedDown.{halved_end, halved_step, halved_stop}
+use Rattle.lfs_lookup.proofs.Reading.{answered, answers, both}
 use Rattle.lfs_lookup.proofs.paths.find_directory.Goals as goal
 
 pub returns-in_err-next-clause-few : goal.returns-in_err-next-clause-few
@@ -20,13 +22,22 @@ returns-in_err-next-clause-few g c =
     let same = few_same c.args.thread.now.kept c.loop-name.thread.kept c.requires.hiding.accepted inv.only (take c.loop-name.name-index names) c.loop-name.first d.begins in
     few_whole c.args.thread.now.kept c.loop-name.thread.kept c.enter.new.thread.kept names c.loop-name.name-index c.loop-name.first n d at (omega (arith, few, same))
 
-pub returns-in_err-next-clause-only : goal.returns-in_err-next-clause-only
-returns-in_err-next-clause-only g c = only_read _ _ _ c.loop-name.invariant.only c.enter.ensures.only
-
-pub returns-in_err-next-clause-errors : goal.returns-in_err-next-clause-errors
-returns-in_err-next-clause-errors g c =
+pub returns-in_err-next-clause-reading : goal.returns-in_err-next-clause-reading
+returns-in_err-next-clause-reading g c =
     let p = err_from_is_err_and c.from_residual.result c.from_residual.ensures.1 in
-    reported_on _ _ _ c.enter.result c.from_residual.result _ p.0 (only_read _ _ _ c.loop-name.invariant.only c.enter.ensures.only) c.loop-name.invariant.no_fault c.enter.ensures.errors c.in_err-next.was p.1 p.2
+    let only = only_read _ _ _ c.loop-name.invariant.only c.enter.ensures.reading.only in
+    record {
+      only = only;
+      works = c.enter.ensures.reading.works;
+      reported = reported_on _ _ _ c.enter.result c.from_residual.result _ p.0 only c.loop-name.invariant.no_fault c.enter.ensures.reading.reported c.in_err-next.was p.1 p.2;
+    }
+
+pub returns-in_err-next-clause-halves : goal.returns-in_err-next-clause-halves
+returns-in_err-next-clause-halves g c none slots =
+    let inv = c.loop-name.invariant in
+    let (n, at) = some_at (λ name. name.now) c.args.path.now c.loop-name.name-index c.loop-name-test.true in
+    halved_stop c.args.thread.now c.loop-name.thread c.enter.new.thread (map (λ name. name.now) c.args.path.now) c.loop-name.name-index c.loop-name.first n c.requires.hiding.accepted inv.only inv.descended.begins at slots
+    (inv.halves none slots) (c.enter.ensures.halves none)
 
 pub returns-in-File-clause-answer : goal.returns-in-File-clause-answer
 returns-in-File-clause-answer g c =
@@ -49,8 +60,17 @@ returns-in-File-clause-few g c =
     let same = few_same c.args.thread.now.kept c.loop-name.thread.kept c.requires.hiding.accepted inv.only (take c.loop-name.name-index names) c.loop-name.first d.begins in
     few_whole c.args.thread.now.kept c.loop-name.thread.kept c.enter.new.thread.kept names c.loop-name.name-index c.loop-name.first n d at (omega (arith, few, same))
 
-pub returns-in-File-clause-only : goal.returns-in-File-clause-only
-returns-in-File-clause-only g c = only_read _ _ _ c.loop-name.invariant.only c.enter.ensures.only
+pub returns-in-File-clause-reading : goal.returns-in-File-clause-reading
+returns-in-File-clause-reading g c =
+    let inv = c.loop-name.invariant in
+    answers _ _ _ _ refl (both _ _ _ (record { only = inv.only; works = inv.works; same = inv.no_fault }) (answered _ _ c.enter.result c.in_ok-next.field-0 c.in_ok-next.was c.enter.ensures.reading))
+
+pub returns-in-File-clause-halves : goal.returns-in-File-clause-halves
+returns-in-File-clause-halves g c none slots =
+    let inv = c.loop-name.invariant in
+    let (n, at) = some_at (λ name. name.now) c.args.path.now c.loop-name.name-index c.loop-name-test.true in
+    halved_stop c.args.thread.now c.loop-name.thread c.enter.new.thread (map (λ name. name.now) c.args.path.now) c.loop-name.name-index c.loop-name.first n c.requires.hiding.accepted inv.only inv.descended.begins at slots
+    (inv.halves none slots) (c.enter.ensures.halves none)
 
 pub returns-in-Nothing-clause-answer : goal.returns-in-Nothing-clause-answer
 returns-in-Nothing-clause-answer g c =
@@ -73,8 +93,17 @@ returns-in-Nothing-clause-few g c =
     let same = few_same c.args.thread.now.kept c.loop-name.thread.kept c.requires.hiding.accepted inv.only (take c.loop-name.name-index names) c.loop-name.first d.begins in
     few_whole c.args.thread.now.kept c.loop-name.thread.kept c.enter.new.thread.kept names c.loop-name.name-index c.loop-name.first n d at (omega (arith, few, same))
 
-pub returns-in-Nothing-clause-only : goal.returns-in-Nothing-clause-only
-returns-in-Nothing-clause-only g c = only_read _ _ _ c.loop-name.invariant.only c.enter.ensures.only
+pub returns-in-Nothing-clause-reading : goal.returns-in-Nothing-clause-reading
+returns-in-Nothing-clause-reading g c =
+    let inv = c.loop-name.invariant in
+    answers _ _ _ _ refl (both _ _ _ (record { only = inv.only; works = inv.works; same = inv.no_fault }) (answered _ _ c.enter.result c.in_ok-next.field-0 c.in_ok-next.was c.enter.ensures.reading))
+
+pub returns-in-Nothing-clause-halves : goal.returns-in-Nothing-clause-halves
+returns-in-Nothing-clause-halves g c none slots =
+    let inv = c.loop-name.invariant in
+    let (n, at) = some_at (λ name. name.now) c.args.path.now c.loop-name.name-index c.loop-name-test.true in
+    halved_stop c.args.thread.now c.loop-name.thread c.enter.new.thread (map (λ name. name.now) c.args.path.now) c.loop-name.name-index c.loop-name.first n c.requires.hiding.accepted inv.only inv.descended.begins at slots
+    (inv.halves none slots) (c.enter.ensures.halves none)
 
 pub loop-name-preserved : goal.loop-name-preserved
 loop-name-preserved g c =
@@ -91,13 +120,14 @@ loop-name-preserved g c =
     let name = some_at (λ name. name.now) c.args.path.now c.loop-name.name-index c.loop-name-test.true in
     let l = length-map c.args.path.now (λ name. name.now) in
     record {
-      only = only_read _ _ _ inv.only c.enter.ensures.only;
-      no_fault = c.in_ok-next.ensures.errors.no_fault (λ e. absurd (let k : _ = e in cc)) ∙ inv.no_fault;
-      works = c.in_ok-next.ensures.works;
+      only = only_read _ _ _ inv.only c.enter.ensures.reading.only;
+      no_fault = c.in_ok-next.ensures.reading.reported.no_fault (λ e. absurd (let k : _ = e in cc)) ∙ inv.no_fault;
+      works = c.in_ok-next.ensures.reading.works;
       searched = searched_on c.args.thread.now c.loop-name.thread names c.loop-name.name-index name.0 name.1 inv.searched _
-          (run_same t c.loop-name.thread.kept (take c.loop-name.name-index names) c.loop-name.first c.requires.hiding.accepted inv.only d.begins) c.enter.new.thread c.in_ok-next.field-0 c.in_ok-next.ensures.loads c.enter.ensures.only.disk (omega (arith, below, l));
+          (run_same t c.loop-name.thread.kept (take c.loop-name.name-index names) c.loop-name.first c.requires.hiding.accepted inv.only d.begins) c.enter.new.thread c.in_ok-next.field-0 c.in_ok-next.ensures.loads c.enter.ensures.reading.only.disk (omega (arith, below, l));
       end = refl;
       within = omega (arith, below);
+      halves = λ none slots. halved_step c.args.thread.now c.loop-name.thread c.enter.new.thread names c.loop-name.name-index c.loop-name.first name.0 c.requires.hiding.accepted inv.only d.begins name.1 slots (inv.halves none slots) (c.enter.ensures.halves none);
       descended = descends_on t c.loop-name.thread.kept c.enter.new.thread.kept names c.loop-name.name-index c.loop-name.first _ d at (omega (arith, few, same)) c.in-Directory.next e;
     }
 
@@ -150,3 +180,14 @@ returns-clause-loads g c =
     let end = inv.end in
     let l = length-map c.args.path.now (λ name. name.now) in
     searched_all c.args.thread.now c.loop-name.thread (map (λ name. name.now) c.args.path.now) c.loop-name.name-index _ (λ q. fault_of q ≡ None) inv.searched (omega (arith, past, l)) (omega (arith, within, end, l))
+
+pub returns-clause-halves : goal.returns-clause-halves
+returns-clause-halves g c none slots =
+    let past = c.loop-name-test.false in
+    let l = length-map c.args.path.now (λ name. name.now) in
+    halved_end c.args.thread.now c.loop-name.thread (map (λ name. name.now) c.args.path.now) c.loop-name.name-index (omega (arith, past, l)) (c.loop-name.invariant.halves none slots)
+
+pub returns-clause-reading : goal.returns-clause-reading
+returns-clause-reading g c =
+    let inv = c.loop-name.invariant in
+    answers _ _ _ _ refl (record { only = inv.only; works = inv.works; same = inv.no_fault })

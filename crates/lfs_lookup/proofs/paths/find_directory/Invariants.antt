@@ -1,6 +1,9 @@
-use Rattle.std.proofs.Common.{◌≡◌, ◌≤◌, false, length, map}
-use Rattle.lfs_model.specs.History.{faults}
+use Rattle.std.proofs.Common.{◌≡◌, ◌≤◌, ◌+◌, false, length, map, take, None}
+use Rattle.std.specs.Prelude.{sum_by}
+use Rattle.lfs_model.specs.Frame.{parents}
+use Rattle.lfs_model.specs.History.{faults, reads}
 use Rattle.lfs_thread.specs.Steps.{IsOnlyRead}
+use Rattle.lfs_lookup.specs.Halves.{HaveSlotsOn, halvings_of_path}
 use Rattle.lfs_lookup.proofs.LoadedDown.{HasSearched}
 use Rattle.lfs_lookup.proofs.Descended.{HasDescended}
 use Rattle.lfs_lookup.proofs.paths.find_directory.Given as goal
@@ -13,5 +16,7 @@ invariant-loop-name g l = record {
   searched : HasSearched (map (λ name. name.now) l.fn.path) l.name-index l.fn.thread l.thread;
   end : l.name-index-end ≡ length l.fn.path;
   within : l.name-index ≤ l.name-index-end;
+  halves : l.fn.moved ≡ None → HaveSlotsOn l.fn.thread.kept.pairs (parents (map (λ name. name.now) l.fn.path))
+      → reads l.thread.kept.history ≤ reads l.fn.thread.kept.history + sum_by (halvings_of_path l.fn.thread.kept.pairs) (parents (take l.name-index (map (λ name. name.now) l.fn.path)));
   descended : HasDescended l.fn.thread.kept l.thread.kept (map (λ name. name.now) l.fn.path) l.name-index l.first;
 }

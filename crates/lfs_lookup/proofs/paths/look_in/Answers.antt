@@ -20,7 +20,7 @@ unwrap-first-requires g c =
     let leads = leads_to t c.requires.settled c.requires.reached.0 c.args.parent c.requires.reached.1 c.args.name.now spot.pair spot.id s (address_of c.in-Found-default-Directory.at) shows in
     some_there c.number_of.result _ (c.number_of.ensures.nowhere)
     (λ none. is_somewhere t c.requires.settled.accepted (c.requires.reached.0 ++ c.args.name.now ∷ []) (address_of c.in-Found-default-Directory.at) leads
-    (subst (AllByRecursion (λ p. same_pair p.at (address_of c.in-Found-default-Directory.at) ≡ false)) c.find_name.ensures.only.pairs none))
+    (subst (AllByRecursion (λ p. same_pair p.at (address_of c.in-Found-default-Directory.at) ≡ false)) c.find_name.ensures.reading.only.pairs none))
 
 pub returns-in-Found-default-Directory-clause-answer : goal.returns-in-Found-default-Directory-clause-answer
 returns-in-Found-default-Directory-clause-answer g c above on =
@@ -32,7 +32,7 @@ returns-in-Found-default-Directory-clause-answer g c above on =
       record {
         at = address_of c.in-Found-default-Directory.at;
         leads = leads_to t c.requires.settled above c.args.parent on c.args.name.now spot.pair spot.id s (address_of c.in-Found-default-Directory.at) shows;
-        begins = subst (λ ps. BeginsAt ps (address_of c.in-Found-default-Directory.at) c.unwrap-first.result) c.find_name.ensures.only.pairs
+        begins = subst (λ ps. BeginsAt ps (address_of c.in-Found-default-Directory.at) c.unwrap-first.result) c.find_name.ensures.reading.only.pairs
             (subst (λ (o : Option ℕ). IfSome o (BeginsAt c.find_name.new.thread.kept.pairs (address_of c.in-Found-default-Directory.at))) c.unwrap-first.ensures c.number_of.ensures.there);
       },
     )

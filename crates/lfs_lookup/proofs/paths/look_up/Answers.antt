@@ -1,9 +1,10 @@
-use Rattle.std.proofs.Common.{subst, arith}
+use Rattle.std.proofs.Common.{refl, subst, arith}
 use Rattle.lfs_model.specs.Frame.{pairs_of_path}
 use Rattle.lfs_lookup.specs.Paths.{Descends}
 use Rattle.lfs_lookup.proofs.ReadOnly.{only_read, reported_behind}
 use Rattle.lfs_lookup.proofs.Descended.{names_are, sum_is, looked_in, leads_past_file, leads_past_nothing, few_same}
 use Rattle.lfs_lookup.proofs.Entered.{hiding_none}
+use Rattle.lfs_lookup.proofs.HalvedDown.{halved_last, halved_short}
 use Rattle.lfs_lookup.proofs.paths.look_up.Goals as goal
 
 pub returns-in_err-parent-clause-few : goal.returns-in_err-parent-clause-few
@@ -18,7 +19,7 @@ returns-in-Directory-clause-answer g c =
     let t = c.args.thread.now.kept in
     let is = names_are (λ name. name.now) c.args.path.now _ _ c.in-Some.ensures.cases.0 in
     let d = subst (Descends t _) c.in-Directory.is c.in_ok-parent.ensures.answer in
-    looked_in t c.find_directory.new.thread.kept c.find_directory.ensures.only _ _ c.in-Directory.parent c.look_in.result d.begins c.look_in.ensures.answer _ is (d.fault _)
+    looked_in t c.find_directory.new.thread.kept c.find_directory.ensures.reading.only _ _ c.in-Directory.parent c.look_in.result d.begins c.look_in.ensures.answer _ is (d.fault _)
 
 pub returns-in-Directory-clause-few : goal.returns-in-Directory-clause-few
 returns-in-Directory-clause-few g c =
@@ -28,15 +29,15 @@ returns-in-Directory-clause-few g c =
     let s = sum_is (pairs_of_path c.args.thread.now.kept.pairs) _ _ _ is in
     let few = c.find_directory.ensures.few in
     let more = c.look_in.ensures.few in
-    let same = few_same t c.find_directory.new.thread.kept c.requires.settled.accepted c.find_directory.ensures.only _ c.in-Directory.parent d.begins in
+    let same = few_same t c.find_directory.new.thread.kept c.requires.settled.accepted c.find_directory.ensures.reading.only _ c.in-Directory.parent d.begins in
     omega (arith, s, few, more, same)
 
 pub returns-in-Directory-clause-only : goal.returns-in-Directory-clause-only
-returns-in-Directory-clause-only g c = only_read _ _ _ c.find_directory.ensures.only c.look_in.ensures.only
+returns-in-Directory-clause-only g c = only_read _ _ _ c.find_directory.ensures.reading.only c.look_in.ensures.only
 
 pub returns-in-Directory-clause-errors : goal.returns-in-Directory-clause-errors
 returns-in-Directory-clause-errors g c =
-    reported_behind _ _ _ c.look_in.result c.find_directory.ensures.only (c.in_ok-parent.ensures.errors.no_fault (λ e. absurd (let k : _ = e in cc))) c.look_in.ensures.only c.look_in.ensures.errors
+    reported_behind _ _ _ c.look_in.result c.find_directory.ensures.reading.only (c.in_ok-parent.ensures.reading.reported.no_fault (λ e. absurd (let k : _ = e in cc))) c.look_in.ensures.only c.look_in.ensures.errors
 
 pub returns-in-File-clause-answer : goal.returns-in-File-clause-answer
 returns-in-File-clause-answer g c =
@@ -66,3 +67,25 @@ returns-in-Nothing-clause-few g c =
 
 pub find_directory-requires-clause-hiding : goal.find_directory-requires-clause-hiding
 find_directory-requires-clause-hiding g c = hiding_none c.args.thread.now.kept c.requires.settled
+
+pub returns-in_err-parent-clause-halves : goal.returns-in_err-parent-clause-halves
+returns-in_err-parent-clause-halves g c =
+    let is = names_are (λ name. name.now) c.args.path.now _ _ c.in-Some.ensures.cases.0 in
+    halved_short c.args.thread.now c.find_directory.new.thread _ _ _ is (c.find_directory.ensures.halves refl)
+
+pub returns-in-File-clause-halves : goal.returns-in-File-clause-halves
+returns-in-File-clause-halves g c =
+    let is = names_are (λ name. name.now) c.args.path.now _ _ c.in-Some.ensures.cases.0 in
+    halved_short c.args.thread.now c.find_directory.new.thread _ _ _ is (c.find_directory.ensures.halves refl)
+
+pub returns-in-Nothing-clause-halves : goal.returns-in-Nothing-clause-halves
+returns-in-Nothing-clause-halves g c =
+    let is = names_are (λ name. name.now) c.args.path.now _ _ c.in-Some.ensures.cases.0 in
+    halved_short c.args.thread.now c.find_directory.new.thread _ _ _ is (c.find_directory.ensures.halves refl)
+
+pub returns-in-Directory-clause-halves : goal.returns-in-Directory-clause-halves
+returns-in-Directory-clause-halves g c =
+    let t = c.args.thread.now.kept in
+    let is = names_are (λ name. name.now) c.args.path.now _ _ c.in-Some.ensures.cases.0 in
+    let d = subst (Descends t _) c.in-Directory.is c.in_ok-parent.ensures.answer in
+    halved_last c.args.thread.now c.find_directory.new.thread _ _ _ is (c.find_directory.ensures.halves refl) c.look_in.new.thread c.in-Directory.parent c.requires.settled.accepted c.find_directory.ensures.reading.only d.begins c.look_in.ensures.halves

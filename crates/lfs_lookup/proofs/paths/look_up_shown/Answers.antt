@@ -9,6 +9,7 @@ use Rattle.lfs_lookup.proofs.RecentBlocks.{on_ok, passes_none}
 use Rattle.lfs_lookup.proofs.Descended.{hiding_same, names_are, sum_is, showed_in, few_same}
 use Rattle.lfs_model.specs.Session.{parent_fault}
 use Rattle.lfs_model.specs.Shown.{tree_in}
+use Rattle.lfs_lookup.proofs.HalvedDown.{halved_last, halved_short}
 use Rattle.lfs_lookup.proofs.paths.look_up_shown.Goals as goal
 
 pub returns-in_err-parent-clause-few : goal.returns-in_err-parent-clause-few
@@ -23,7 +24,7 @@ returns-in-Directory-clause-answer g c =
     let t = c.args.thread.now.kept in
     let is = names_are (λ name. name.now) c.args.path.now _ _ c.in-Some.ensures.cases.0 in
     let d = subst (Descends t _) c.in-Directory.is c.in_ok-parent.ensures.answer in
-    showed_in t c.find_directory.new.thread.kept c.args.moved c.find_directory.ensures.only _ _ c.in-Directory.parent c.show_in.result d.begins c.show_in.ensures.answer _ is (d.fault _)
+    showed_in t c.find_directory.new.thread.kept c.args.moved c.find_directory.ensures.reading.only _ _ c.in-Directory.parent c.show_in.result d.begins c.show_in.ensures.answer _ is (d.fault _)
 
 pub returns-in-Directory-clause-few : goal.returns-in-Directory-clause-few
 returns-in-Directory-clause-few g c =
@@ -33,7 +34,7 @@ returns-in-Directory-clause-few g c =
     let s = sum_is (pairs_of_path c.args.thread.now.kept.pairs) _ _ _ is in
     let few = c.find_directory.ensures.few in
     let more = c.show_in.ensures.few in
-    let same = few_same t c.find_directory.new.thread.kept c.requires.hiding.accepted c.find_directory.ensures.only _ c.in-Directory.parent d.begins in
+    let same = few_same t c.find_directory.new.thread.kept c.requires.hiding.accepted c.find_directory.ensures.reading.only _ c.in-Directory.parent d.begins in
     omega (arith, s, few, more, same)
 
 pub returns-in-Directory-clause-loads : goal.returns-in-Directory-clause-loads
@@ -42,16 +43,16 @@ returns-in-Directory-clause-loads g c =
     let is = names_are (λ name. name.now) c.args.path.now _ _ c.in-Some.ensures.cases.0 in
     let d = subst (Descends t _) c.in-Directory.is c.in_ok-parent.ensures.answer in
     down_last (λ q. fault_of q ≡ None) IsThrough c.args.thread.now c.find_directory.new.thread c.show_in.new.thread _ _ _ c.in_ok-parent.field-0 c.show_in.result _ is c.in_ok-parent.ensures.loads
-    (ap fault_of c.in-Directory.is) c.find_directory.ensures.only.disk
-    (run_same t c.find_directory.new.thread.kept _ c.in-Directory.parent c.requires.hiding.accepted c.find_directory.ensures.only d.begins) c.show_in.ensures.loads
+    (ap fault_of c.in-Directory.is) c.find_directory.ensures.reading.only.disk
+    (run_same t c.find_directory.new.thread.kept _ c.in-Directory.parent c.requires.hiding.accepted c.find_directory.ensures.reading.only d.begins) c.show_in.ensures.loads
 
 pub returns-in-Directory-clause-reading : goal.returns-in-Directory-clause-reading
 returns-in-Directory-clause-reading g c =
     let r = c.show_in.ensures.reading in
     record {
-      only = only_read _ _ _ c.find_directory.ensures.only r.only;
+      only = only_read _ _ _ c.find_directory.ensures.reading.only r.only;
       works = r.works;
-      reported = reported_behind _ _ _ c.show_in.result c.find_directory.ensures.only (c.in_ok-parent.ensures.errors.no_fault (λ e. absurd (let k : _ = e in cc))) r.only r.reported;
+      reported = reported_behind _ _ _ c.show_in.result c.find_directory.ensures.reading.only (c.in_ok-parent.ensures.reading.reported.no_fault (λ e. absurd (let k : _ = e in cc))) r.only r.reported;
     }
 
 pub returns-in-File-clause-answer : goal.returns-in-File-clause-answer
@@ -83,7 +84,7 @@ returns-in-Nothing-clause-few g c =
     omega (arith, s, few)
 
 pub show_in-requires-clause-hiding : goal.show_in-requires-clause-hiding
-show_in-requires-clause-hiding g c = hiding_same c.args.thread.now.kept c.find_directory.new.thread.kept c.args.moved c.find_directory.ensures.only c.requires.hiding
+show_in-requires-clause-hiding g c = hiding_same c.args.thread.now.kept c.find_directory.new.thread.kept c.args.moved c.find_directory.ensures.reading.only c.requires.hiding
 
 pub returns-in_err-parent-clause-loads : goal.returns-in_err-parent-clause-loads
 returns-in_err-parent-clause-loads g c =
@@ -103,3 +104,25 @@ returns-in-Nothing-clause-loads g c =
     let is = names_are (λ name. name.now) c.args.path.now _ _ c.in-Some.ensures.cases.0 in
     down_short (λ q. fault_of q ≡ None) IsThrough c.args.thread.now c.find_directory.new.thread _ _ _ c.find_directory.result _ is
     (λ P h. on_ok c.find_directory.result c.in_ok-parent.field-0 P c.in_ok-parent.was h) (λ Q e. absurd (let k : _ = e in cc)) c.find_directory.ensures.loads
+
+pub returns-in_err-parent-clause-halves : goal.returns-in_err-parent-clause-halves
+returns-in_err-parent-clause-halves g c none =
+    let is = names_are (λ name. name.now) c.args.path.now _ _ c.in-Some.ensures.cases.0 in
+    halved_short c.args.thread.now c.find_directory.new.thread _ _ _ is (c.find_directory.ensures.halves none)
+
+pub returns-in-File-clause-halves : goal.returns-in-File-clause-halves
+returns-in-File-clause-halves g c none =
+    let is = names_are (λ name. name.now) c.args.path.now _ _ c.in-Some.ensures.cases.0 in
+    halved_short c.args.thread.now c.find_directory.new.thread _ _ _ is (c.find_directory.ensures.halves none)
+
+pub returns-in-Nothing-clause-halves : goal.returns-in-Nothing-clause-halves
+returns-in-Nothing-clause-halves g c none =
+    let is = names_are (λ name. name.now) c.args.path.now _ _ c.in-Some.ensures.cases.0 in
+    halved_short c.args.thread.now c.find_directory.new.thread _ _ _ is (c.find_directory.ensures.halves none)
+
+pub returns-in-Directory-clause-halves : goal.returns-in-Directory-clause-halves
+returns-in-Directory-clause-halves g c none =
+    let t = c.args.thread.now.kept in
+    let is = names_are (λ name. name.now) c.args.path.now _ _ c.in-Some.ensures.cases.0 in
+    let d = subst (Descends t _) c.in-Directory.is c.in_ok-parent.ensures.answer in
+    halved_last c.args.thread.now c.find_directory.new.thread _ _ _ is (c.find_directory.ensures.halves none) c.show_in.new.thread c.in-Directory.parent c.requires.hiding.accepted c.find_directory.ensures.reading.only d.begins (c.show_in.ensures.halves none)

@@ -8,6 +8,7 @@ use Rattle.lfs_lookup.specs.Search.{AnswersShown}
 use Rattle.lfs_lookup.proofs.Entered.{leads_by, shown_slot, no_slot, is_somewhere, some_there}
 use Rattle.std.proofs.lemmas.Result.{err_from_is_err_and}
 use Rattle.lfs_lookup.proofs.RecentBlocks.{along_as, on_ok, passes_none}
+use Rattle.lfs_lookup.proofs.InOrder.{in_order_if}
 use Rattle.lfs_lookup.proofs.paths.show_in.Goals as goal
 
 pub unwrap-first-requires : goal.unwrap-first-requires
@@ -63,3 +64,6 @@ returns-in-Some-default-File-clause-loads g c = along_as _ _ _ c.find_shown.resu
 
 pub returns-in-None-clause-loads : goal.returns-in-None-clause-loads
 returns-in-None-clause-loads g c = along_as _ _ _ c.find_shown.result _ (λ P h. on_ok c.find_shown.result c.in_ok-slot.field-0 P c.in_ok-slot.was h) c.find_shown.ensures.loads
+
+pub find_shown-requires-clause-in_order : goal.find_shown-requires-clause-in_order
+find_shown-requires-clause-in_order g c = in_order_if c.args.thread.now.kept c.args.moved c.requires.reached.0 c.args.parent c.requires.hiding c.requires.reached.1

@@ -1,102 +1,342 @@
-use Rattle.std.proofs.Common.{subst₂, ℕ, ◌≡◌, inl, inr, ◌<◌, ◌+◌, ◌∙◌, true, List, slice_index_or, sym, ap, subst, length, drop, arith, refl, None}
+use Rattle.std.proofs.Common.{subst₂, ℕ, ◌≡◌, ◌⊎◌, inl, inr, ◌<◌, ◌≤◌, ◌+◌, ◌-◌, ◌/◌, ◌∙◌, ◌∷◌, [], List, slice_index_or, sym, ap, subst, length, drop, arith, refl, None}
 use Rattle.std.proofs.lemmas.Result.{err_from_is_err_and}
 use Rattle.lfs_model.specs.Disk.{Disk}
-use Rattle.lfs_model.specs.Thread.{Pair, is_hard}
-use Rattle.lfs_model.specs.InDirectory.{StandsAt, PlaceAt, run_length}
+use Rattle.lfs_model.specs.History.{reads}
+use Rattle.lfs_model.specs.InDirectory.{PlaceAt, StandsAt, run_length}
+use Rattle.lfs_model.specs.Thread.{Pair}
 use Rattle.lfs_thread.specs.Steps.{pair_in, no_pair}
+use Rattle.lfs_lookup.specs.CachedPairs.{LoadsAlong}
 use Rattle.lfs_lookup.specs.Entry.{EntryShows}
+use Rattle.lfs_lookup.specs.Halves.{halvings}
+use Rattle.lfs_lookup.specs.Listed.{joined_run}
 use Rattle.lfs_lookup.specs.Search.{AnswersIn}
-use Rattle.lfs_lookup.proofs.ReadOnly.{only_read, reported_on}
-use Rattle.lfs_lookup.proofs.Walked.{IsWalked, Moves, moves, stays, stands_here, ended, walked_on, run_on, run_some, leads_on, leads_nowhere}
+use Rattle.lfs_lookup.proofs.Halved.{IsLow, at_run, begun, belongs_between, belongs_inside, ends, exceeds, low_past, passed, passes, run_count, stands_at, starts}
+use Rattle.lfs_lookup.proofs.HalvedReads.{HasHalved, HasLoaded, halved_all, halved_none, halved_on, halved_to_here, has_slot, loaded_nothing, loaded_on, loaded_past, loads_all, loads_here, lower_half, middle_below, upper_half}
+use Rattle.lfs_lookup.proofs.Reading.{answered, answers, both, further, has_read_nothing, passed as passed_on}
+use Rattle.lfs_lookup.proofs.RecentBlocks.{on_ok, passes_none}
+use Rattle.lfs_lookup.proofs.Walked.{run_some}
 use Rattle.lfs_lookup.proofs.search.find_name.Goals as goal
-use Rattle.lfs_lookup.proofs.search.find_name.Goals.{then-pair-first, then-pair-first-via-then-pair-first, then-pair-first-via-else-pair-first+then-id-gt0, else-pair-first+else-id-gt0}
+use Rattle.lfs_lookup.proofs.search.find_name.Goals.{else-count-eq0-via-then-count-eq0+else-pair-first, else-count-eq0-via-else-count-eq0, else-id-eq0-via-then-id-eq0+else-count-gt0, else-id-eq0-via-else-id-eq0}
 
-pub returns-in_err-id-clause-only : goal.returns-in_err-id-clause-only
-returns-in_err-id-clause-only g c = only_read _ _ _ c.loop-id.invariant.only c.find_in_pair.ensures.reading.only
+pub loop-low-init : goal.loop-low-init
+loop-low-init g c =
+    let ps = c.args.thread.now.kept.pairs in
+    let e = c.end_of-high.ensures.count in
+    let one = run_some ps c.args.first c.requires.below in
+    let size : run_length (drop c.args.first ps) ≡ c.end_of-high.result - c.args.first = omega (arith, e) in
+    record {
+      read = has_read_nothing c.args.thread.now c.requires.works;
+      from = omega arith;
+      meets = omega (arith, e);
+      end = omega (arith, e);
+      within = c.end_of-high.ensures.within;
+      fits = omega (arith, c.end_of-high.type_inv);
+      few = omega (arith, e);
+      halves = λ slots. subst (λ (n : ℕ). HasHalved (halvings (run_length (drop c.args.first ps))) (reads c.args.thread.now.kept.history) (reads c.args.thread.now.kept.history) n) size
+          (halved_none (reads c.args.thread.now.kept.history) (run_length (drop c.args.first ps)));
+      loaded = loaded_nothing (joined_run (drop c.args.first ps)) c.args.first c.end_of-high.result c.args.thread.now (omega (arith, e, one));
+      lesser = begun refl refl refl;
+      greater = ends (e ∙ ap (λ (n : ℕ). c.args.first + n) (sym (run_count (drop c.args.first ps))));
+    }
+
+pub middle_of-pair-requires-clause-works : goal.middle_of-pair-requires-clause-works
+middle_of-pair-requires-clause-works g c = c.loop-low.invariant.read.works
+
+pub middle_of-pair-requires-clause-below : goal.middle_of-pair-requires-clause-below
+middle_of-pair-requires-clause-below g c =
+    let inv = c.loop-low.invariant in
+    let within = inv.within in
+    let e = ap (λ (qs : List Pair). length qs) inv.read.only.pairs in
+    omega (arith, within, e)
+
+pub slot_count-count-requires-clause-works : goal.slot_count-count-requires-clause-works
+slot_count-count-requires-clause-works g c = c.loop-low.invariant.read.works
+
+pub slot_count-count-requires-clause-below : goal.slot_count-count-requires-clause-below
+slot_count-count-requires-clause-below g c =
+    let inv = c.loop-low.invariant in
+    let within = inv.within in
+    let e = ap (λ (qs : List Pair). length qs) inv.read.only.pairs in
+    let w = c.middle_of-pair.ensures.within in
+    let l = w.1 in
+    omega (arith, within, e, l)
+
+pub overflow_add-low : goal.overflow_add-low
+overflow_add-low g c =
+    let fits = c.loop-low.invariant.fits in
+    let w = c.middle_of-pair.ensures.within in
+    let l = w.1 in
+    omega (arith, fits, l)
+
+pub overflow_add-low-in-loop-low : goal.overflow_add-low-in-loop-low
+overflow_add-low-in-loop-low g c =
+    let fits = c.loop-low.invariant.fits in
+    let w = c.middle_of-pair.ensures.within in
+    let l = w.1 in
+    omega (arith, fits, l)
+
+pub find_in_pair-requires-clause-works : goal.find_in_pair-requires-clause-works
+find_in_pair-requires-clause-works g c = c.loop-low.invariant.read.works
+
+pub find_in_pair-requires-clause-below : goal.find_in_pair-requires-clause-below
+find_in_pair-requires-clause-below g c =
+    let inv = c.loop-low.invariant in
+    let within = inv.within in
+    let e = ap (λ (qs : List Pair). length qs) inv.read.only.pairs in
+    let w = c.middle_of-pair.ensures.within in
+    let l = w.1 in
+    omega (arith, within, e, l)
+
+pub loop-low-preserved-then-pair-first : goal.loop-low-preserved-then-pair-first
+loop-low-preserved-then-pair-first g c =
+    let inv = c.loop-low.invariant in
+    let ps = c.args.thread.now.kept.pairs in
+    let w = c.middle_of-pair.ensures.within in
+    let some = c.loop-low-test.true in
+    let a = at_run ps c.args.first c.middle_of-pair.result no_pair (let f = inv.from in let l = w.0 in omega (arith, f, l)) (let e = inv.end in let l = w.1 in omega (arith, e, l)) in
+    let none = c.if-count-eq0.true in
+    let is : c.middle_of-pair.result ≡ c.loop-low.low = c.middle_of-pair.ensures.low (sym c.slot_count-count.ensures ∙ none) in
+    let later = c.if-pair-first.true in
+    let count = c.slot_count-count.ensures ∙ ap (λ (qs : List Pair). length (slice_index_or qs c.middle_of-pair.result no_pair).content.slots) inv.read.only.pairs in
+    let from = inv.from in
+    let few = inv.few in
+    let below = w.1 in
+    record {
+      read = inv.read;
+      from = omega (arith, later);
+      meets = omega (arith, below);
+      end = inv.end;
+      within = inv.within;
+      fits = inv.fits;
+      few = omega (arith, few, is);
+      halves = λ slots. absurd (let k = has_slot _ _ _ _ a slots in omega (arith, k, count, none));
+      loaded = subst (λ (n : ℕ). HasLoaded (joined_run (drop c.args.first ps)) c.args.first (n + 1) c.loop-low.high c.args.thread.now c.loop-low.thread) (sym is)
+          (loaded_past (joined_run (drop c.args.first ps)) c.args.first c.loop-low.low c.loop-low.high c.args.thread.now c.loop-low.thread inv.loaded some (omega (arith, later, is)));
+      lesser = low_past c.args.thread.now.kept.disk.order ps c.args.first c.args.name.now c.middle_of-pair.result (slice_index_or ps c.middle_of-pair.result no_pair) a c.loop-low.spot.pair c.loop-low.spot.id
+          (subst (λ (n : ℕ). IsLow c.args.thread.now.kept.disk.order (joined_run (drop c.args.first ps)) c.args.first c.args.name.now c.loop-low.spot.pair c.loop-low.spot.id n) (sym is) inv.lesser) later (omega (arith, count, none));
+      greater = inv.greater;
+    }
 
 pub returns-in_err-id-clause-few : goal.returns-in_err-id-clause-few
 returns-in_err-id-clause-few g c =
-    let inv = c.loop-id.invariant in
-    let f = inv.few in
-    let n = c.find_in_pair.ensures.few in
-    let one = run_some c.args.thread.now.kept.pairs c.loop-id.pair inv.below in
-    omega (arith, f, n, one)
+    let few = c.loop-low.invariant.few in
+    let once = c.find_in_pair.ensures.few in
+    let some = c.loop-low-test.true in
+    omega (arith, few, once, some)
 
-pub returns-in_err-id-clause-errors : goal.returns-in_err-id-clause-errors
-returns-in_err-id-clause-errors g c =
+pub returns-in_err-id-clause-halves : goal.returns-in_err-id-clause-halves
+returns-in_err-id-clause-halves g c slots =
+    let some = c.loop-low-test.true in
+    halved_to_here _ _ _ _ _ (c.loop-low.invariant.halves slots) (omega (arith, some)) c.find_in_pair.ensures.few
+
+pub returns-in_err-id-clause-loads : goal.returns-in_err-id-clause-loads
+returns-in_err-id-clause-loads g c =
+    let inv = c.loop-low.invariant in
+    let ps = c.args.thread.now.kept.pairs in
+    let w = c.middle_of-pair.ensures.within in
+    let some = c.loop-low-test.true in
+    let a = at_run ps c.args.first c.middle_of-pair.result no_pair (let f = inv.from in let l = w.0 in omega (arith, f, l)) (let e = inv.end in let l = w.1 in omega (arith, e, l)) in
+    let b = subst (λ (qs : List Pair). LoadsAlong (slice_index_or qs c.middle_of-pair.result no_pair ∷ []) c.loop-low.thread c.find_in_pair.new.thread c.find_in_pair.result) inv.read.only.pairs c.find_in_pair.ensures.loads in
     let p = err_from_is_err_and c.from_residual.result c.from_residual.ensures.1 in
-    reported_on _ _ _ c.find_in_pair.result c.from_residual.result _ p.0 (only_read _ _ _ c.loop-id.invariant.only c.find_in_pair.ensures.reading.only) c.loop-id.invariant.no_fault c.find_in_pair.ensures.reading.reported c.in_err-id.was p.1 p.2
+    loads_here (joined_run (drop c.args.first ps)) c.args.first c.loop-low.low c.loop-low.high c.middle_of-pair.result (slice_index_or ps c.middle_of-pair.result no_pair) c.args.thread.now c.loop-low.thread c.find_in_pair.new.thread c.find_in_pair.result a inv.loaded some b c.from_residual.result (passes_none c.find_in_pair.result c.from_residual.result p.0 p.1)
+
+pub returns-in_err-id-clause-reading : goal.returns-in_err-id-clause-reading
+returns-in_err-id-clause-reading g c =
+    let p = err_from_is_err_and c.from_residual.result c.from_residual.ensures.1 in
+    passed_on _ _ c.find_in_pair.result c.from_residual.result _ p.0 c.in_err-id.was p.1 p.2 (further _ _ _ c.find_in_pair.result c.loop-low.invariant.read c.find_in_pair.ensures.reading)
 
 pub returns-in-Found-clause-answer : goal.returns-in-Found-clause-answer
 returns-in-Found-clause-answer g c =
-    let inv = c.loop-id.invariant in
-    let a = subst (λ o. AnswersIn c.loop-id.thread.kept.disk.order None (pair_in c.loop-id.thread.kept c.loop-id.pair).content.slots c.args.name.now o) c.in-Found.is c.in_ok-id.ensures.answer in
-    let (s, shows) = subst (λ (ps : List Pair). (s : StandsAt (slice_index_or ps c.loop-id.pair no_pair).content.slots c.args.name.now c.in-Found.id) × EntryShows c.in-Found.entry s.slot.struct) inv.only.pairs (a.stands, a.shows) in
-    stands_here c.args.thread.now.kept.pairs c.args.first c.args.name.now _ _ c.loop-id.pair c.in-Found.id no_pair inv.walked inv.below c.requires.entries c.in-Found.entry s shows
+    let inv = c.loop-low.invariant in
+    let ps = c.args.thread.now.kept.pairs in
+    let w = c.middle_of-pair.ensures.within in
+    let some = c.loop-low-test.true in
+    let a = at_run ps c.args.first c.middle_of-pair.result no_pair (let f = inv.from in let l = w.0 in omega (arith, f, l)) (let e = inv.end in let l = w.1 in omega (arith, e, l)) in
+    let answer = subst (λ o. AnswersIn c.loop-low.thread.kept.disk.order None (pair_in c.loop-low.thread.kept c.middle_of-pair.result).content.slots c.args.name.now o) c.in-Found.is c.in_ok-id.ensures.answer in
+    let (s, shows) = subst (λ (qs : List Pair). (s : StandsAt (slice_index_or qs c.middle_of-pair.result no_pair).content.slots c.args.name.now c.in-Found.id) × EntryShows c.in-Found.entry s.slot.struct) inv.read.only.pairs (answer.stands, answer.shows) in
+    stands_at c.args.thread.now.kept.disk.order ps c.args.first c.args.name.now c.middle_of-pair.result (slice_index_or ps c.middle_of-pair.result no_pair) a c.requires.below c.in-Found.id c.in-Found.entry s shows
 
-pub returns-in-Found-clause-only : goal.returns-in-Found-clause-only
-returns-in-Found-clause-only g c = only_read _ _ _ c.loop-id.invariant.only c.find_in_pair.ensures.reading.only
+pub returns-in-Found-clause-few : goal.returns-in-Found-clause-few
+returns-in-Found-clause-few g c =
+    let few = c.loop-low.invariant.few in
+    let once = c.find_in_pair.ensures.few in
+    let some = c.loop-low-test.true in
+    omega (arith, few, once, some)
 
-pub returns-then-from-slot_count-clause-only : goal.returns-then-from-slot_count-clause-only
-returns-then-from-slot_count-clause-only g c = only_read _ _ _ c.loop-id.invariant.only c.find_in_pair.ensures.reading.only
+pub returns-in-Found-clause-halves : goal.returns-in-Found-clause-halves
+returns-in-Found-clause-halves g c slots =
+    let some = c.loop-low-test.true in
+    halved_to_here _ _ _ _ _ (c.loop-low.invariant.halves slots) (omega (arith, some)) c.find_in_pair.ensures.few
 
-pub returns-in-None-clause-only : goal.returns-in-None-clause-only
-returns-in-None-clause-only g c = only_read _ _ _ c.loop-id.invariant.only c.find_in_pair.ensures.reading.only
+pub returns-in-Found-clause-loads : goal.returns-in-Found-clause-loads
+returns-in-Found-clause-loads g c =
+    let inv = c.loop-low.invariant in
+    let ps = c.args.thread.now.kept.pairs in
+    let w = c.middle_of-pair.ensures.within in
+    let some = c.loop-low-test.true in
+    let a = at_run ps c.args.first c.middle_of-pair.result no_pair (let f = inv.from in let l = w.0 in omega (arith, f, l)) (let e = inv.end in let l = w.1 in omega (arith, e, l)) in
+    let b = subst (λ (qs : List Pair). LoadsAlong (slice_index_or qs c.middle_of-pair.result no_pair ∷ []) c.loop-low.thread c.find_in_pair.new.thread c.find_in_pair.result) inv.read.only.pairs c.find_in_pair.ensures.loads in
+    loads_here (joined_run (drop c.args.first ps)) c.args.first c.loop-low.low c.loop-low.high c.middle_of-pair.result (slice_index_or ps c.middle_of-pair.result no_pair) c.args.thread.now c.loop-low.thread c.find_in_pair.new.thread c.find_in_pair.result a inv.loaded some b _ (λ P h. on_ok c.find_in_pair.result c.in_ok-id.field-0 P c.in_ok-id.was h)
 
-pub returns-then-from-slot_count-clause-answer : goal.returns-then-from-slot_count-clause-answer
-returns-then-from-slot_count-clause-answer g c =
-    let inv = c.loop-id.invariant in
-    let a = subst (λ o. AnswersIn c.loop-id.thread.kept.disk.order None (pair_in c.loop-id.thread.kept c.loop-id.pair).content.slots c.args.name.now o) c.in-Place.is c.in_ok-id.ensures.answer in
-    let place = subst₂ (λ (d : Disk) (ps : List Pair). PlaceAt d.order (slice_index_or ps c.loop-id.pair no_pair).content.slots c.args.name.now c.in-Place.id) inv.only.disk inv.only.pairs (a.place refl) in
-    let pairs = c.in_ok-id.ensures.reading.only.pairs ∙ inv.only.pairs in
-    let count = c.slot_count.ensures ∙ ap (λ (ps : List Pair). length (slice_index_or ps c.loop-id.pair no_pair).content.slots) pairs in
-    let moved : Moves c.args.first c.loop-id.pair c.in-Place.id c.loop-id.spot.pair c.loop-id.spot.id c.if-pair-first.spot.pair c.if-pair-first.spot.id = elim c.if-pair-first.branch [
-      | then-pair-first w ↦ moves (elim w.then-pair-first.branch [ then-pair-first-via-then-pair-first v ↦ inl v.if-pair-first.true | then-pair-first-via-else-pair-first+then-id-gt0 v ↦ inr (omega arith) ]) (ap (λ s. s.pair) w.spot-is) (ap (λ s. s.id) w.spot-is)
-      | else-pair-first+else-id-gt0 w ↦ stays w.if-pair-first.false (omega arith) (ap (λ s. s.pair) w.spot-is) (ap (λ s. s.id) w.spot-is)
+pub returns-in-Found-clause-reading : goal.returns-in-Found-clause-reading
+returns-in-Found-clause-reading g c =
+    let inv = c.loop-low.invariant in
+    answers _ _ _ _ refl (both _ _ _ inv.read (answered _ _ c.find_in_pair.result c.in_ok-id.field-0 c.in_ok-id.was c.find_in_pair.ensures.reading))
+
+pub returns-then-from-count-clause-answer : goal.returns-then-from-count-clause-answer
+returns-then-from-count-clause-answer g c =
+    let inv = c.loop-low.invariant in
+    let ps = c.args.thread.now.kept.pairs in
+    let w = c.middle_of-pair.ensures.within in
+    let some = c.loop-low-test.true in
+    let a = at_run ps c.args.first c.middle_of-pair.result no_pair (let f = inv.from in let l = w.0 in omega (arith, f, l)) (let e = inv.end in let l = w.1 in omega (arith, e, l)) in
+    let answer = subst (λ o. AnswersIn c.loop-low.thread.kept.disk.order None (pair_in c.loop-low.thread.kept c.middle_of-pair.result).content.slots c.args.name.now o) c.in-Place.is c.in_ok-id.ensures.answer in
+    let place = subst₂ (λ (d : Disk) (qs : List Pair). PlaceAt d.order (slice_index_or qs c.middle_of-pair.result no_pair).content.slots c.args.name.now c.in-Place.id) inv.read.only.disk inv.read.only.pairs (answer.place refl) in
+    let count = c.slot_count-count.ensures ∙ ap (λ (qs : List Pair). length (slice_index_or qs c.middle_of-pair.result no_pair).content.slots) inv.read.only.pairs in
+    let less = c.if-from-count.true in
+    let from = c.from.ensures in
+    let inside : c.in-Place.id < length (slice_index_or ps c.middle_of-pair.result no_pair).content.slots = omega (arith, less, from, count) in
+    let other : 0 < c.in-Place.id = elim c.else-id-eq0.branch [
+      | else-id-eq0-via-then-id-eq0+else-count-gt0 v ↦ absurd (let k = v.if-count-gt0.false in omega (arith, k, inside, count))
+      | else-id-eq0-via-else-id-eq0 v ↦ (let k = v.if-id-eq0.false in omega (arith, k))
     ] in
-    ended c.args.thread.now.kept.pairs c.args.first c.args.name.now _ _ c.loop-id.pair c.in-Place.id no_pair inv.walked inv.below c.requires.entries place _ _ moved
-    (inl (let t = c.if-from-slot_count.true in let f = c.from.ensures in omega arith))
+    belongs_inside c.args.thread.now.kept.disk.order ps c.args.first c.args.name.now c.middle_of-pair.result (slice_index_or ps c.middle_of-pair.result no_pair) a c.requires.below c.requires.entries c.in-Place.id place (inr other) inside
 
-pub returns-in-None-clause-answer : goal.returns-in-None-clause-answer
-returns-in-None-clause-answer g c =
-    let inv = c.loop-id.invariant in
-    let a = subst (λ o. AnswersIn c.loop-id.thread.kept.disk.order None (pair_in c.loop-id.thread.kept c.loop-id.pair).content.slots c.args.name.now o) c.in-Place.is c.in_ok-id.ensures.answer in
-    let place = subst₂ (λ (d : Disk) (ps : List Pair). PlaceAt d.order (slice_index_or ps c.loop-id.pair no_pair).content.slots c.args.name.now c.in-Place.id) inv.only.disk inv.only.pairs (a.place refl) in
-    let pairs = c.in_ok-id.ensures.reading.only.pairs ∙ inv.only.pairs in
-    let moved : Moves c.args.first c.loop-id.pair c.in-Place.id c.loop-id.spot.pair c.loop-id.spot.id c.if-pair-first.spot.pair c.if-pair-first.spot.id = elim c.if-pair-first.branch [
-      | then-pair-first w ↦ moves (elim w.then-pair-first.branch [ then-pair-first-via-then-pair-first v ↦ inl v.if-pair-first.true | then-pair-first-via-else-pair-first+then-id-gt0 v ↦ inr (omega arith) ]) (ap (λ s. s.pair) w.spot-is) (ap (λ s. s.id) w.spot-is)
-      | else-pair-first+else-id-gt0 w ↦ stays w.if-pair-first.false (omega arith) (ap (λ s. s.pair) w.spot-is) (ap (λ s. s.id) w.spot-is)
-    ] in
-    let soft = leads_nowhere (is_hard (pair_in c.find_in_pair.new.thread.kept c.loop-id.pair).content.tail) (c.loop-id.pair + 1) (sym c.next.ensures.next ∙ c.in-None.is) in
-    ended c.args.thread.now.kept.pairs c.args.first c.args.name.now _ _ c.loop-id.pair c.in-Place.id no_pair inv.walked inv.below c.requires.entries place _ _ moved
-    (inr (ap (λ (ps : List Pair). is_hard (slice_index_or ps c.loop-id.pair no_pair).content.tail) (sym pairs) ∙ soft))
+pub returns-then-from-count-clause-few : goal.returns-then-from-count-clause-few
+returns-then-from-count-clause-few g c =
+    let few = c.loop-low.invariant.few in
+    let once = c.find_in_pair.ensures.few in
+    let some = c.loop-low-test.true in
+    omega (arith, few, once, some)
 
-pub loop-id-preserved : goal.loop-id-preserved
-loop-id-preserved g c =
-    let inv = c.loop-id.invariant in
-    let a = subst (λ o. AnswersIn c.loop-id.thread.kept.disk.order None (pair_in c.loop-id.thread.kept c.loop-id.pair).content.slots c.args.name.now o) c.in-Place.is c.in_ok-id.ensures.answer in
-    let place = subst₂ (λ (d : Disk) (ps : List Pair). PlaceAt d.order (slice_index_or ps c.loop-id.pair no_pair).content.slots c.args.name.now c.in-Place.id) inv.only.disk inv.only.pairs (a.place refl) in
-    let pairs = c.in_ok-id.ensures.reading.only.pairs ∙ inv.only.pairs in
-    let count = c.slot_count.ensures ∙ ap (λ (ps : List Pair). length (slice_index_or ps c.loop-id.pair no_pair).content.slots) pairs in
-    let on = leads_on (is_hard (pair_in c.find_in_pair.new.thread.kept c.loop-id.pair).content.tail) (c.loop-id.pair + 1) c.in-Some.next (sym c.next.ensures.next ∙ c.in-Some.is) in
-    let hard : is_hard (slice_index_or c.args.thread.now.kept.pairs c.loop-id.pair no_pair).content.tail ≡ true = ap (λ (ps : List Pair). is_hard (slice_index_or ps c.loop-id.pair no_pair).content.tail) (sym pairs) ∙ on.0 in
-    let moved : Moves c.args.first c.loop-id.pair c.in-Place.id c.loop-id.spot.pair c.loop-id.spot.id c.if-pair-first.spot.pair c.if-pair-first.spot.id = elim c.if-pair-first.branch [
-      | then-pair-first w ↦ moves (elim w.then-pair-first.branch [ then-pair-first-via-then-pair-first v ↦ inl v.if-pair-first.true | then-pair-first-via-else-pair-first+then-id-gt0 v ↦ inr (omega arith) ]) (ap (λ s. s.pair) w.spot-is) (ap (λ s. s.id) w.spot-is)
-      | else-pair-first+else-id-gt0 w ↦ stays w.if-pair-first.false (omega arith) (ap (λ s. s.pair) w.spot-is) (ap (λ s. s.id) w.spot-is)
-    ] in
-    let next : c.in-Some.next ≡ c.loop-id.pair + 1 = on.1 in
-    let behind : c.in-Some.next < length c.args.thread.now.kept.pairs = subst (λ (ps : List Pair). c.in-Some.next < length ps) pairs c.in-Some.ensures.below in
-    let run = run_on c.args.thread.now.kept.pairs c.loop-id.pair no_pair inv.below hard ∙ ap (λ (n : ℕ). 1 + run_length (drop n c.args.thread.now.kept.pairs)) (sym next) in
+pub returns-then-from-count-clause-halves : goal.returns-then-from-count-clause-halves
+returns-then-from-count-clause-halves g c slots =
+    let some = c.loop-low-test.true in
+    halved_to_here _ _ _ _ _ (c.loop-low.invariant.halves slots) (omega (arith, some)) c.find_in_pair.ensures.few
+
+pub returns-then-from-count-clause-loads : goal.returns-then-from-count-clause-loads
+returns-then-from-count-clause-loads g c =
+    let inv = c.loop-low.invariant in
+    let ps = c.args.thread.now.kept.pairs in
+    let w = c.middle_of-pair.ensures.within in
+    let some = c.loop-low-test.true in
+    let a = at_run ps c.args.first c.middle_of-pair.result no_pair (let f = inv.from in let l = w.0 in omega (arith, f, l)) (let e = inv.end in let l = w.1 in omega (arith, e, l)) in
+    let b = subst (λ (qs : List Pair). LoadsAlong (slice_index_or qs c.middle_of-pair.result no_pair ∷ []) c.loop-low.thread c.find_in_pair.new.thread c.find_in_pair.result) inv.read.only.pairs c.find_in_pair.ensures.loads in
+    loads_here (joined_run (drop c.args.first ps)) c.args.first c.loop-low.low c.loop-low.high c.middle_of-pair.result (slice_index_or ps c.middle_of-pair.result no_pair) c.args.thread.now c.loop-low.thread c.find_in_pair.new.thread c.find_in_pair.result a inv.loaded some b _ (λ P h. on_ok c.find_in_pair.result c.in_ok-id.field-0 P c.in_ok-id.was h)
+
+pub returns-then-from-count-clause-reading : goal.returns-then-from-count-clause-reading
+returns-then-from-count-clause-reading g c =
+    let inv = c.loop-low.invariant in
+    answers _ _ _ _ refl (both _ _ _ inv.read (answered _ _ c.find_in_pair.result c.in_ok-id.field-0 c.in_ok-id.was c.find_in_pair.ensures.reading))
+
+pub loop-low-preserved-then-count-gt0 : goal.loop-low-preserved-then-count-gt0
+loop-low-preserved-then-count-gt0 g c =
+    let inv = c.loop-low.invariant in
+    let ps = c.args.thread.now.kept.pairs in
+    let w = c.middle_of-pair.ensures.within in
+    let some = c.loop-low-test.true in
+    let a = at_run ps c.args.first c.middle_of-pair.result no_pair (let f = inv.from in let l = w.0 in omega (arith, f, l)) (let e = inv.end in let l = w.1 in omega (arith, e, l)) in
+    let b = subst (λ (qs : List Pair). LoadsAlong (slice_index_or qs c.middle_of-pair.result no_pair ∷ []) c.loop-low.thread c.find_in_pair.new.thread c.find_in_pair.result) inv.read.only.pairs c.find_in_pair.ensures.loads in
+    let answer = subst (λ o. AnswersIn c.loop-low.thread.kept.disk.order None (pair_in c.loop-low.thread.kept c.middle_of-pair.result).content.slots c.args.name.now o) c.in-Place.is c.in_ok-id.ensures.answer in
+    let place = subst₂ (λ (d : Disk) (qs : List Pair). PlaceAt d.order (slice_index_or qs c.middle_of-pair.result no_pair).content.slots c.args.name.now c.in-Place.id) inv.read.only.disk inv.read.only.pairs (answer.place refl) in
+    let count = c.slot_count-count.ensures ∙ ap (λ (qs : List Pair). length (slice_index_or qs c.middle_of-pair.result no_pair).content.slots) inv.read.only.pairs in
     let few = inv.few in
-    let once = c.in_ok-id.ensures.few in
+    let once = c.find_in_pair.ensures.few in
     let from = inv.from in
+    let end = inv.end in
+    let within = inv.within in
+    let fits = inv.fits in
+    let least = w.0 in
+    let most = w.1 in
+    let run = run_count (drop c.args.first ps) in
+    let none = c.if-id-eq0.true in
+    let has = c.if-count-gt0.true in
     record {
-      only = only_read _ _ _ inv.only c.in_ok-id.ensures.reading.only;
-      no_fault = c.in_ok-id.ensures.reading.reported.no_fault (λ e. absurd (let k : _ = e in cc)) ∙ inv.no_fault;
-      works = c.in_ok-id.ensures.reading.works;
-      few = omega (arith, few, once, run);
-      from = omega (arith, from, next);
-      below = behind;
-      walked = subst (λ (n : ℕ). IsWalked c.args.thread.now.kept.disk.order c.args.thread.now.kept.pairs c.args.first c.args.name.now c.if-pair-first.spot.pair c.if-pair-first.spot.id n) (sym next)
-          (walked_on c.args.thread.now.kept.pairs c.args.first c.args.name.now _ _ c.loop-id.pair c.in-Place.id no_pair inv.walked inv.below c.requires.entries place inv.from _ _ moved (let t = c.if-from-slot_count.false in let f = c.from.ensures in omega arith) hard);
+      read = both _ _ _ inv.read (answered _ _ c.find_in_pair.result c.in_ok-id.field-0 c.in_ok-id.was c.find_in_pair.ensures.reading);
+      from = from;
+      meets = least;
+      end = omega (arith, end, most);
+      within = omega (arith, within, most);
+      fits = omega (arith, fits, most);
+      few = omega (arith, few, once, least, most);
+      halves = λ slots. halved_on _ _ _ _ (c.loop-low.high - c.loop-low.low) _ (inv.halves slots) (omega (arith, some))
+          (lower_half c.loop-low.low c.loop-low.high c.middle_of-pair.result some
+          (c.middle_of-pair.ensures.middle
+          (subst (λ (qs : List Pair). 0 < length (slice_index_or qs (c.loop-low.low + (c.loop-low.high - c.loop-low.low) / 2) no_pair).content.slots) (sym inv.read.only.pairs)
+          (has_slot _ _ _ _ (at_run ps c.args.first (c.loop-low.low + (c.loop-low.high - c.loop-low.low) / 2) no_pair (omega (arith, from)) (let m = middle_below c.loop-low.low c.loop-low.high some in omega (arith, m, end))) slots))))
+          once;
+      loaded = loaded_on (joined_run (drop c.args.first ps)) c.args.first c.loop-low.low c.loop-low.high c.middle_of-pair.result (slice_index_or ps c.middle_of-pair.result no_pair) c.args.thread.now c.loop-low.thread c.find_in_pair.new.thread c.find_in_pair.result a inv.loaded some b c.in_ok-id.field-0 c.in_ok-id.was c.find_in_pair.ensures.reading.only.disk c.loop-low.low c.middle_of-pair.result (λ e. omega (arith, e, run, end, most, from));
+      lesser = inv.lesser;
+      greater = starts (exceeds c.args.thread.now.kept.disk.order ps c.args.first c.args.name.now c.middle_of-pair.result (slice_index_or ps c.middle_of-pair.result no_pair) a c.in-Place.id place (omega (arith, none)) (omega (arith, has, count)));
     }
+
+pub loop-low-preserved : goal.loop-low-preserved
+loop-low-preserved g c =
+    let inv = c.loop-low.invariant in
+    let ps = c.args.thread.now.kept.pairs in
+    let w = c.middle_of-pair.ensures.within in
+    let some = c.loop-low-test.true in
+    let a = at_run ps c.args.first c.middle_of-pair.result no_pair (let f = inv.from in let l = w.0 in omega (arith, f, l)) (let e = inv.end in let l = w.1 in omega (arith, e, l)) in
+    let b = subst (λ (qs : List Pair). LoadsAlong (slice_index_or qs c.middle_of-pair.result no_pair ∷ []) c.loop-low.thread c.find_in_pair.new.thread c.find_in_pair.result) inv.read.only.pairs c.find_in_pair.ensures.loads in
+    let answer = subst (λ o. AnswersIn c.loop-low.thread.kept.disk.order None (pair_in c.loop-low.thread.kept c.middle_of-pair.result).content.slots c.args.name.now o) c.in-Place.is c.in_ok-id.ensures.answer in
+    let place = subst₂ (λ (d : Disk) (qs : List Pair). PlaceAt d.order (slice_index_or qs c.middle_of-pair.result no_pair).content.slots c.args.name.now c.in-Place.id) inv.read.only.disk inv.read.only.pairs (answer.place refl) in
+    let count = c.slot_count-count.ensures ∙ ap (λ (qs : List Pair). length (slice_index_or qs c.middle_of-pair.result no_pair).content.slots) inv.read.only.pairs in
+    let few = inv.few in
+    let once = c.find_in_pair.ensures.few in
+    let from = inv.from in
+    let end = inv.end in
+    let within = inv.within in
+    let fits = inv.fits in
+    let least = w.0 in
+    let most = w.1 in
+    let run = run_count (drop c.args.first ps) in
+    let all : length (slice_index_or ps c.middle_of-pair.result no_pair).content.slots ≤ c.in-Place.id = (let t = c.if-from-count.false in let f = c.from.ensures in omega (arith, t, f, count)) in
+    let why : (c.middle_of-pair.result ≡ c.args.first) ⊎ (0 < c.in-Place.id) = elim c.else-count-eq0.branch [
+      | else-count-eq0-via-then-count-eq0+else-pair-first v ↦ inl (let k = v.if-pair-first.false in omega (arith, k, from, least))
+      | else-count-eq0-via-else-count-eq0 v ↦ inr (elim c.else-id-eq0.branch [
+        | else-id-eq0-via-then-id-eq0+else-count-gt0 u ↦ absurd (let k = v.if-count-eq0.false in let m = u.if-count-gt0.false in omega (arith, k, m))
+        | else-id-eq0-via-else-id-eq0 u ↦ (let k = u.if-id-eq0.false in omega (arith, k))
+      ])
+    ] in
+    record {
+      read = both _ _ _ inv.read (answered _ _ c.find_in_pair.result c.in_ok-id.field-0 c.in_ok-id.was c.find_in_pair.ensures.reading);
+      from = omega (arith, from, least);
+      meets = omega (arith, most);
+      end = end;
+      within = within;
+      fits = fits;
+      few = omega (arith, few, once, least, most);
+      halves = λ slots. halved_on _ _ _ _ (c.loop-low.high - c.loop-low.low) _ (inv.halves slots) (omega (arith, some))
+          (upper_half c.loop-low.low c.loop-low.high c.middle_of-pair.result some
+          (c.middle_of-pair.ensures.middle
+          (subst (λ (qs : List Pair). 0 < length (slice_index_or qs (c.loop-low.low + (c.loop-low.high - c.loop-low.low) / 2) no_pair).content.slots) (sym inv.read.only.pairs)
+          (has_slot _ _ _ _ (at_run ps c.args.first (c.loop-low.low + (c.loop-low.high - c.loop-low.low) / 2) no_pair (omega (arith, from)) (let m = middle_below c.loop-low.low c.loop-low.high some in omega (arith, m, end))) slots))))
+          once;
+      loaded = loaded_on (joined_run (drop c.args.first ps)) c.args.first c.loop-low.low c.loop-low.high c.middle_of-pair.result (slice_index_or ps c.middle_of-pair.result no_pair) c.args.thread.now c.loop-low.thread c.find_in_pair.new.thread c.find_in_pair.result a inv.loaded some b c.in_ok-id.field-0 c.in_ok-id.was c.find_in_pair.ensures.reading.only.disk (c.middle_of-pair.result + 1) c.loop-low.high (λ e. omega (arith, e, run, end, least, from));
+      lesser = passed (passes c.args.thread.now.kept.disk.order ps c.args.first c.args.name.now c.middle_of-pair.result (slice_index_or ps c.middle_of-pair.result no_pair) a c.requires.entries c.in-Place.id place why all);
+      greater = inv.greater;
+    }
+
+pub returns-clause-answer : goal.returns-clause-answer
+returns-clause-answer g c =
+    let inv = c.loop-low.invariant in
+    let past = c.loop-low-test.false in
+    let meets = inv.meets in
+    belongs_between c.args.thread.now.kept.disk.order c.args.thread.now.kept.pairs c.args.first c.args.name.now c.requires.below c.end_of-high.ensures.soft c.loop-low.spot.pair c.loop-low.spot.id c.loop-low.low c.loop-low.high inv.lesser inv.greater
+    (omega (arith, past, meets))
+
+pub returns-clause-few : goal.returns-clause-few
+returns-clause-few g c =
+    let few = c.loop-low.invariant.few in
+    omega (arith, few)
+
+pub returns-clause-halves : goal.returns-clause-halves
+returns-clause-halves g c slots =
+    halved_all _ _ _ _ (c.loop-low.invariant.halves slots)
+
+pub returns-clause-loads : goal.returns-clause-loads
+returns-clause-loads g c =
+    loads_all (joined_run (drop c.args.first c.args.thread.now.kept.pairs)) c.args.first c.loop-low.low c.loop-low.high c.args.thread.now c.loop-low.thread _ _ refl c.loop-low.invariant.loaded c.loop-low-test.false
+
+pub returns-clause-reading : goal.returns-clause-reading
+returns-clause-reading g c = answers _ _ _ _ refl c.loop-low.invariant.read

@@ -1,20 +1,28 @@
-use Rattle.std.proofs.Common.{◌≡◌, ◌<◌, ◌≤◌, ◌+◌, ◌-◌, length, drop, false}
-use Rattle.lfs_model.specs.History.{faults, reads}
+use Rattle.std.proofs.Common.{◌<◌, ◌≤◌, ◌+◌, ◌-◌, ◌^◌, length, drop}
+use Rattle.lfs_model.specs.History.{reads}
 use Rattle.lfs_model.specs.InDirectory.{run_length}
-use Rattle.lfs_thread.specs.Steps.{IsOnlyRead}
-use Rattle.lfs_lookup.proofs.Walked.{IsWalked}
+use Rattle.lfs_lookup.specs.Halves.{HaveSlots, halvings}
+use Rattle.lfs_lookup.specs.Listed.{joined_run}
+use Rattle.lfs_lookup.proofs.Halved.{IsHigh, IsLow}
+use Rattle.lfs_lookup.proofs.HalvedReads.{HasHalved, HasLoaded}
+use Rattle.lfs_lookup.proofs.Reading.{HasRead}
 use Rattle.lfs_lookup.proofs.search.find_name.Given as goal
 
-abbrev pub invariant-loop-id : goal.invariant-loop-id
-invariant-loop-id g l = record {
-  only : IsOnlyRead l.fn.thread.kept l.thread.kept;
-  no_fault : faults l.thread.kept.history ≡ faults l.fn.thread.kept.history;
-  works : l.thread.failed ≡ false;
-  few : reads l.thread.kept.history + run_length (drop l.pair l.fn.thread.kept.pairs) ≤ reads l.fn.thread.kept.history + run_length (drop l.fn.first l.fn.thread.kept.pairs);
-  from : l.fn.first ≤ l.pair;
-  below : l.pair < length l.fn.thread.kept.pairs;
-  walked : IsWalked l.fn.thread.kept.disk.order l.fn.thread.kept.pairs l.fn.first l.fn.name l.spot.pair l.spot.id l.pair;
+abbrev pub invariant-loop-low : goal.invariant-loop-low
+invariant-loop-low g l = record {
+  read : HasRead l.fn.thread l.thread;
+  from : l.fn.first ≤ l.low;
+  meets : l.low ≤ l.high;
+  end : l.high ≤ l.fn.first + run_length (drop l.fn.first l.fn.thread.kept.pairs);
+  within : l.high ≤ length l.fn.thread.kept.pairs;
+  fits : l.high < 2 ^ 64;
+  few : reads l.thread.kept.history + (l.high - l.low) ≤ reads l.fn.thread.kept.history + run_length (drop l.fn.first l.fn.thread.kept.pairs);
+  halves : HaveSlots (joined_run (drop l.fn.first l.fn.thread.kept.pairs))
+      → HasHalved (halvings (run_length (drop l.fn.first l.fn.thread.kept.pairs))) (reads l.fn.thread.kept.history) (reads l.thread.kept.history) (l.high - l.low);
+  loaded : HasLoaded (joined_run (drop l.fn.first l.fn.thread.kept.pairs)) l.fn.first l.low l.high l.fn.thread l.thread;
+  lesser : IsLow l.fn.thread.kept.disk.order (joined_run (drop l.fn.first l.fn.thread.kept.pairs)) l.fn.first l.fn.name l.spot.pair l.spot.id l.low;
+  greater : IsHigh l.fn.thread.kept.disk.order (joined_run (drop l.fn.first l.fn.thread.kept.pairs)) l.fn.first l.fn.name l.high;
 }
 
-abbrev pub decreases-loop-id : goal.decreases-loop-id
-decreases-loop-id g l = length l.fn.thread.kept.pairs - l.pair
+abbrev pub decreases-loop-low : goal.decreases-loop-low
+decreases-loop-low g l = l.high - l.low

@@ -1,135 +1,35 @@
-use Rattle.std.proofs.Common.{ℕ, ◌≡◌, ◌<◌, ◌+◌, ◌∙◌, ◌∷◌, [], true, List, slice_index_or, sym, ap, subst, length, drop, arith, refl}
+use Rattle.std.proofs.Common.{subst}
 use Rattle.std.proofs.lemmas.Result.{err_from_is_err_and}
-use Rattle.lfs_model.specs.InDirectory.{run_length}
-use Rattle.lfs_model.specs.Thread.{Pair, is_hard}
-use Rattle.lfs_thread.specs.Steps.{pair_in, no_pair}
-use Rattle.lfs_lookup.specs.CachedPairs.{LoadsAlong}
-use Rattle.lfs_lookup.specs.Listed.{joined_run}
-use Rattle.lfs_lookup.specs.Search.{AnswersIn, IsAbsentAlong, IsAbsentBut, StandsShown}
-use Rattle.lfs_lookup.proofs.Directories.{run_hard_on, run_on as run_here_on, run_some_on}
-use Rattle.lfs_lookup.proofs.Reading.{answered, answers, both}
-use Rattle.lfs_lookup.proofs.ReadOnly.{only_read, only_itself, reported_on}
-use Rattle.lfs_lookup.proofs.RecentBlocks.{loads_on, loads_to_here, loaded_none, on_ok, passes_none}
-use Rattle.lfs_lookup.proofs.Walked.{run_on, run_some, leads_on, leads_nowhere}
-use Rattle.lfs_lookup.proofs.ShownAlong.{IsReached, reached_first, reached_next, shown_here, absent_on, absent_end}
+use Rattle.lfs_lookup.specs.Search.{IsSoughtCached, SearchFinds}
+use Rattle.lfs_lookup.proofs.InOrder.{found_shown, nothing_shown}
+use Rattle.lfs_lookup.proofs.RecentBlocks.{along_as, on_ok, passes_none}
 use Rattle.lfs_lookup.proofs.search.find_shown.Goals as goal
 
-pub loop-id-init : goal.loop-id-init
-loop-id-init g c = record {
-  only = only_itself c.args.thread.now.kept;
-  no_fault = refl;
-  works = c.requires.works;
-  few = omega arith;
-  along = loaded_none (joined_run (drop c.args.first c.args.thread.now.kept.pairs)) c.args.thread.now;
-  from = omega arith;
-  below = c.requires.below;
-  reached = reached_first c.args.thread.now.kept.pairs c.args.first no_pair c.requires.below;
-  absent = λ h. h;
-}
-
-pub returns-in_err-id-clause-few : goal.returns-in_err-id-clause-few
-returns-in_err-id-clause-few g c =
-    let inv = c.loop-id.invariant in
-    let f = inv.few in
-    let n = c.find_in_pair.ensures.few in
-    let one = run_some c.args.thread.now.kept.pairs c.loop-id.pair inv.below in
-    omega (arith, f, n, one)
-
-pub returns-in_err-id-clause-loads : goal.returns-in_err-id-clause-loads
-returns-in_err-id-clause-loads g c =
-    let inv = c.loop-id.invariant in
-    let p = err_from_is_err_and c.from_residual.result c.from_residual.ensures.1 in
-    let ps = c.args.thread.now.kept.pairs in
-    loads_to_here _ _ _ (slice_index_or ps c.loop-id.pair no_pair) c.args.thread.now c.loop-id.thread c.find_in_pair.new.thread c.find_in_pair.result inv.along (run_here_on ps c.loop-id.pair no_pair inv.below)
-    (subst (λ (qs : List Pair). LoadsAlong (slice_index_or qs c.loop-id.pair no_pair ∷ []) c.loop-id.thread c.find_in_pair.new.thread c.find_in_pair.result) inv.only.pairs c.find_in_pair.ensures.loads)
-    c.from_residual.result (passes_none c.find_in_pair.result c.from_residual.result p.0 p.1)
-
-pub returns-in_err-id-clause-reading : goal.returns-in_err-id-clause-reading
-returns-in_err-id-clause-reading g c =
-    let p = err_from_is_err_and c.from_residual.result c.from_residual.ensures.1 in
-    let only = only_read _ _ _ c.loop-id.invariant.only c.find_in_pair.ensures.reading.only in
-    record {
-      only = only;
-      works = c.find_in_pair.ensures.reading.works;
-      reported = reported_on _ _ _ c.find_in_pair.result c.from_residual.result _ p.0 only c.loop-id.invariant.no_fault c.find_in_pair.ensures.reading.reported c.in_err-id.was p.1 p.2;
-    }
+pub find_name-requires-clause-entries : goal.find_name-requires-clause-entries
+find_name-requires-clause-entries g c = (c.requires.in_order c.in-None.is).plain
 
 pub returns-in-Found-clause-answer : goal.returns-in-Found-clause-answer
 returns-in-Found-clause-answer g c =
-    let inv = c.loop-id.invariant in
-    let ps = c.args.thread.now.kept.pairs in
-    let a = subst (λ o. AnswersIn c.loop-id.thread.kept.disk.order c.passed_in-skip.result (pair_in c.loop-id.thread.kept c.loop-id.pair).content.slots c.args.name.now o) c.in-Found.is c.in_ok-id.ensures.answer in
-    let b = subst (λ qs. StandsShown c.passed_in-skip.result (slice_index_or qs c.loop-id.pair no_pair).content.slots c.args.name.now c.in-Found.id c.in-Found.entry) inv.only.pairs a in
-    shown_here ps c.args.moved c.args.first c.args.name.now _ (slice_index_or ps c.loop-id.pair no_pair) c.in-Found.entry inv.reached
-    (subst (λ k. StandsShown k (slice_index_or ps c.loop-id.pair no_pair).content.slots c.args.name.now c.in-Found.id c.in-Found.entry) c.passed_in-skip.ensures b)
+    let t = c.args.thread.now.kept in
+    found_shown t.disk.order t.pairs c.args.moved c.args.first c.args.name.now c.in-Found.spot c.in-Found.entry c.in-None.is
+    (subst (SearchFinds t.disk.order t.pairs c.args.first c.args.name.now) c.in-Found.is c.in_ok-spot-in-None.ensures.answer)
+
+pub returns-in-Found-clause-cached_log : goal.returns-in-Found-clause-cached_log
+returns-in-Found-clause-cached_log g c = subst (IsSoughtCached c.find_name.new.thread) c.in-Found.is c.in_ok-spot-in-None.ensures.cached_log
+
+pub returns-in-Place-clause-answer : goal.returns-in-Place-clause-answer
+returns-in-Place-clause-answer g c =
+    let t = c.args.thread.now.kept in
+    nothing_shown t.disk.order t.pairs c.args.moved c.args.first c.args.name.now c.in-Place.field-0 c.in-None.is (c.requires.in_order c.in-None.is)
+    (subst (SearchFinds t.disk.order t.pairs c.args.first c.args.name.now) c.in-Place.is c.in_ok-spot-in-None.ensures.answer)
+
+pub returns-in_err-spot-in-None-clause-loads : goal.returns-in_err-spot-in-None-clause-loads
+returns-in_err-spot-in-None-clause-loads g c =
+    let p = err_from_is_err_and c.from_residual.result c.from_residual.ensures.1 in
+    along_as _ _ _ c.find_name.result c.from_residual.result (passes_none c.find_name.result c.from_residual.result p.0 p.1) c.find_name.ensures.loads
 
 pub returns-in-Found-clause-loads : goal.returns-in-Found-clause-loads
-returns-in-Found-clause-loads g c =
-    let inv = c.loop-id.invariant in
-    let ps = c.args.thread.now.kept.pairs in
-    loads_to_here _ _ _ (slice_index_or ps c.loop-id.pair no_pair) c.args.thread.now c.loop-id.thread c.find_in_pair.new.thread c.find_in_pair.result inv.along (run_here_on ps c.loop-id.pair no_pair inv.below)
-    (subst (λ (qs : List Pair). LoadsAlong (slice_index_or qs c.loop-id.pair no_pair ∷ []) c.loop-id.thread c.find_in_pair.new.thread c.find_in_pair.result) inv.only.pairs c.find_in_pair.ensures.loads)
-    _ (λ P h. on_ok c.find_in_pair.result c.in_ok-id.field-0 P c.in_ok-id.was h)
+returns-in-Found-clause-loads g c = along_as _ _ _ c.find_name.result _ (λ P h. on_ok c.find_name.result c.in_ok-spot-in-None.field-0 P c.in_ok-spot-in-None.was h) c.find_name.ensures.loads
 
-pub returns-in-Found-clause-reading : goal.returns-in-Found-clause-reading
-returns-in-Found-clause-reading g c =
-    let inv = c.loop-id.invariant in
-    answers _ _ _ _ refl (both _ _ _ (record { only = inv.only; works = inv.works; same = inv.no_fault }) (answered _ _ c.find_in_pair.result c.in_ok-id.field-0 c.in_ok-id.was c.find_in_pair.ensures.reading))
-
-pub returns-in-None-clause-loads : goal.returns-in-None-clause-loads
-returns-in-None-clause-loads g c =
-    let inv = c.loop-id.invariant in
-    let ps = c.args.thread.now.kept.pairs in
-    loads_to_here _ _ _ (slice_index_or ps c.loop-id.pair no_pair) c.args.thread.now c.loop-id.thread c.find_in_pair.new.thread c.find_in_pair.result inv.along (run_here_on ps c.loop-id.pair no_pair inv.below)
-    (subst (λ (qs : List Pair). LoadsAlong (slice_index_or qs c.loop-id.pair no_pair ∷ []) c.loop-id.thread c.find_in_pair.new.thread c.find_in_pair.result) inv.only.pairs c.find_in_pair.ensures.loads)
-    _ (λ P h. on_ok c.find_in_pair.result c.in_ok-id.field-0 P c.in_ok-id.was h)
-
-pub returns-in-None-clause-reading : goal.returns-in-None-clause-reading
-returns-in-None-clause-reading g c =
-    let inv = c.loop-id.invariant in
-    answers _ _ _ _ refl (both _ _ _ (record { only = inv.only; works = inv.works; same = inv.no_fault }) (answered _ _ c.find_in_pair.result c.in_ok-id.field-0 c.in_ok-id.was c.find_in_pair.ensures.reading))
-
-pub returns-in-None-clause-answer : goal.returns-in-None-clause-answer
-returns-in-None-clause-answer g c =
-    let inv = c.loop-id.invariant in
-    let ps = c.args.thread.now.kept.pairs in
-    let a = subst (λ o. AnswersIn c.loop-id.thread.kept.disk.order c.passed_in-skip.result (pair_in c.loop-id.thread.kept c.loop-id.pair).content.slots c.args.name.now o) c.in-Place.is c.in_ok-id.ensures.answer in
-    let b = subst (λ k. IsAbsentBut k (slice_index_or ps c.loop-id.pair no_pair).content.slots c.args.name.now) c.passed_in-skip.ensures
-    (subst (λ qs. IsAbsentBut c.passed_in-skip.result (slice_index_or qs c.loop-id.pair no_pair).content.slots c.args.name.now) inv.only.pairs a.absent) in
-    let pairs = c.in_ok-id.ensures.reading.only.pairs ∙ inv.only.pairs in
-    let soft = leads_nowhere (is_hard (pair_in c.find_in_pair.new.thread.kept c.loop-id.pair).content.tail) (c.loop-id.pair + 1) (sym c.next.ensures.next ∙ c.in-None.is) in
-    absent_end ps c.args.moved c.loop-id.pair c.args.name.now no_pair (IsAbsentAlong c.args.moved c.args.first (drop c.args.first ps) c.args.name.now) inv.below inv.absent b
-    (ap (λ (qs : List Pair). is_hard (slice_index_or qs c.loop-id.pair no_pair).content.tail) (sym pairs) ∙ soft)
-
-pub loop-id-preserved : goal.loop-id-preserved
-loop-id-preserved g c =
-    let inv = c.loop-id.invariant in
-    let ps = c.args.thread.now.kept.pairs in
-    let a = subst (λ o. AnswersIn c.loop-id.thread.kept.disk.order c.passed_in-skip.result (pair_in c.loop-id.thread.kept c.loop-id.pair).content.slots c.args.name.now o) c.in-Place.is c.in_ok-id.ensures.answer in
-    let b = subst (λ k. IsAbsentBut k (slice_index_or ps c.loop-id.pair no_pair).content.slots c.args.name.now) c.passed_in-skip.ensures
-    (subst (λ qs. IsAbsentBut c.passed_in-skip.result (slice_index_or qs c.loop-id.pair no_pair).content.slots c.args.name.now) inv.only.pairs a.absent) in
-    let pairs = c.in_ok-id.ensures.reading.only.pairs ∙ inv.only.pairs in
-    let on = leads_on (is_hard (pair_in c.find_in_pair.new.thread.kept c.loop-id.pair).content.tail) (c.loop-id.pair + 1) c.in-Some.next (sym c.next.ensures.next ∙ c.in-Some.is) in
-    let hard : is_hard (slice_index_or ps c.loop-id.pair no_pair).content.tail ≡ true = ap (λ (qs : List Pair). is_hard (slice_index_or qs c.loop-id.pair no_pair).content.tail) (sym pairs) ∙ on.0 in
-    let next : c.in-Some.next ≡ c.loop-id.pair + 1 = on.1 in
-    let behind : c.in-Some.next < length ps = subst (λ (qs : List Pair). c.in-Some.next < length qs) pairs c.in-Some.ensures.below in
-    let run = run_on ps c.loop-id.pair no_pair inv.below hard ∙ ap (λ (n : ℕ). 1 + run_length (drop n ps)) (sym next) in
-    let few = inv.few in
-    let once = c.in_ok-id.ensures.few in
-    let from = inv.from in
-    record {
-      only = only_read _ _ _ inv.only c.in_ok-id.ensures.reading.only;
-      no_fault = c.in_ok-id.ensures.reading.reported.no_fault (λ e. absurd (let k : _ = e in cc)) ∙ inv.no_fault;
-      works = c.in_ok-id.ensures.reading.works;
-      few = omega (arith, few, once, run);
-      along = loads_on _ _ _ (slice_index_or ps c.loop-id.pair no_pair) c.args.thread.now c.loop-id.thread c.find_in_pair.new.thread c.find_in_pair.result inv.along
-          (run_hard_on ps c.loop-id.pair c.in-Some.next no_pair inv.below hard next)
-          (subst (λ (qs : List Pair). LoadsAlong (slice_index_or qs c.loop-id.pair no_pair ∷ []) c.loop-id.thread c.find_in_pair.new.thread c.find_in_pair.result) inv.only.pairs c.find_in_pair.ensures.loads)
-          c.in_ok-id.field-0 c.in_ok-id.was c.find_in_pair.ensures.reading.only.disk (run_some_on ps c.in-Some.next no_pair behind);
-      from = omega (arith, from, next);
-      below = behind;
-      reached = subst (λ (n : ℕ). IsReached ps c.args.first n (slice_index_or ps n no_pair)) (sym next)
-          (reached_next ps c.args.first c.loop-id.pair (slice_index_or ps c.loop-id.pair no_pair) no_pair inv.reached hard (omega (arith, behind, next)));
-      absent = λ rest. absent_on ps c.args.moved c.loop-id.pair c.args.name.now no_pair (IsAbsentAlong c.args.moved c.args.first (drop c.args.first ps) c.args.name.now) inv.below inv.absent b
-          (subst (λ (n : ℕ). IsAbsentAlong c.args.moved n (drop n ps) c.args.name.now) next rest);
-    }
+pub returns-in-Place-clause-loads : goal.returns-in-Place-clause-loads
+returns-in-Place-clause-loads g c = along_as _ _ _ c.find_name.result _ (λ P h. on_ok c.find_name.result c.in_ok-spot-in-None.field-0 P c.in_ok-spot-in-None.was h) c.find_name.ensures.loads

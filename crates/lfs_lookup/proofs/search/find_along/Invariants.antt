@@ -6,7 +6,7 @@ use Rattle.lfs_lookup.specs.Listed.{joined_run}
 use Rattle.lfs_lookup.specs.Search.{IsAbsentAlong}
 use Rattle.lfs_lookup.proofs.RecentBlocks.{HasBrought}
 use Rattle.lfs_lookup.proofs.ShownAlong.{IsReached}
-use Rattle.lfs_lookup.proofs.search.find_shown.Given as goal
+use Rattle.lfs_lookup.proofs.search.find_along.Given as goal
 
 abbrev pub invariant-loop-id : goal.invariant-loop-id
 invariant-loop-id g l = record {

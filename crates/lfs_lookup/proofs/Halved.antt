@@ -75,9 +75,6 @@ same_behind xs zs ys ws e l = sym (drop-append_seam xs zs) ∙ ap₂ (λ (n : �
 
 -- ---- where they end
 
-pub soft_here : (ps : List Pair) (index : ℕ) (d : Pair) → index < length ps → is_hard (get_or ps index d).content.tail ≡ false → EndsSoft (joined_run (drop index ps))
-soft_here ps index d l e = subst EndsSoft (sym (run_here_on ps index d l ∙ ap (λ b. get_or ps index d ∷ cond b (joined_run (drop (index + 1) ps)) []) e)) e
-
 pub soft_on : (ps : List Pair) (index next : ℕ) (d : Pair) → next < length ps → is_hard (get_or ps index d).content.tail ≡ true → next ≡ index + 1 → EndsSoft (joined_run (drop next ps)) → EndsSoft (joined_run (drop index ps))
 soft_on ps index next d l hard e h = subst EndsSoft (sym (run_hard_on ps index next d (omega arith) hard e ∙ ap (λ z. get_or ps index d ∷ z) (run_here_on ps next d l))) (subst EndsSoft (run_here_on ps next d l) h)
 

@@ -28,12 +28,6 @@ run_on [] index d l e = absurd (omega arith)
 run_on (p ∷ ps) zero d l e = ap (λ b. cond b (1 + run_length ps) 1) e
 run_on (p ∷ ps) (suc index) d l e = let f : suc index + 1 ≡ suc (index + 1) = omega arith in run_on ps index d (omega arith) e ∙ ap (λ (n : ℕ). 1 + run_length (drop n (p ∷ ps))) (sym f)
 
--- the directory ends here
-pub run_off : (ps : List Pair) (index : ℕ) (d : Pair) → index < length ps → is_hard (get_or ps index d).content.tail ≡ false → run_length (drop index ps) ≡ 1
-run_off [] index d l e = absurd (omega arith)
-run_off (p ∷ ps) zero d l e = ap (λ b. cond b (1 + run_length ps) 1) e
-run_off (p ∷ ps) (suc index) d l e = run_off ps index d (omega arith) e
-
 -- a directory has a pair
 pub run_some : (ps : List Pair) (index : ℕ) → index < length ps → 1 ≤ run_length (drop index ps)
 run_some [] index l = absurd (omega arith)

@@ -30,8 +30,8 @@ abbrev pub status_for : Bool → ℕ
 status_for true = 0
 status_for false = 1
 
--- the request is done, as it ends then, and no error is written; or a fault is shown
-abbrev pub IsAnswered : {W : Type 0} → Ghosts W → List (List ℕ) → (Bool → Type 0) → ℕ → W → W → Type 0
-IsAnswered g words ends code old new =
+-- the request is done, as it ends then, and no error is written; or a fault is shown, and this follows
+abbrev pub IsAnswered : {W : Type 0} → Ghosts W → List (List ℕ) → (Bool → Type 0) → (Fault → W → W → Type 0) → ℕ → W → W → Type 0
+IsAnswered g words ends follows code old new =
     (HasLine words × ((accepted : Bool) × ((code ≡ status_for accepted) × ends accepted)) × (new ≡ old))
-    ⊎ ((f : Fault) × (IsFaultIn words f × IsShown g f code old new))
+    ⊎ ((f : Fault) × (shown : _) × (IsFaultIn words f × IsShown g f code old shown × follows f shown new))

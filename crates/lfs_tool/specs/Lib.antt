@@ -4,6 +4,8 @@ pub mod Leading
 pub mod Stated
 pub mod Broken
 pub mod Entries
+pub mod Explained
+pub mod Needed
 pub mod Found
 pub mod Device
 pub mod Reading

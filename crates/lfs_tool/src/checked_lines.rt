@@ -16,7 +16,7 @@ use std::io::Write;
 // ---- parts of lines
 
 // Adds a text.
-fn push_text(text: &mut Vec<u8>, add: &str) -> Result<(), AllocError>
+pub(crate) fn push_text(text: &mut Vec<u8>, add: &str) -> Result<(), AllocError>
     ensures { OnOk result (text.new.items ≡ text.old.items ++ add.now) }
 {
     text.extend_from_slice(add.as_bytes())?;
@@ -33,7 +33,7 @@ fn push_line(text: &mut Vec<u8>, line: &str) -> Result<(), AllocError>
 }
 
 // Adds a text and a number after it.
-fn push_number(text: &mut Vec<u8>, before: &str, number: usize) -> Result<(), AllocError>
+pub(crate) fn push_number(text: &mut Vec<u8>, before: &str, number: usize) -> Result<(), AllocError>
     ensures { OnOk result (text.new.items ≡ text.old.items ++ (before.now ++ decimal number)) }
 {
     text.extend_from_slice(before.as_bytes())?;

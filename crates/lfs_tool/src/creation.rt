@@ -12,7 +12,10 @@ use lfs_tool_folders::{Source, SourceEntry, SourceError, read_tree};
 use std::alloc::Global;
 
 // Reads all that the source has.
-fn read_source<S: Source>(alloc: Global, source: &mut S) -> Result<Vec<SourceEntry>, ToolError>
+pub(crate) fn read_source<S: Source>(
+    alloc: Global,
+    source: &mut S,
+) -> Result<Vec<SourceEntry>, ToolError>
     ensures entries { IfOk result (λ v. AreAll (S.shown source.old) v.items) }
     ensures source { ReportsSource (S.faults source.old) (S.faults source.new) (S.shown source.old) result }
     ensures other { IfErr result (λ e. e ≢ ToolError.Input → e ≡ ToolError.Fs Error.NoMemory) }
@@ -38,7 +41,11 @@ fn begin(alloc: Global, geometry: Geometry) -> Result<Session<RamDevice>, Error>
 }
 
 // Makes the image that holds these entries.
-fn make(alloc: Global, geometry: Geometry, entries: &[SourceEntry]) -> Result<Vec<u8>, Error>
+pub(crate) fn make(
+    alloc: Global,
+    geometry: Geometry,
+    entries: &[SourceEntry],
+) -> Result<Vec<u8>, Error>
     ensures ok { IfOk result (λ v. AreLeft geometry entries.now v.items) }
     ensures err { IfErr result (λ e. e ≢ Error.NoMemory → IsRefused geometry entries.now e) }
 {

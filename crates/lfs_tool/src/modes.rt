@@ -59,7 +59,7 @@ fn create_at<P: Places>(
     ensures input { IsErrOf result ToolError.Input → FailsToRead P.folder_path P.Folder.faults P.Folder.shown folder.now }
     ensures output { IsErrOf result ToolError.Output → FailsAt P.new_image_path P.NewImage.faults line.now.image.now }
 {
-    let mut source = places.folder(folder)?;
+    let mut source = places.folder(folder, line.size)?;
     let mut image = places.new_image(line.image)?;
     create_by_line(alloc, line, &mut source, &mut image)
 }

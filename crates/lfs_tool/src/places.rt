@@ -2,11 +2,11 @@ ghost use Rattle.std.specs.Prelude.{◌≡◌, ℕ, IfErr, IfOk, List};
 
 use crate::{Reader, Writer};
 use lfs_device::Error;
-use lfs_tool_folders::{Source, Target};
+use lfs_tool_folders::{PlaceFault, Source, Target};
 
 /// The files and folders of a command line's paths. Only their own calls touch what is there.
 ///
-/// Each call returns `NoMemory` where memory isn't granted, and no other error.
+/// Each call for a file or a folder returns `NoMemory` where memory isn't granted, and no other error.
 pub trait Places {
     /// An image that is read.
     type Image: Reader + Drop;
@@ -39,8 +39,8 @@ pub trait Places {
         ensures path { IfOk result (λ i. new_image_path i ≡ path.now) }
         ensures err { IfErr result (λ e. e ≡ Error.NoMemory) };
 
-    /// Returns the folder at a path, to be read.
-    fn folder(&self, path: &str) -> Result<Self::Folder, Error>
+    /// Returns the folder at a path, to be read for an image of so many bytes.
+    fn folder(&self, path: &str, size: u32) -> Result<Self::Folder, Error>
         ensures path { IfOk result (λ f. folder_path f ≡ path.now) }
         ensures err { IfErr result (λ e. e ≡ Error.NoMemory) };
 
@@ -48,4 +48,8 @@ pub trait Places {
     fn new_folder(&self, path: &str) -> Result<Self::NewFolder, Error>
         ensures path { IfOk result (λ f. new_folder_path f ≡ path.now) }
         ensures err { IfErr result (λ e. e ≡ Error.NoMemory) };
+
+    /// Returns the first fault that one of these met, where one is known. It is shown to users alone,
+    /// and no clause says what it is.
+    fn fault(&self) -> Option<PlaceFault>;
 }

@@ -1,22 +1,23 @@
-use crate::{NewImage, OldImage, Places, Watched};
+use crate::{NewImage, Noted, OldImage, Places, Watched};
 use lfs_device::Error;
-use lfs_tool_folders::{Folder, TargetFolder};
+use lfs_tool_folders::{FaultLog, Folder, PlaceFault, TargetFolder};
 use std::io::BufReader;
 use std::rt::Files;
 
 // How many bytes of an image are read at once.
 const READ_AHEAD: usize = 65_536;
 
-/// The files and folders of the real file system.
+/// The files and folders of the real file system. What they meet is noted in a log.
 #[derive(Drop)]
 pub struct RealPlaces<'a, R> {
     rt: &'a R,
+    log: &'a FaultLog,
 }
 
 impl<'a, R: Files + AllocGlobal + Clone + Drop> RealPlaces<'a, R> {
     /// Makes the places of a runtime.
-    pub fn new(rt: &'a R) -> RealPlaces<'a, R> {
-        RealPlaces { rt }
+    pub fn new(rt: &'a R, log: &'a FaultLog) -> RealPlaces<'a, R> {
+        RealPlaces { rt, log }
     }
 }
 
@@ -24,9 +25,9 @@ impl<'a, R: Files + AllocGlobal + Clone + Drop> Places for RealPlaces<'a, R> {
     ghost use Rattle.lfs_tool_folders.specs.Roots.{folder_root, target_root};
     ghost use Rattle.lfs_tool.specs.Paths.{new_image_at, old_image_at};
 
-    type Image = Watched<BufReader<OldImage<'a, R>>>;
+    type Image = Watched<BufReader<Noted<'a, OldImage<'a, R>>>>;
 
-    type NewImage = Watched<NewImage<'a, R>>;
+    type NewImage = Watched<Noted<'a, NewImage<'a, R>>>;
 
     type Folder = Folder<'a, R>;
 
@@ -40,26 +41,32 @@ impl<'a, R: Files + AllocGlobal + Clone + Drop> Places for RealPlaces<'a, R> {
 
     ghost new_folder_path = { target_root };
 
-    fn image(&self, path: &str) -> Result<Watched<BufReader<OldImage<'a, R>>>, Error> {
+    fn image(&self, path: &str) -> Result<Watched<BufReader<Noted<'a, OldImage<'a, R>>>>, Error> {
         let file = OldImage::new(self.rt.alloc(), self.rt, path)?;
+        let file = Noted::new(self.rt.alloc(), file, path, self.log)?;
         let Ok(reader) = BufReader::with_capacity(self.rt.alloc(), READ_AHEAD, file) else {
             return Err(Error::NoMemory);
         };
         Ok(Watched::new(reader))
     }
 
-    fn new_image(&self, path: &str) -> Result<Watched<NewImage<'a, R>>, Error> {
+    fn new_image(&self, path: &str) -> Result<Watched<Noted<'a, NewImage<'a, R>>>, Error> {
         let file = NewImage::new(self.rt.alloc(), self.rt, path)?;
+        let file = Noted::new(self.rt.alloc(), file, path, self.log)?;
         Ok(Watched::new(file))
     }
 
-    fn folder(&self, path: &str) -> Result<Folder<'a, R>, Error> {
-        let folder = Folder::new(self.rt, path)?;
+    fn folder(&self, path: &str, size: u32) -> Result<Folder<'a, R>, Error> {
+        let folder = Folder::for_image(self.rt, self.log, path, size)?;
         Ok(folder)
     }
 
     fn new_folder(&self, path: &str) -> Result<TargetFolder<'a, R>, Error> {
-        let folder = TargetFolder::new(self.rt, path)?;
+        let folder = TargetFolder::new(self.rt, self.log, path)?;
         Ok(folder)
+    }
+
+    fn fault(&self) -> Option<PlaceFault> {
+        self.log.take()
     }
 }

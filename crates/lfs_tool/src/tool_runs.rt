@@ -3,8 +3,10 @@ ghost use Rattle.std.specs.IoError.{error_kind};
 ghost use Rattle.std.specs.String.{string_bytes};
 ghost use Rattle.lfs_tool_line.specs.Matches.{IsLineOf, is_checked, is_listed, rows};
 ghost use Rattle.lfs_tool.specs.Answered.{HasLine, IsAnswered, IsFaultIn, IsShown};
+ghost use Rattle.lfs_tool.specs.Explained.{IsFollowed};
 ghost use Rattle.lfs_tool.specs.Placed.{By, ChecksAt, EndsWell, FailsAt, FailsToRead, ListsAt, MakesAt, RefusesAt, RefusesToMake, UnpacksAt};
 
+use crate::explanations::explain;
 use crate::modes::carry_out;
 use crate::{Fault, LineError, Places, ToolError, Writer, read_line, report};
 use lfs_device::Error;
@@ -80,8 +82,8 @@ fn fault_of(error: &io::Error) -> Fault
 
 /// Runs the program on the words of its command line, or on the cause for which there are none.
 /// Returns the status with which the program ends: 0, or 1 where an image was checked that isn't
-/// accepted, or that of `lfs_tool::report`, which shows the error. Without words nothing is written
-/// to `out`.
+/// accepted, or that of `lfs_tool::report`, which shows the error. With `--explain` further lines
+/// follow. Without words nothing is written to `out`.
 pub fn answer<P: Places, O: Writer, E: Writer>(
     alloc: Global,
     places: &P,
@@ -93,7 +95,8 @@ pub fn answer<P: Places, O: Writer, E: Writer>(
         (ListsAt P.image_path P.Image.remaining line (O.contents out.old) (O.contents out.new) × (O.pending out.new ≡ 0))
         (ChecksAt P.image_path P.Image.remaining line accepted (O.contents out.old) (O.contents out.new) × (O.pending out.new ≡ 0))
         (MakesAt P.folder_path P.Folder.shown P.new_image_path P.NewImage.contents P.NewImage.pending line)
-        (UnpacksAt P.image_path P.Image.remaining P.new_folder_path P.NewFolder.done line))) result err.old err.new) }
+        (UnpacksAt P.image_path P.Image.remaining P.new_folder_path P.NewFolder.done line)))
+        (IsFollowed P.image_path P.Image.remaining P.folder_path P.Folder.shown E.Writer (map string_bytes all.items)) result err.old err.new) }
     ensures unlisted { IfOk words (λ all. HasLine (map string_bytes all.items) → is_listed (rows (map string_bytes all.items)) ≡ false → is_checked (rows (map string_bytes all.items)) ≡ false → out.new ≡ out.old) }
 
     // With words that are a command line, the status 0 comes where its request is done.
@@ -115,6 +118,10 @@ pub fn answer<P: Places, O: Writer, E: Writer>(
     match run(alloc, places, words.as_slice(), out) {
         Ok(true) => 0,
         Ok(false) => 1,
-        Err(fault) => report(&fault, out, err),
+        Err(fault) => {
+            let status = report(&fault, out, err);
+            explain(alloc, places, words.as_slice(), &fault, err);
+            status
+        }
     }
 }

@@ -8,6 +8,10 @@ use Rattle.lfs_tool_folders.specs.declared.target_folder.TargetFolder.{TargetFol
 abbrev pub folder_root : {R : Type 0} → Folder R → List ℕ
 folder_root f = string_bytes f.root
 
+-- how many bytes a file may have that is read
+abbrev pub read_limit : {R : Type 0} → Folder R → ℕ
+read_limit f = f.size
+
 -- the path at which one is written
 abbrev pub target_root : {R : Type 0} → TargetFolder R → List ℕ
 target_root t = string_bytes t.root

@@ -1,6 +1,8 @@
 // Paths in the real file system.
 
-use std::alloc::Global;
+ghost use Rattle.std.specs.Prelude.{◌≡◌, ◌++◌, IfOk, []};
+
+use std::alloc::{AllocError, Global};
 use std::io;
 use std::io::ErrorKind;
 
@@ -11,5 +13,23 @@ pub(crate) fn full_path(alloc: Global, folder: &str, path: &[u8]) -> io::Result<
     };
     let mut full = String::from_str(alloc, folder)?;
     full.push_str(path)?;
+    Ok(full)
+}
+
+// Returns the path below a folder's, with a name in it, unless that is empty.
+pub(crate) fn joined_path(
+    alloc: Global,
+    folder: &str,
+    path: &[u8],
+    name: &[u8],
+) -> Result<Vec<u8>, AllocError>
+    ensures { IfOk result (λ v. name.now ≡ [] → v.items ≡ folder.now ++ path.now) }
+{
+    let mut full = folder.as_bytes().to_vec(alloc)?;
+    full.extend_from_slice(path)?;
+    if !name.is_empty() {
+        full.push(b'/')?;
+        full.extend_from_slice(name)?;
+    }
     Ok(full)
 }

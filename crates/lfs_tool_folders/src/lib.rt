@@ -3,6 +3,7 @@
 #![tactic(auto)]
 
 mod entries;
+mod fault_log;
 mod full_path;
 mod names;
 mod new_image;
@@ -15,8 +16,10 @@ mod target;
 mod target_folder;
 mod target_memory;
 mod temporary_files;
+mod zeros;
 
 pub use entries::{SourceEntry, read_tree};
+pub use fault_log::{FaultLog, PlaceFault};
 pub use new_image::NewImage;
 pub use source::{Kind, Listed, Source, SourceError};
 pub use source_folder::Folder;

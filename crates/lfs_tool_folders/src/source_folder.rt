@@ -1,21 +1,28 @@
 ghost use Rattle.std.specs.Prelude.{◌≡◌, ◌↔◌, IfOk, suc};
 ghost use Rattle.std.specs.IoError.{error_kind};
-ghost use Rattle.lfs_tool_folders.specs.Roots.{folder_root};
+ghost use Rattle.lfs_tool_folders.specs.Roots.{folder_root, read_limit};
 
-use crate::full_path::full_path;
-use crate::{Kind, Listed, Source, SourceError, Tally};
+use crate::full_path::{full_path, joined_path};
+use crate::zeros::{zeros, zeros_for};
+use crate::{FaultLog, Kind, Listed, Source, SourceError, Tally};
 use std::alloc::{AllocError, Global};
-use std::fs::FileType;
-use std::io::ErrorKind;
+use std::fs::{File, FileType, OpenFile};
+use std::io::{ErrorKind, Read};
 use std::rt::Files;
 use std::{fs, io};
 
 /// A folder of the real file system. A name that isn't UTF-8 is a fault, and so is a symbolic link or
-/// anything else but a file or a folder.
+/// anything else but a file or a folder. A fault is noted in a log, with the path that it comes from.
+///
+/// It can be made for an image of so many bytes. Then a file that is longer than that isn't read, since
+/// no such image holds it. Zeros stand for its bytes, so many that they are refused as the file is.
 #[derive(Drop)]
 pub struct Folder<'a, R> {
     rt: &'a R,
     root: String,
+    log: &'a FaultLog,
+    // The most bytes of a file that is read.
+    size: u64,
     faults: Tally,
 }
 
@@ -25,27 +32,62 @@ fn kind_of(kind: FileType) -> io::Result<Kind> {
     } else if kind.is_file() {
         Ok(Kind::File)
     } else {
-        Err(io::Error::from(ErrorKind::InvalidInput))
+        Err(io::Error::new(ErrorKind::InvalidInput, "neither a file nor a folder"))
     }
 }
 
 // Returns a name that is text.
 fn name_of(alloc: Global, name: &[u8]) -> io::Result<Vec<u8>> {
     if str::from_utf8(name).is_err() {
-        return Err(io::Error::from(ErrorKind::InvalidFilename));
+        return Err(io::Error::new(ErrorKind::InvalidFilename, "the name is not UTF-8"));
     }
     let name = name.to_vec(alloc)?;
     Ok(name)
 }
 
+// Returns an entry of a folder: its name, and what it is.
+fn listed_as(alloc: Global, name: &[u8], kind: io::Result<FileType>) -> io::Result<Listed> {
+    let kind = kind_of(kind?)?;
+    let name = name_of(alloc, name)?;
+    Ok(Listed { name, kind })
+}
+
 impl<'a, R: Files + AllocGlobal + Clone + Drop> Folder<'a, R> {
     /// Makes a source of the folder at a path of the file system. Nothing is read yet.
-    pub fn new(rt: &'a R, root: &str) -> Result<Folder<'a, R>, AllocError>
+    pub fn new(rt: &'a R, log: &'a FaultLog, root: &str) -> Result<Folder<'a, R>, AllocError>
         ensures root { IfOk result (λ f. folder_root f ≡ root.now) }
+    {
+        Folder::with_limit(rt, log, root, u64::MAX)
+    }
+
+    /// Makes the same source for an image of so many bytes.
+    pub fn for_image(
+        rt: &'a R,
+        log: &'a FaultLog,
+        root: &str,
+        size: u32,
+    ) -> Result<Folder<'a, R>, AllocError>
+        ensures root { IfOk result (λ f. folder_root f ≡ root.now) }
+        ensures limit { IfOk result (λ f. read_limit f ≡ size) }
+    {
+        Folder::with_limit(rt, log, root, size as u64)
+    }
+
+    // Makes a source of which files of at most so many bytes are read.
+    fn with_limit(
+        rt: &'a R,
+        log: &'a FaultLog,
+        root: &str,
+        size: u64,
+    ) -> Result<Folder<'a, R>, AllocError>
+        ensures root { IfOk result (λ f. folder_root f ≡ root.now) }
+        ensures limit { IfOk result (λ f. read_limit f ≡ size) }
     {
         Ok(Folder {
             rt,
             root: String::from_str(rt.alloc(), root)?,
+            log,
+            size,
             faults: Tally::none(),
         })
     }
@@ -55,20 +97,36 @@ impl<'a, R: Files + AllocGlobal + Clone + Drop> Folder<'a, R> {
         let mut names = Vec::new(alloc);
         for entry in fs::read_dir(self.rt, full.as_str())? {
             let entry = entry?;
-            let kind = kind_of(entry.file_type()?)?;
-            let name = name_of(alloc, entry.file_name().as_bytes())?;
-            names.push(Listed { name, kind })?;
+            let name = entry.file_name();
+            let listed = listed_as(alloc, name.as_bytes(), entry.file_type());
+            if let Err(error) = &listed {
+                self.note(path, name.as_bytes(), error);
+            }
+            names.push(listed?)?;
         }
         Ok(names)
     }
 
+    // Notes a fault of a name in a folder. With no name it is the fault of the path itself.
+    fn note(&self, path: &[u8], name: &[u8], error: &io::Error) {
+        if let Ok(full) = joined_path(self.rt.alloc(), self.root.as_str(), path, name) {
+            self.log.note(self.rt.alloc(), full.as_slice(), error);
+        }
+    }
+
     fn bytes(&self, path: &[u8]) -> io::Result<Vec<u8>> {
         let full = full_path(self.rt.alloc(), self.root.as_str(), path)?;
-        fs::read(self.rt, full.as_str())
+        let mut file = File::open(self.rt, full.as_str())?;
+        if let Some(len) = zeros_for(file.metadata()?.len(), self.size) {
+            return Ok(zeros(self.rt.alloc(), len)?);
+        }
+        let mut bytes = Vec::new(self.rt.alloc());
+        file.read_to_end(&mut bytes)?;
+        Ok(bytes)
     }
 
     // Returns the source's error for an error of std.
-    fn note_fault(&mut self, error: io::Error) -> SourceError
+    fn note_fault(&mut self, path: &[u8], error: io::Error) -> SourceError
         ensures kind { (error_kind error ≡ ErrorKind.OutOfMemory) ↔ (result ≡ SourceError.NoMemory) }
         ensures fault { result ≡ SourceError.Fault → self.new.faults.count ≡ suc self.old.faults.count }
         ensures no_memory { result ≡ SourceError.NoMemory → self.new.faults.count ≡ self.old.faults.count }
@@ -76,6 +134,7 @@ impl<'a, R: Files + AllocGlobal + Clone + Drop> Folder<'a, R> {
         if error.kind() == ErrorKind::OutOfMemory {
             return SourceError::NoMemory;
         }
+        self.note(path, b"", &error);
         self.faults = self.faults.one_more();
         SourceError::Fault
     }
@@ -87,14 +146,14 @@ impl<'a, R: Files + AllocGlobal + Clone + Drop> Source for Folder<'a, R> {
     fn list(&mut self, alloc: Global, folder: &[u8]) -> Result<Vec<Listed>, SourceError> {
         match self.names(alloc, folder) {
             Ok(names) => Ok(names),
-            Err(error) => Err(self.note_fault(error)),
+            Err(error) => Err(self.note_fault(folder, error)),
         }
     }
 
     fn read(&mut self, _alloc: Global, file: &[u8]) -> Result<Vec<u8>, SourceError> {
         match self.bytes(file) {
             Ok(bytes) => Ok(bytes),
-            Err(error) => Err(self.note_fault(error)),
+            Err(error) => Err(self.note_fault(file, error)),
         }
     }
 }

@@ -2,8 +2,8 @@ ghost use Rattle.std.specs.Prelude.{◌≡◌, ◌↔◌, IfOk, suc};
 ghost use Rattle.std.specs.IoError.{error_kind};
 ghost use Rattle.lfs_tool_folders.specs.Roots.{target_root};
 
-use crate::full_path::full_path;
-use crate::{Tally, Target, TargetError};
+use crate::full_path::{full_path, joined_path};
+use crate::{FaultLog, Tally, Target, TargetError};
 use std::alloc::{AllocError, Global};
 use std::fs::File;
 use std::io::{ErrorKind, Write};
@@ -12,11 +12,12 @@ use std::{fs, io};
 
 /// A folder of the real file system. It is made at the first call where it isn't there, and so are the
 /// folders above it. A name that isn't UTF-8 is a fault. So is a path with something else than a file
-/// or a folder, as a symbolic link.
+/// or a folder, as a symbolic link. A fault is noted in a log, with the path that it comes from.
 #[derive(Drop)]
 pub struct TargetFolder<'a, R> {
     rt: &'a R,
     root: String,
+    log: &'a FaultLog,
     faults: Tally,
 }
 
@@ -42,19 +43,23 @@ fn make_with_those_above<R: Files>(rt: &R, path: &str) -> io::Result<()> {
 // Refuses a path that has something else than a file.
 fn check_place<R: Files>(rt: &R, path: &str) -> io::Result<()> {
     match fs::symlink_metadata(rt, path) {
-        Ok(there) if !there.is_file() => Err(io::Error::from(ErrorKind::InvalidInput)),
+        Ok(there) if !there.is_file() => Err(io::Error::new(
+            ErrorKind::InvalidInput,
+            "something else than a file stands there",
+        )),
         _ => Ok(()),
     }
 }
 
 impl<'a, R: Files + AllocGlobal + Clone + Drop> TargetFolder<'a, R> {
     /// Makes a target of the folder at a path of the file system. Nothing is made yet.
-    pub fn new(rt: &'a R, root: &str) -> Result<TargetFolder<'a, R>, AllocError>
+    pub fn new(rt: &'a R, log: &'a FaultLog, root: &str) -> Result<TargetFolder<'a, R>, AllocError>
         ensures root { IfOk result (λ f. target_root f ≡ root.now) }
     {
         Ok(TargetFolder {
             rt,
             root: String::from_str(rt.alloc(), root)?,
+            log,
             faults: Tally::none(),
         })
     }
@@ -62,8 +67,18 @@ impl<'a, R: Files + AllocGlobal + Clone + Drop> TargetFolder<'a, R> {
     // Returns the path in the file system, where it is text. The folder itself is there then.
     fn full(&self, path: &[u8]) -> io::Result<String> {
         let full = full_path(self.rt.alloc(), self.root.as_str(), path)?;
-        make_with_those_above(self.rt, self.root.as_str())?;
+        if let Err(error) = make_with_those_above(self.rt, self.root.as_str()) {
+            self.note(b"", &error);
+            return Err(error);
+        }
         Ok(full)
+    }
+
+    // Notes a fault at a path.
+    fn note(&self, path: &[u8], error: &io::Error) {
+        if let Ok(full) = joined_path(self.rt.alloc(), self.root.as_str(), path, b"") {
+            self.log.note(self.rt.alloc(), full.as_slice(), error);
+        }
     }
 
     fn folder(&self, path: &[u8]) -> io::Result<()> {
@@ -79,7 +94,7 @@ impl<'a, R: Files + AllocGlobal + Clone + Drop> TargetFolder<'a, R> {
     }
 
     // Returns the target's error for an error of std.
-    fn note_fault(&mut self, error: io::Error) -> TargetError
+    fn note_fault(&mut self, path: &[u8], error: io::Error) -> TargetError
         ensures kind { (error_kind error ≡ ErrorKind.OutOfMemory) ↔ (result ≡ TargetError.NoMemory) }
         ensures fault { result ≡ TargetError.Fault → self.new.faults.count ≡ suc self.old.faults.count }
         ensures no_memory { result ≡ TargetError.NoMemory → self.new.faults.count ≡ self.old.faults.count }
@@ -87,6 +102,7 @@ impl<'a, R: Files + AllocGlobal + Clone + Drop> TargetFolder<'a, R> {
         if error.kind() == ErrorKind::OutOfMemory {
             return TargetError::NoMemory;
         }
+        self.note(path, &error);
         self.faults = self.faults.one_more();
         TargetError::Fault
     }
@@ -98,14 +114,14 @@ impl<'a, R: Files + AllocGlobal + Clone + Drop> Target for TargetFolder<'a, R> {
     fn make_folder(&mut self, _alloc: Global, path: &[u8]) -> Result<(), TargetError> {
         match self.folder(path) {
             Ok(()) => Ok(()),
-            Err(error) => Err(self.note_fault(error)),
+            Err(error) => Err(self.note_fault(path, error)),
         }
     }
 
     fn put_file(&mut self, _alloc: Global, path: &[u8], bytes: &[u8]) -> Result<(), TargetError> {
         match self.file(path, bytes) {
             Ok(()) => Ok(()),
-            Err(error) => Err(self.note_fault(error)),
+            Err(error) => Err(self.note_fault(path, error)),
         }
     }
 }

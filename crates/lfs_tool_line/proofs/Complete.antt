@@ -23,7 +23,7 @@ complete c m d same p = record {
   block_size = default_reads c m mklittlefs same plain_app p 4 d (number (codes "block_size") 98 (codes "block") (codes "4096")) (lit< tt) refl refl refl (codes "4096") refl refl refl (Signed (pos 0) (pos 4294967295)) refl;
   page = default_reads c m mklittlefs same plain_app p 5 d (number (codes "page") 112 (codes "page") (codes "256")) (lit< tt) refl refl refl (codes "256") refl refl refl (Signed (pos 0) (pos 4294967295)) refl;
   size = default_reads c m mklittlefs same plain_app p 6 d (number (codes "size") 115 (codes "size") (codes "65536")) (lit< tt) refl refl refl (codes "65536") refl refl refl (Signed (pos 0) (pos 4294967295)) refl;
-  image = required_reads c m mklittlefs same plain_app p 8 d image_rule (lit< tt) refl refl refl refl refl refl;
+  image = required_reads c m mklittlefs same plain_app p 9 d image_rule (lit< tt) refl refl refl refl refl refl;
 }
 
 pub completes : (c : Command) (r : Result ArgMatches Error) → app_of c ≡ mklittlefs → IfOk r (λ m. IsParsedFrom c m) → IfOk r (λ m. IsComplete (found_of m))

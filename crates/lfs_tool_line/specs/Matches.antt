@@ -47,6 +47,9 @@ is_listed rows = flag_at (codes "list") rows
 abbrev pub is_checked : List Row → Bool
 is_checked rows = flag_at (codes "check") rows
 
+abbrev pub is_explained : List Row → Bool
+is_explained rows = flag_at (codes "explain") rows
+
 abbrev pub modes_given : List Row → List Bool
 modes_given rows = is_some (first_of (codes "create") rows)
     ∷ is_some (first_of (codes "unpack") rows) ∷ is_listed rows ∷ is_checked rows ∷ []
@@ -87,6 +90,7 @@ pub record IsLineOf (rows : List Row) (line : Line) : Type 0 where
   pub page : number_at (codes "page") rows ≡ Some line.page
   pub size : number_at (codes "size") rows ≡ Some line.size
   pub order : order_given rows ≡ Some line.order
+  pub explain : is_explained rows ≡ line.explain
   pub image : first_of (codes "image") rows ≡ Some line.image.now
 
 -- the option has a text that reads as a number of 32 bits

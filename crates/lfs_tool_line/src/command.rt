@@ -2,7 +2,7 @@
 
 ghost use Rattle.std.specs.Prelude.{◌≡◌, IfOk, codes, map, false};
 ghost use Rattle.clap.specs.Words.{FailsBy, app_of, found_of, new_app, rows_of, rule_of, with_rule};
-ghost use Rattle.lfs_tool_line.specs.Command.{check_rule, folder, image_rule, list_rule, mklittlefs, number, order_rule, with_modes, with_sizes, with_version};
+ghost use Rattle.lfs_tool_line.specs.Command.{check_rule, explain_rule, folder, image_rule, list_rule, mklittlefs, number, order_rule, with_modes, with_sizes, with_version};
 ghost use Rattle.lfs_tool_line.specs.Matches.{IsComplete, faults, rows};
 
 use clap::{Arg, ArgAction, ArgMatches, Command, Error, value_parser};
@@ -23,6 +23,7 @@ Examples:
   mklittlefs -c settings -b 1024 -p 128 -s 262144 disk.img
   mklittlefs -l -b 1024 -p 128 disk.img  one of 256 KiB with other blocks
   mklittlefs -c settings --order shorter-first disk.img
+  mklittlefs --explain -l disk.img       says why where it isn't listed
 
 Sizes:
   -b  from 1024 to 65536, a multiple of -p
@@ -148,6 +149,22 @@ fn with_order<'a>(alloc: Global, command: Command<'a>) -> Result<Command<'a>, Al
     command.arg(order_arg(alloc))
 }
 
+fn explain_arg<'a>(alloc: Global) -> Arg<'a>
+    ensures rule { rule_of result ≡ explain_rule }
+    ensures local { result.global ≡ false }
+{
+    Arg::new(alloc, "explain")
+        .long("explain")
+        .action(ArgAction::SetTrue)
+        .help("Say why behind the line of an error")
+}
+
+fn with_explain<'a>(alloc: Global, command: Command<'a>) -> Result<Command<'a>, AllocError>
+    ensures { IfOk result (λ c. app_of c ≡ with_rule (app_of command.entry) explain_rule) }
+{
+    command.arg(explain_arg(alloc))
+}
+
 fn image_arg<'a>(alloc: Global) -> Arg<'a>
     ensures rule { rule_of result ≡ image_rule }
     ensures local { result.global ≡ false }
@@ -173,7 +190,7 @@ fn bare_command<'a>(alloc: Global) -> Command<'a>
         .version(VERSION)
         .about("Creates, unpacks, lists or checks an image of a littlefs file system.")
         .override_usage(
-            "mklittlefs (-c DIR | -u DIR | -l | --check) [-b N] [-p N] [-s N] [--order ORDER] IMAGE",
+            "mklittlefs (-c DIR | -u DIR | -l | --check) [-b N] [-p N] [-s N] [--order ORDER] [--explain] IMAGE",
         )
         .after_help(EXAMPLES)
 }
@@ -219,6 +236,7 @@ fn command<'a>(alloc: Global) -> Result<Command<'a>, AllocError>
     let command = with_modes(alloc, bare_command(alloc))?;
     let command = with_sizes(alloc, command)?;
     let command = with_order(alloc, command)?;
+    let command = with_explain(alloc, command)?;
     let command = with_image(alloc, command)?;
     Ok(command)
 }

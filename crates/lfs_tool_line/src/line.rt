@@ -34,6 +34,8 @@ pub struct Line<'a> {
     pub size: u32,
     /// The order of the names in the image, for `Mode::Create`.
     pub order: NameOrder,
+    /// Whether further lines are to say why, behind the line of an error.
+    pub explain: bool,
     /// The path of the image.
     pub image: &'a str,
 }
@@ -133,13 +135,14 @@ fn line_of<'a>(matches: &ArgMatches<'a>, mode: Mode<'a>, order: NameOrder) -> Li
         page: number_in(matches, "page"),
         size: number_in(matches, "size"),
         order,
+        explain: flag_in(matches, "explain"),
         image: text_in(matches, "image").unwrap(),
     }
 }
 
 /// Reads the words of a command line, the program's name first:
-/// `mklittlefs (-c DIR | -u DIR | -l | --check) [-b N] [-p N] [-s N] [--order ORDER] IMAGE`. The
-/// long names are `--create`, `--unpack`, `--list`, `--block`, `--page` and `--size`.
+/// `mklittlefs (-c DIR | -u DIR | -l | --check) [-b N] [-p N] [-s N] [--order ORDER] [--explain] IMAGE`. The long
+/// names are `--create`, `--unpack`, `--list`, `--block`, `--page` and `--size`.
 ///
 /// A number is decimal, from 0 to 4294967295. Where an option isn't given, a block has 4096 bytes, a
 /// page 256 and the image 65536, and the longer names come first. ORDER is `longer-first` or `shorter-first`; it is read

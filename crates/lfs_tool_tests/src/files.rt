@@ -4,8 +4,9 @@ use crate::images::{BELOW, ENTRIES};
 use crate::sources::{Items, is_read};
 use lfs_fixtures::{Entries, Held, image_with};
 use lfs_tool::{RealPlaces, Watched, answer};
-use lfs_tool_folders::Folder;
+use lfs_tool_folders::{FaultLog, Folder};
 use std::alloc::{AllocError, Global};
+use std::fs::OpenFile;
 use std::io::ErrorKind;
 use std::os::unix::fs::symlink;
 use std::rt::Files;
@@ -643,7 +644,8 @@ fn is_behind<R: Files + AllocGlobal + Clone + Drop>(
         Behind::File(text) => Ok(fs::read(rt, path)?.as_slice() == text.as_bytes()),
         Behind::Len(len) => Ok(fs::read(rt, path)?.len() == len),
         Behind::Folder(items) => {
-            let mut folder = Folder::new(rt, path)?;
+            let log = FaultLog::new();
+            let mut folder = Folder::new(rt, &log, path)?;
             Ok(is_read(rt.alloc(), &mut folder, items) == Ok(true))
         }
         Behind::Nothing => Ok(!fs::exists(rt, path)?),
@@ -668,7 +670,8 @@ fn answers<R: Files + AllocGlobal + Clone + Drop>(
 ) -> bool {
     let mut written = Watched::new(Vec::new(rt.alloc()));
     let mut told = Watched::new(Vec::new(rt.alloc()));
-    let places = RealPlaces::new(rt);
+    let log = FaultLog::new();
+    let places = RealPlaces::new(rt, &log);
     let given = answer(rt.alloc(), &places, words, &mut written, &mut told);
     given == status
         && written.inner().as_slice() == out.as_bytes()
@@ -705,6 +708,138 @@ fn all_hold<R: Files + AllocGlobal + Clone + Drop>(rt: &R, runs: &[Run]) -> io::
     Ok(true)
 }
 
+const CORRUPT: &str = "error: Corrupt (84)\ncorrupt\npair 0 1: no commit with a right checksum\n";
+
+// Words of runs that end in an error, the status, and what is told.
+const EXPLAINED: [(&[&str], u8, &str); 18] = [
+    // without the option nothing more
+    (&["-l", "runs/none"], 3, "error: input\n"),
+    // the path of a file or a folder, and the system's words
+    (
+        &["--explain", "-l", "runs/none"],
+        3,
+        "error: input\nruns/none: No such file or directory (os error 2)\n",
+    ),
+    (
+        &["--explain", "--check", "runs/files"],
+        3,
+        "error: input\nruns/files: Is a directory (os error 21)\n",
+    ),
+    (
+        &["--explain", "-c", "runs/none", "runs/image"],
+        3,
+        "error: input\nruns/none: No such file or directory (os error 2)\n",
+    ),
+    (
+        &["--explain", "-c", "runs/linked", "runs/made"],
+        3,
+        "error: input\nruns/linked/x: neither a file nor a folder\n",
+    ),
+    (
+        &["--explain", "-c", "runs/files", "runs/none/image"],
+        3,
+        "error: output\nruns/none/image: No such file or directory (os error 2)\n",
+    ),
+    // the entry at which an unpacking stops
+    (
+        &["--explain", "-u", "runs/held", "runs/good"],
+        3,
+        "error: output\nruns/held/a: something else than a file stands there\n",
+    ),
+    // what a check says
+    (&["--explain", "-l", "runs/zeros"], 1, CORRUPT),
+    (&["--explain", "-u", "runs/other", "runs/zeros"], 1, CORRUPT),
+    // how many blocks it takes: two for the root, and two to make a file in it; or its 65 and two
+    (
+        &["--explain", "-c", "runs/files", "-s", "8192", "i"],
+        1,
+        "error: NoSpace (28)\n2 blocks are too few, it takes 4\n",
+    ),
+    (
+        &[
+            "--explain",
+            "-c",
+            "runs/long",
+            "-b",
+            "1024",
+            "-p",
+            "128",
+            "-s",
+            "4096",
+            "i",
+        ],
+        1,
+        "error: NoSpace (28)\n4 blocks are too few, it takes 69\n",
+    ),
+    // each rule for sizes
+    (
+        &["--explain", "-c", "runs/files", "-p", "100", "i"],
+        1,
+        "error: Invalid (22)\npage 100: a page has 8, 16, 32, 64, 128, 256 or 512 bytes\n",
+    ),
+    (
+        &["--explain", "-c", "runs/files", "-b", "512", "-p", "8", "i"],
+        1,
+        "error: Invalid (22)\nblock 512: a block has from 1024 to 65536 bytes\n",
+    ),
+    (
+        &["--explain", "-c", "runs/files", "-b", "1024", "i"],
+        1,
+        "error: Invalid (22)\nblock 1024, page 256: a page is at most an eighth of a block\n",
+    ),
+    (
+        &["--explain", "-c", "runs/files", "-b", "2100", "i"],
+        1,
+        "error: Invalid (22)\nblock 2100, page 256: a block is a whole number of pages\n",
+    ),
+    (
+        &["--explain", "-c", "runs/files", "-s", "268439552", "i"],
+        1,
+        "error: Invalid (22)\nan image has at most 268435456 bytes\n",
+    ),
+    (
+        &["--explain", "-l", "runs/image"],
+        1,
+        "error: Invalid (22)\nsize 14, block 4096: an image is a whole number of blocks\n",
+    ),
+    (
+        &["--explain", "-c", "runs/files", "-s", "4096", "i"],
+        1,
+        "error: Invalid (22)\nsize 4096, block 4096: an image has from 2 to 65536 blocks\n",
+    ),
+];
+
+// The files and folders of the runs above.
+const ABOUT: [(&str, Before); 7] = [
+    ("runs/long", Before::Folder),
+    ("runs/long/c", Before::Image(ENTRIES, BELOW)),
+    ("runs/linked", Before::Folder),
+    ("runs/linked/x", Before::Link("../files")),
+    ("runs/held", Before::Folder),
+    ("runs/held/a", Before::Folder),
+    ("runs/good", Before::Image(ENTRIES, BELOW)),
+];
+
+// Whether an image is refused for the length of a file, which isn't read.
+fn is_long_file_refused<R: Files + AllocGlobal + Clone + Drop>(rt: &R) -> io::Result<bool> {
+    fs::create_dir(rt, "runs/large")?;
+    fs::File::create(rt, "runs/large/c")?.set_len(1 << 30)?;
+    let words = words_of(rt.alloc(), &["-c", "runs/large", "runs/made"])?;
+    Ok(answers(rt, Ok(words), 1, "", "error: NoSpace (28)\n"))
+}
+
+// Whether the errors of the runs above are explained so.
+fn are_explained<R: Files + AllocGlobal + Clone + Drop>(rt: &R) -> io::Result<bool> {
+    make_all(rt, &ABOUT)?;
+    fs::write(rt, "runs/zeros", &[0u8; 8192])?;
+    let mut holds = true;
+    for (words, status, err) in EXPLAINED {
+        let words = words_of(rt.alloc(), words)?;
+        holds = holds && answers(rt, Ok(words), status, "", err);
+    }
+    Ok(holds)
+}
+
 // Whether the runs that make and read images do.
 fn images_hold<R: Files + AllocGlobal + Clone + Drop>(rt: &R) -> io::Result<bool> {
     Ok(all_hold(rt, &MADE)? && all_hold(rt, &READ)?)
@@ -725,6 +860,8 @@ fn runs(rt: HostRuntime) -> Result<(), Fail> {
     assert!(rt; images_hold(&rt)?);
     assert!(rt; folders_hold(&rt)?);
     assert!(rt; places_hold(&rt)?);
+    assert!(rt; are_explained(&rt)?);
+    assert!(rt; is_long_file_refused(&rt)?);
     fs::remove_dir_all(&rt, "runs")?;
     Ok(())
 }

@@ -7,7 +7,7 @@ use std::alloc::{AllocError, Global};
 use std::test::Fail;
 
 // The words of command lines, and what they say.
-const LINES: [(&[&str], Line<'static>); 5] = [
+const LINES: [(&[&str], Line<'static>); 6] = [
     (
         &["mklittlefs", "--check", "-b1024", "disk.img"],
         Line {
@@ -16,6 +16,7 @@ const LINES: [(&[&str], Line<'static>); 5] = [
             page: 256,
             size: 65536,
             order: NameOrder::LongerFirst,
+            explain: false,
             image: "disk.img",
         },
     ),
@@ -27,6 +28,7 @@ const LINES: [(&[&str], Line<'static>); 5] = [
             page: 256,
             size: 65536,
             order: NameOrder::LongerFirst,
+            explain: false,
             image: "disk.img",
         },
     ),
@@ -49,6 +51,7 @@ const LINES: [(&[&str], Line<'static>); 5] = [
             page: 16,
             size: 1024,
             order: NameOrder::ShorterFirst,
+            explain: false,
             image: "i",
         },
     ),
@@ -68,6 +71,7 @@ const LINES: [(&[&str], Line<'static>); 5] = [
             page: 256,
             size: 4_294_967_295,
             order: NameOrder::LongerFirst,
+            explain: false,
             image: "i",
         },
     ),
@@ -89,6 +93,19 @@ const LINES: [(&[&str], Line<'static>); 5] = [
             page: 128,
             size: 262_144,
             order: NameOrder::LongerFirst,
+            explain: false,
+            image: "i",
+        },
+    ),
+    (
+        &["mklittlefs", "--explain", "-l", "i"],
+        Line {
+            mode: Mode::List,
+            block_size: 4096,
+            page: 256,
+            size: 65536,
+            order: NameOrder::LongerFirst,
+            explain: true,
             image: "i",
         },
     ),
@@ -113,7 +130,7 @@ const VERSION: &str =
 const HELP: &str = "\
 Creates, unpacks, lists or checks an image of a littlefs file system.
 
-Usage: mklittlefs (-c DIR | -u DIR | -l | --check) [-b N] [-p N] [-s N] [--order ORDER] IMAGE
+Usage: mklittlefs (-c DIR | -u DIR | -l | --check) [-b N] [-p N] [-s N] [--order ORDER] [--explain] IMAGE
 
 Arguments:
   <IMAGE>  The file with the image
@@ -127,6 +144,7 @@ Options:
   -p, --page <N>       Size of a page in bytes [default: 256]
   -s, --size <N>       Size of the image in bytes, with -c [default: 65536]
       --order <ORDER>  Order of names in the image that -c makes [default: longer-first]
+      --explain        Say why behind the line of an error
   -h, --help           Print help
   -V, --version        Print version
 
@@ -138,6 +156,7 @@ Examples:
   mklittlefs -c settings -b 1024 -p 128 -s 262144 disk.img
   mklittlefs -l -b 1024 -p 128 disk.img  one of 256 KiB with other blocks
   mklittlefs -c settings --order shorter-first disk.img
+  mklittlefs --explain -l disk.img       says why where it isn't listed
 
 Sizes:
   -b  from 1024 to 65536, a multiple of -p

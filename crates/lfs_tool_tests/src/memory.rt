@@ -4,6 +4,7 @@ use crate::files::words_of;
 use crate::images::shifting_block;
 use lfs_fixtures::image_of;
 use lfs_tool::{RealPlaces, Watched, answer};
+use lfs_tool_folders::FaultLog;
 use std::alloc::{AllocError, Global};
 use std::io::Write;
 use std::rt::Files;
@@ -73,9 +74,10 @@ fn is_run<R: Files + AllocGlobal + Clone + Drop>(
     };
     let mut out = writer_for(text);
     let mut err = writer_for(NO_MEMORY);
+    let log = FaultLog::new();
     match answer(
         rt.alloc(),
-        &RealPlaces::new(rt),
+        &RealPlaces::new(rt, &log),
         Ok(words),
         &mut out,
         &mut err,

@@ -1,6 +1,6 @@
 // Sources, and what is read of them.
 
-use lfs_tool_folders::{Folder, Held, MemorySource, Source, SourceError, read_tree};
+use lfs_tool_folders::{FaultLog, Folder, Held, MemorySource, Source, SourceError, read_tree};
 use std::alloc::{AllocError, Global};
 use std::fs;
 use std::test::Fail;
@@ -104,7 +104,8 @@ fn sources_are_read(rt: HostRuntime) -> Result<(), Fail> {
 #[test]
 fn real_folders_fault(rt: HostRuntime) -> Result<(), Fail> {
     fs::create_dir_all(&rt, "source_folder/d")?;
-    let mut folder = Folder::new(&rt, "source_folder")?;
+    let log = FaultLog::new();
+    let mut folder = Folder::new(&rt, &log, "source_folder")?;
     for path in [b"/e\xff".as_slice(), b"/none"] {
         let is_fault = matches!(folder.list(rt.alloc(), path), Err(SourceError::Fault));
         assert!(rt; is_fault, "{path:?}");

@@ -1,7 +1,7 @@
 //! mklittlefs: makes an image of a littlefs file system from a folder, unpacks one into a folder, lists one, or checks one.
 #![tactic(auto)]
 
-use lfs_tool::{RealPlaces, Watched, answer};
+use lfs_tool::{FaultLog, RealPlaces, Watched, answer};
 use std::process::ExitCode;
 use std::{env, io};
 
@@ -14,6 +14,7 @@ fn words(rt: &HostRuntime) -> io::Result<Vec<String>> {
 fn main(rt: HostRuntime) -> ExitCode {
     let mut out = Watched::new(rt.stdout());
     let mut err = Watched::new(rt.stderr());
-    let places = RealPlaces::new(&rt);
+    let log = FaultLog::new();
+    let places = RealPlaces::new(&rt, &log);
     ExitCode::from(answer(rt.alloc(), &places, words(&rt), &mut out, &mut err))
 }

@@ -1,0 +1,87 @@
+// The cause for which a call failed, and its lines.
+
+ghost use Rattle.std.specs.Prelude.{◌≡◌, ◌++◌, IfOk, OnOk};
+ghost use Rattle.lfs_tool.specs.Explained.{enough_text, explanation_text, fault_text, needed_text, rule_text};
+
+use crate::check_result::Checked;
+use crate::checked_lines::{checked_lines, push_number, push_text};
+use crate::escape::escape_path;
+use crate::needed_blocks::NeededBlocks;
+use lfs_tool_folders::PlaceFault;
+use lfs_tool_line::{SizeRule, Sizes};
+use std::alloc::{AllocError, Global};
+
+/// The cause for which a call failed, as far as it is known.
+#[derive(Drop)]
+pub enum Explanation {
+    /// A file or a folder met this fault.
+    Place(PlaceFault),
+    /// What a check says of the image.
+    Checked(Checked),
+    /// The sizes, and the first rule that they break.
+    Sizes(Sizes, Option<SizeRule>),
+    /// The blocks are too few.
+    Blocks(NeededBlocks),
+    /// No more is known.
+    Nothing,
+}
+
+// Adds the line of a fault: its path, and the system's words.
+fn push_fault(text: &mut Vec<u8>, fault: &PlaceFault) -> Result<(), AllocError>
+    ensures { OnOk result (text.new.items ≡ text.old.items ++ fault_text fault.now) }
+{
+    escape_path(text, &fault.path)?;
+    text.extend_from_slice(b": ")?;
+    escape_path(text, &fault.words)?;
+    text.push(b'\n')?;
+    Ok(())
+}
+
+// Adds the line of a rule that is broken.
+fn push_rule(text: &mut Vec<u8>, sizes: Sizes, rule: Option<SizeRule>) -> Result<(), AllocError>
+    ensures { OnOk result (text.new.items ≡ text.old.items ++ rule_text sizes rule) }
+{
+    match rule {
+        Some(rule) => sizes.push_line(text, rule),
+        None => Ok(()),
+    }
+}
+
+// Adds how many blocks are enough.
+fn push_enough(text: &mut Vec<u8>, enough: Option<u32>) -> Result<(), AllocError>
+    ensures { OnOk result (text.new.items ≡ text.old.items ++ enough_text enough) }
+{
+    match enough {
+        Some(enough) => push_number(text, ", it takes ", enough as usize),
+        None => Ok(()),
+    }
+}
+
+// Adds the line of blocks that are too few.
+fn push_needed(text: &mut Vec<u8>, needed: NeededBlocks) -> Result<(), AllocError>
+    ensures { OnOk result (text.new.items ≡ text.old.items ++ needed_text needed) }
+{
+    push_number(text, "", needed.blocks as usize)?;
+    push_text(text, " blocks are too few")?;
+    push_enough(text, needed.enough)?;
+    text.push(b'\n')?;
+    Ok(())
+}
+
+// Returns the lines of an explanation.
+pub(crate) fn explanation_lines(
+    alloc: Global,
+    explanation: &Explanation,
+) -> Result<Vec<u8>, AllocError>
+    ensures { IfOk result (λ text. text.items ≡ explanation_text explanation.now) }
+{
+    let mut text = Vec::new(alloc);
+    match explanation {
+        Explanation::Place(fault) => push_fault(&mut text, fault)?,
+        Explanation::Checked(checked) => return checked_lines(alloc, checked),
+        Explanation::Sizes(sizes, rule) => push_rule(&mut text, *sizes, *rule)?,
+        Explanation::Blocks(needed) => push_needed(&mut text, *needed)?,
+        Explanation::Nothing => {}
+    }
+    Ok(text)
+}

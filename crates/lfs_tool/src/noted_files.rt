@@ -1,0 +1,76 @@
+ghost use Rattle.std.specs.Prelude.{◌≡◌, IfOk};
+ghost use Rattle.std.specs.String.{string_bytes};
+
+use lfs_tool_folders::FaultLog;
+use std::alloc::{AllocError, Global};
+use std::io;
+use std::io::{ErrorKind, Read, Write};
+
+/// A reader or a writer of std at a path, whose faults are noted in a log.
+#[derive(Drop)]
+pub struct Noted<'a, T> {
+    inner: T,
+    alloc: Global,
+    path: String,
+    log: &'a FaultLog,
+}
+
+impl<'a, T: Drop> Noted<'a, T> {
+    /// Makes a reader or a writer of what is at the path.
+    pub fn new(
+        alloc: Global,
+        inner: T,
+        path: &str,
+        log: &'a FaultLog,
+    ) -> Result<Noted<'a, T>, AllocError>
+        ensures inner { IfOk result (λ n. n.inner ≡ inner) }
+        ensures path { IfOk result (λ n. string_bytes n.path ≡ path.now) }
+    {
+        let path = String::from_str(alloc, path)?;
+        Ok(Noted {
+            inner,
+            alloc,
+            path,
+            log,
+        })
+    }
+
+    // Notes a fault. A call that a signal interrupted has none.
+    fn note(&self, error: &io::Error) {
+        if error.kind() != ErrorKind::Interrupted {
+            self.log.note(self.alloc, self.path.as_bytes(), error);
+        }
+    }
+}
+
+impl<'a, R: Read + Drop> Read for Noted<'a, R> {
+    ghost remaining = { λ n. R.remaining n.inner };
+
+    fn read(&mut self, buf: &mut [u8]) -> io::Result<usize> {
+        let read = self.inner.read(buf);
+        if let Err(error) = &read {
+            self.note(error);
+        }
+        read
+    }
+}
+
+impl<'a, W: Write + Drop> Write for Noted<'a, W> {
+    ghost contents = { λ n. W.contents n.inner };
+
+    fn write(&mut self, buf: &[u8]) -> io::Result<usize> {
+        let written = self.inner.write(buf);
+        if let Err(error) = &written {
+            self.note(error);
+        }
+        written
+    }
+
+    fn flush(&mut self) -> io::Result<()> {
+        let flushed = self.inner.flush();
+        if let Err(error) = &flushed {
+            self.note(error);
+        }
+        flushed
+    }
+}

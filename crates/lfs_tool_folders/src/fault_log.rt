@@ -1,0 +1,67 @@
+ghost use Rattle.std.specs.Prelude.{◌≡◌, IfOk};
+
+use std::alloc::{AllocError, Global};
+use std::cell::RefCell;
+use std::io;
+use std::io::Write;
+
+/// A fault that a file or a folder met.
+#[derive(Debug, PartialEq, Eq, Drop)]
+pub struct PlaceFault {
+    /// The path of the file or the folder.
+    pub path: Vec<u8>,
+    /// The system's words for its fault.
+    pub words: Vec<u8>,
+}
+
+/// Keeps the first fault that is noted. It is shown to users alone: no clause speaks of it.
+#[derive(Drop)]
+pub struct FaultLog {
+    first: RefCell<Option<PlaceFault>>,
+}
+
+fn fault_of(alloc: Global, path: &[u8], error: &io::Error) -> Result<PlaceFault, AllocError>
+    ensures { IfOk result (λ fault. fault.path.items ≡ path.now) }
+{
+    let path = path.to_vec(alloc)?;
+    let mut words = Vec::new(alloc);
+    if write!(words, "{}", error).is_err() {
+        return Err(AllocError);
+    }
+    Ok(PlaceFault { path, words })
+}
+
+impl FaultLog {
+    /// Makes a log that has no fault yet.
+    pub fn new() -> FaultLog {
+        FaultLog {
+            first: RefCell::new(None),
+        }
+    }
+
+    // Returns whether a fault is noted.
+    fn has_fault(&self) -> bool {
+        match self.first.try_borrow() {
+            Ok(first) => first.is_some(),
+            Err(_) => false,
+        }
+    }
+
+    /// Notes a fault at a path, unless one is noted already, or memory runs out.
+    pub fn note(&self, alloc: Global, path: &[u8], error: &io::Error) {
+        if self.has_fault() {
+            return;
+        }
+        if let Ok(fault) = fault_of(alloc, path, error) {
+            let _ = self.first.try_replace(Some(fault));
+        }
+    }
+
+    /// Returns the fault that is noted, and forgets it.
+    pub fn take(&self) -> Option<PlaceFault> {
+        match self.first.try_replace(None) {
+            Ok(fault) => fault,
+            Err(_) => None,
+        }
+    }
+}

@@ -1,0 +1,141 @@
+// The rules for the sizes of an image.
+
+ghost use Rattle.std.specs.Prelude.{◌≡◌, ◌≤◌, ◌*◌, ◌++◌, ◌/◌, ◌%◌, IfSome, None, OnOk};
+ghost use Rattle.std.specs.Fmt.{decimal};
+ghost use Rattle.lfs_model.specs.Geometry.{is_page};
+ghost use Rattle.lfs_tool_line.specs.Sizes.{Fits, IsBroken, number_text, rule_words, sizes_text, subject_text};
+
+use std::alloc::AllocError;
+use std::io::Write;
+
+/// The sizes of an image, of its blocks and of its pages, in bytes.
+#[derive(Clone, Copy, Debug, PartialEq, Eq, Drop)]
+pub struct Sizes {
+    pub size: usize,
+    pub block_size: u32,
+    pub page: u32,
+}
+
+/// A rule for the sizes of an image.
+#[derive(Clone, Copy, Debug, PartialEq, Eq, Drop)]
+pub enum SizeRule {
+    /// A page has 8, 16, 32, 64, 128, 256 or 512 bytes.
+    Page,
+    /// A block has from 1024 to 65536 bytes.
+    Block,
+    /// A page is at most an eighth of a block.
+    Eighth,
+    /// A block is a whole number of pages.
+    Pages,
+    /// An image has at most 268435456 bytes.
+    Most,
+    /// An image is a whole number of blocks.
+    Blocks,
+    /// An image has from 2 to 65536 blocks.
+    Count,
+}
+
+fn is_page(page: u32) -> bool
+    ensures { result ≡ is_page page }
+{
+    page == 8 || page == 16 || page == 32 || page == 64 || page == 128 || page == 256 || page == 512
+}
+
+// Adds a text and a number behind it.
+fn push_number(text: &mut Vec<u8>, before: &str, number: usize) -> Result<(), AllocError>
+    ensures { OnOk result (text.new.items ≡ text.old.items ++ number_text before.now number) }
+{
+    text.extend_from_slice(before.as_bytes())?;
+    if write!(text, "{}", number).is_err() {
+        return Err(AllocError);
+    }
+    Ok(())
+}
+
+// Returns what the rule says.
+fn words_of(rule: SizeRule) -> &'static str
+    ensures { result.now ≡ rule_words rule }
+{
+    match rule {
+        SizeRule::Page => ": a page has 8, 16, 32, 64, 128, 256 or 512 bytes\n",
+        SizeRule::Block => ": a block has from 1024 to 65536 bytes\n",
+        SizeRule::Eighth => ": a page is at most an eighth of a block\n",
+        SizeRule::Pages => ": a block is a whole number of pages\n",
+        SizeRule::Most => "an image has at most 268435456 bytes\n",
+        SizeRule::Blocks => ": an image is a whole number of blocks\n",
+        SizeRule::Count => ": an image has from 2 to 65536 blocks\n",
+    }
+}
+
+impl Sizes {
+    // Adds the sizes that the rule is about.
+    fn push_subject(self, text: &mut Vec<u8>, rule: SizeRule) -> Result<(), AllocError>
+        ensures { OnOk result (text.new.items ≡ text.old.items ++ subject_text self rule) }
+    {
+        let (block_size, page) = (self.block_size as usize, self.page as usize);
+        match rule {
+            SizeRule::Page => push_number(text, "page ", page),
+            SizeRule::Block => push_number(text, "block ", block_size),
+            SizeRule::Eighth | SizeRule::Pages => {
+                push_number(text, "block ", block_size)?;
+                push_number(text, ", page ", page)
+            }
+            SizeRule::Blocks | SizeRule::Count => {
+                push_number(text, "size ", self.size)?;
+                push_number(text, ", block ", block_size)
+            }
+            SizeRule::Most => Ok(()),
+        }
+    }
+
+    /// Adds the line that says that the sizes break the rule.
+    pub fn push_line(self, text: &mut Vec<u8>, rule: SizeRule) -> Result<(), AllocError>
+        ensures { OnOk result (text.new.items ≡ text.old.items ++ sizes_text self rule) }
+    {
+        self.push_subject(text, rule)?;
+        text.extend_from_slice(words_of(rule).as_bytes())?;
+        Ok(())
+    }
+
+    // Returns the first rule that the image's size breaks, where those of blocks and pages break none.
+    fn broken_count(self) -> Option<SizeRule>
+        requires { 1024 ≤ self.block_size }
+        ensures broken { IfSome result (IsBroken self) }
+        ensures whole { result ≡ None → (self.size % self.block_size ≡ 0) × (2 ≤ self.size / self.block_size) × (self.size / self.block_size ≤ 65536) × (self.size ≤ 268435456) }
+    {
+        let block_size = self.block_size as usize;
+        if self.size > 268_435_456 {
+            return Some(SizeRule::Most);
+        }
+        if self.size % block_size != 0 {
+            return Some(SizeRule::Blocks);
+        }
+        let count = self.size / block_size;
+        if count < 2 || count > 65536 {
+            return Some(SizeRule::Count);
+        }
+        None
+    }
+
+    /// Returns the first rule that the sizes break. None comes exactly where there are images of these
+    /// sizes.
+    pub fn broken_rule(self) -> Option<SizeRule>
+        ensures broken { IfSome result (IsBroken self) }
+        ensures fits { result ≡ None → Fits self }
+    {
+        let (block_size, page) = (self.block_size as usize, self.page as usize);
+        if !is_page(self.page) {
+            return Some(SizeRule::Page);
+        }
+        if block_size < 1024 || block_size > 65536 {
+            return Some(SizeRule::Block);
+        }
+        if 8 * page > block_size {
+            return Some(SizeRule::Eighth);
+        }
+        if block_size % page != 0 {
+            return Some(SizeRule::Pages);
+        }
+        self.broken_count()
+    }
+}

@@ -5,20 +5,23 @@
 mod comparison;
 mod counted;
 mod hand;
+mod help;
 mod images;
 mod performing;
 mod running;
 mod script;
 
+use help::HELP;
 use running::{End, run};
 use std::io::BufReader;
 use std::process::ExitCode;
+use std::{env, io};
 
 // Shows why a script ended before its last line, and returns the status. A failed write is ignored.
 fn report(rt: &HostRuntime, end: End) -> ExitCode {
     let (shown, status) = match end {
         End::Done => return ExitCode::SUCCESS,
-        End::Line(number) => (eprintln!(rt; "error: line {number}"), 2),
+        End::Line(number, refusal) => (eprintln!(rt; "error: line {number}: {refusal}"), 2),
         End::NoMemory => (eprintln!(rt; "error: NoMemory (12)"), 1),
         End::Input => (eprintln!(rt; "error: input"), 3),
         End::Output => (eprintln!(rt; "error: output"), 3),
@@ -27,10 +30,60 @@ fn report(rt: &HostRuntime, end: End) -> ExitCode {
     ExitCode::from(status)
 }
 
-fn main(rt: HostRuntime) -> ExitCode {
+/// The request of a command line.
+#[derive(Clone, Copy, PartialEq, Eq)]
+enum Request {
+    /// Perform the lines of standard input.
+    Script,
+    Help,
+    /// The command line has other words.
+    Unknown,
+}
+
+// Returns the request of the words of a command line, the program's name first.
+fn request_of(words: &[String]) -> Request {
+    match words {
+        [] | [_] => Request::Script,
+        [_, word] if word.as_str() == "--help" || word.as_str() == "-h" => Request::Help,
+        _ => Request::Unknown,
+    }
+}
+
+fn words(rt: &HostRuntime) -> io::Result<Vec<String>> {
+    let words = env::args(rt)?.collect(rt.alloc())?;
+    Ok(words)
+}
+
+// Shows the help, and returns the status.
+fn show_help(rt: &HostRuntime) -> ExitCode {
+    match print!(rt; "{HELP}") {
+        Ok(()) => ExitCode::SUCCESS,
+        Err(_) => report(rt, End::Output),
+    }
+}
+
+// Says that there are no such words, and returns the status. A failed write is ignored.
+fn refuse_words(rt: &HostRuntime) -> ExitCode {
+    let _ = eprintln!(rt; "error: a script is read from standard input (--help says more)");
+    ExitCode::from(2)
+}
+
+// Performs the lines of standard input, and returns the status.
+fn run_script(rt: &HostRuntime) -> ExitCode {
     let Ok(mut input) = BufReader::new(rt.alloc(), rt.stdin()) else {
-        return report(&rt, End::NoMemory);
+        return report(rt, End::NoMemory);
     };
-    let end = run(&rt, &mut input, &mut rt.stdout());
-    report(&rt, end)
+    let end = run(rt, &mut input, &mut rt.stdout());
+    report(rt, end)
+}
+
+fn main(rt: HostRuntime) -> ExitCode {
+    let Ok(words) = words(&rt) else {
+        return refuse_words(&rt);
+    };
+    match request_of(&words) {
+        Request::Script => run_script(&rt),
+        Request::Help => show_help(&rt),
+        Request::Unknown => refuse_words(&rt),
+    }
 }

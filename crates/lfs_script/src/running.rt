@@ -1,7 +1,7 @@
 // Scripts, read and performed line by line.
 
 use crate::script::Script;
-use lfs_script_lines::{LineError, push_answer, read_line};
+use lfs_script_lines::{LineError, Refusal, push_answer, read_line};
 use std::alloc::AllocError;
 use std::io::{BufRead, ErrorKind, Write};
 use std::rt::Files;
@@ -11,8 +11,8 @@ use std::rt::Files;
 pub enum End {
     /// With its last line.
     Done,
-    /// At a line that is no command: its number, from 1 on.
-    Line(u64),
+    /// At a line that is no command: its number, from 1 on, and the reason.
+    Line(u64, Refusal),
     /// Where a growth was refused.
     NoMemory,
     /// Where its lines could not be read.
@@ -32,7 +32,7 @@ fn answer_line<R: Files + AllocGlobal, W: Write>(
     let command = match read_line(rt.alloc(), line) {
         Ok(Some(command)) => command,
         Ok(None) => return Ok(()),
-        Err(LineError::Words) => return Err(End::Line(number)),
+        Err(LineError::Refused(refusal)) => return Err(End::Line(number, refusal)),
         Err(LineError::NoMemory) => return Err(End::NoMemory),
     };
     let answer = script.carry_out(&command);
@@ -41,14 +41,6 @@ fn answer_line<R: Files + AllocGlobal, W: Write>(
         return Err(End::NoMemory);
     }
     out.write_all(&text).map_err(|_| End::Output)
-}
-
-// Returns a line without its end.
-fn without_end(line: &[u8]) -> &[u8] {
-    match line.split_last() {
-        Some((b'\n', rest)) => rest,
-        _ => line,
-    }
 }
 
 /// Performs the lines of a reader, and prints their answers.
@@ -67,7 +59,7 @@ pub fn run<R: Files + AllocGlobal, I: BufRead, W: Write>(
             Err(error) if error.kind() == ErrorKind::OutOfMemory => return End::NoMemory,
             Err(_) => return End::Input,
         }
-        if let Err(end) = answer_line(rt, &mut script, without_end(&line), number, out) {
+        if let Err(end) = answer_line(rt, &mut script, &line, number, out) {
             return end;
         }
     }

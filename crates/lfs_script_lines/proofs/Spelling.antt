@@ -1,12 +1,12 @@
 -- Bytes that are written as words are read from them again.
-use Rattle.std.proofs.Common.{◌≡◌, ◌≢◌, ◌<◌, ◌+◌, ◌*◌, ◌/◌, ◌%◌, ◌&&◌, ℕ, Bool, true, false, not, nat_eq, List, [], ◌∷◌, ◌++◌, Some, None, option_map, get_or, ap, ◌∙◌, sym, arith, refl, cond}
-use Rattle.std.specs.List.{flat_map}
+use Rattle.std.proofs.Common.{◌≡◌, ◌≢◌, ◌<◌, ◌+◌, ◌*◌, ◌/◌, ◌%◌, ◌&&◌, ℕ, Bool, true, false, not, nat_eq, List, [], ◌∷◌, ◌++◌, Option, Some, None, IsSome, option_map, get_or, ap, ◌∙◌, sym, arith, refl, cond}
+use Rattle.std.specs.List.{flat_map, repeat}
 use Rattle.std.specs.Str.{bytes_eq}
 use Rattle.std.proofs.lemmas.Bool.Decides.{nat_tests}
 use Rattle.std.proofs.lemmas.List.Elements.{All-head, All-tail}
 use Rattle.std.proofs.lemmas.Slice.Eq.{bytes_eq-Decides}
 use Rattle.lfs_model.specs.Listing.{hex_digit}
-use Rattle.lfs_script_lines.specs.Words.{AreBytes, byte_of, followed, hex_value, is_plain, shown, spelled, text_bytes, word_bytes, written}
+use Rattle.lfs_script_lines.specs.Words.{AreBytes, AreCounts, IsSpelling, byte_of, followed, hex_value, is_plain, shown, spelled, starred, text_bytes, times_in, word_bytes, written}
 use Rattle.lfs_script_lines.specs.declared.words.Part.TheVariants.{Backslash}
 use Rattle.lfs_script_lines.specs.declared.words.Step.TheVariants.{Byte, Never, To}
 
@@ -79,3 +79,11 @@ pub word_bytes-written : (bytes : List ℕ) → AreBytes bytes → word_bytes (w
 word_bytes-written [] are = refl
 word_bytes-written (b ∷ bytes) are =
     ap (λ t. cond t (Some []) (text_bytes (flat_map shown (b ∷ bytes)))) (not_mark (b ∷ bytes) are) ∙ text_bytes-flat_map (b ∷ bytes) are
+
+nothing : (spelling : Option (List ℕ)) (f : List ℕ → List ℕ) → IsSome spelling → None ≡ option_map f spelling → ⊥
+nothing (Some bytes) f some none = absurd (cc)
+nothing None f some none = absurd (cc)
+
+-- a word that isn't read has no spelling
+pub no_spelling : (word : List ℕ) → ((counts rest : List ℕ) → AreCounts counts → get_or rest 0 0 ≢ 0x2a → word ≡ starred counts rest → None ≡ option_map (repeat (times_in counts)) (word_bytes rest)) → ¬ IsSpelling word
+no_spelling word none is = nothing (word_bytes is.1) (repeat (times_in is.0)) is.5 (none is.0 is.1 is.2 is.3 is.4)

@@ -1,8 +1,9 @@
 -- Words for bytes.
-use Rattle.std.specs.Prelude.{ℕ, ◌+◌, ◌*◌, ◌-◌, ◌/◌, ◌%◌, ◌^◌, ◌<◌, ◌==◌, Bool, true, not, ◌&&◌, nat_le, if◌then◌else◌, List, [], ◌∷◌, ◌++◌, Option, Some, None, option_map, All}
+use Rattle.std.specs.Prelude.{◌≡◌, ◌≢◌, ℕ, ◌+◌, ◌*◌, ◌-◌, ◌/◌, ◌%◌, ◌^◌, ◌<◌, ◌==◌, Bool, true, not, ◌&&◌, nat_le, if◌then◌else◌, List, [], ◌∷◌, ◌++◌, Option, Some, None, IsSome, option_map, All, slice_index}
 use Rattle.std.specs.Fmt.{decimal}
 use Rattle.std.specs.List.{AllByRecursion, flat_map}
 use Rattle.std.specs.Str.{bytes_eq}
+use Rattle.std.specs.Str.Parse.{IsNumeral, digits_value}
 use Rattle.lfs_model.specs.Listing.{hex_digit}
 use Rattle.lfs_script_lines.specs.declared.words.Part.{Part}
 use Rattle.lfs_script_lines.specs.declared.words.Part.TheVariants.{Text, Backslash, Mark, Digit}
@@ -82,6 +83,16 @@ AreCounts counts = AllByRecursion (λ n. n < 2 ^ 32) counts
 abbrev pub times_in : List ℕ → ℕ
 times_in [] = 1
 times_in (n ∷ counts) = n * times_in counts
+
+-- a word that stands for bytes: counts, if any, and behind them a spelling of bytes
+abbrev pub IsSpelling : List ℕ → Type 0
+IsSpelling word = (counts : List ℕ) × (rest : List ℕ) × AreCounts counts × (slice_index rest 0 ≢ 0x2a) × (word ≡ starred counts rest) × IsSome (word_bytes rest)
+
+-- ---- numbers
+
+-- a word of digits in a base, without a sign, whose number is below a limit
+abbrev pub IsNumber : ℕ → ℕ → List ℕ → Type 0
+IsNumber base limit word = IsNumeral base word × (digits_value base word < limit)
 
 -- ---- lines
 

@@ -3,9 +3,13 @@
 
 mod answer;
 mod answer_text;
+mod arguments;
 mod command;
+mod line_text;
 mod lines;
+mod names;
 mod numbers;
+mod refusal;
 mod words;
 mod written;
 
@@ -13,5 +17,7 @@ pub use answer::{Answer, Calls, Difference};
 pub use answer_text::push_answer;
 pub use command::{Command, Operation, Scope};
 pub use lines::{LineError, read_line};
+pub use names::{CommandName, OperationName};
+pub use refusal::Refusal;
 pub use words::read_word;
 pub use written::push_word;

@@ -1,21 +1,24 @@
 // Lines that are commands.
 
-ghost use Rattle.std.specs.Prelude.{◌≡◌, IfOk, is_none, true};
+ghost use Rattle.std.specs.Prelude.{◌≡◌, ◌+◌, ◌<◌, ◌≤◌, IfErr, IfOk, MatchOption, OnOk, OnSome, is_none, length, true};
+ghost use Rattle.lfs_script_lines.specs.Lines.{HasCommand, IsCommandLine, IsNamed, IsRefused, IsWordFault, content_of, texts, words_of};
+ghost use Rattle.lfs_script_lines.specs.Names.{least_count, most_count, operation_count};
+ghost use Rattle.lfs_script_lines.specs.declared.names.CommandName.{CommandName};
 ghost use Rattle.lfs_script_lines.specs.Words.{is_silent};
 
+use crate::arguments::{byte, bytes, flags, no_options, number, word_at};
 use crate::command::{Command, Operation, Scope};
-use crate::numbers::{read_decimal, read_hex};
-use crate::words::read_word;
-use bitflags::Flags;
+use crate::line_text::{content_of, has_gap, words_of};
+use crate::names::{CommandName, OperationName, command_of_word, least_count, most_count};
+use crate::refusal::Refusal;
 use lfs_device::{Erased, Extent, Fault, NameOrder, Which};
-use lfs_fs::OpenFlags;
 use std::alloc::{AllocError, AllocFailed, Global};
 
-/// The cause for which a line is no command.
+/// The cause for which there is no command of a line.
 #[derive(Clone, Copy, Debug, PartialEq, Eq)]
 pub enum LineError {
-    /// It isn't one of a script's commands, or has other words than that command.
-    Words,
+    /// The line is no command, for this reason.
+    Refused(Refusal),
     /// A growth was refused.
     NoMemory,
 }
@@ -42,91 +45,86 @@ impl<T: Drop> From<AllocFailed<T>> for LineError {
     }
 }
 
-fn bytes(alloc: Global, word: &[u8]) -> Result<Vec<u8>, LineError> {
-    read_word(alloc, word)?.ok_or(LineError::Words)
-}
-
-fn number(word: &[u8]) -> Result<u32, LineError> {
-    read_decimal(word).ok_or(LineError::Words)
-}
-
-fn flags(word: &[u8]) -> Result<OpenFlags, LineError> {
-    match read_hex(word) {
-        Some(bits) => Ok(OpenFlags::from_bits_retain(bits)),
-        None => Err(LineError::Words),
-    }
-}
-
-fn hex_byte(word: &[u8]) -> Result<u8, LineError> {
-    match read_hex(word) {
-        Some(value) if value < 256 => Ok(value as u8),
-        _ => Err(LineError::Words),
-    }
-}
-
-// Returns the command of a line that is one word.
-fn bare_command(name: &[u8]) -> Result<Command, LineError> {
+// Returns the operation of a line. It has as many words as the operation takes.
+fn operation_of(alloc: Global, name: OperationName, words: &[&[u8]]) -> Result<Operation, LineError>
+    requires { operation_count name < length words.now }
+    ensures { IfErr result (IsWordFault (texts words.now)) }
+{
     let operation = match name {
-        b"unmount" => return Ok(Command::Unmount),
-        b"mount" => return Ok(Command::Mount(NO_FAULT)),
-        b"calls" => return Ok(Command::Calls),
-        b"compare" => return Ok(Command::Compare(Scope::Whole)),
-        b"gstate" => Operation::Gstate,
-        b"used-count" => Operation::UsedCount,
-        b"recover" => Operation::Recover,
-        b"remount" => Operation::Remount,
-        _ => return Err(LineError::Words),
+        OperationName::Open => Operation::Open(bytes(alloc, words, 1)?, flags(words, 2)?),
+        OperationName::Read => Operation::Read(number(words, 1)?, number(words, 2)?),
+        OperationName::Write => Operation::Write(number(words, 1)?, bytes(alloc, words, 2)?),
+        OperationName::Seek => Operation::Seek(number(words, 1)?, number(words, 2)?),
+        OperationName::Truncate => Operation::Truncate(number(words, 1)?, number(words, 2)?),
+        OperationName::Sync => Operation::Sync(number(words, 1)?),
+        OperationName::Close => Operation::Close(number(words, 1)?),
+        OperationName::Mkdir => Operation::Mkdir(bytes(alloc, words, 1)?),
+        OperationName::Remove => Operation::Remove(bytes(alloc, words, 1)?),
+        OperationName::Rename => {
+            Operation::Rename(bytes(alloc, words, 1)?, bytes(alloc, words, 2)?)
+        }
+        OperationName::List => Operation::List(bytes(alloc, words, 1)?),
+        OperationName::Stat => Operation::Stat(bytes(alloc, words, 1)?),
+        OperationName::GetAttr => Operation::GetAttr(bytes(alloc, words, 1)?, byte(words, 2)?),
+        OperationName::SetAttr => {
+            let path = bytes(alloc, words, 1)?;
+            Operation::SetAttr(path, byte(words, 2)?, bytes(alloc, words, 3)?)
+        }
+        OperationName::RemoveAttr => {
+            Operation::RemoveAttr(bytes(alloc, words, 1)?, byte(words, 2)?)
+        }
+        OperationName::Gstate => Operation::Gstate,
+        OperationName::IsUsed => Operation::IsUsed(number(words, 1)?),
+        OperationName::UsedCount => Operation::UsedCount,
+        OperationName::Recover => Operation::Recover,
+        OperationName::Remount => Operation::Remount,
     };
-    Ok(Command::Perform(operation))
+    Ok(operation)
 }
 
-// Returns how much of two sessions is compared, by the word for it.
-fn scope(word: &[u8]) -> Result<Scope, LineError> {
-    match word {
+// Returns how much of two sessions is compared.
+fn scope(words: &[&[u8]]) -> Result<Scope, LineError>
+    ensures { IfErr result (IsWordFault (texts words.now)) }
+{
+    if words.len() < 2 {
+        return Ok(Scope::Whole);
+    }
+    match word_at(words, 1) {
         b"entries" => Ok(Scope::Entries),
-        kind => Ok(Scope::Kind(hex_byte(kind)?)),
+        _ => Ok(Scope::Kind(byte(words, 1)?)),
     }
 }
 
-// Returns the command of a line with one word after its name.
-fn command_on(alloc: Global, name: &[u8], word: &[u8]) -> Result<Command, LineError> {
-    let operation = match name {
-        b"save" => return Ok(Command::Save(bytes(alloc, word)?)),
-        b"compare" => return Ok(Command::Compare(scope(word)?)),
-        b"compare-with" => return Ok(Command::CompareWith(bytes(alloc, word)?)),
-        b"sync" => Operation::Sync(number(word)?),
-        b"close" => Operation::Close(number(word)?),
-        b"mkdir" => Operation::Mkdir(bytes(alloc, word)?),
-        b"remove" => Operation::Remove(bytes(alloc, word)?),
-        b"list" => Operation::List(bytes(alloc, word)?),
-        b"stat" => Operation::Stat(bytes(alloc, word)?),
-        b"is-used" => Operation::IsUsed(number(word)?),
-        _ => return Err(LineError::Words),
-    };
-    Ok(Command::Perform(operation))
-}
-
-// Returns the operation of a line with two words after its name.
-fn operation_on(
-    alloc: Global,
-    name: &[u8],
-    first: &[u8],
-    second: &[u8],
-) -> Result<Operation, LineError> {
-    match name {
-        b"open" => Ok(Operation::Open(bytes(alloc, first)?, flags(second)?)),
-        b"read" => Ok(Operation::Read(number(first)?, number(second)?)),
-        b"write" => Ok(Operation::Write(number(first)?, bytes(alloc, second)?)),
-        b"seek" => Ok(Operation::Seek(number(first)?, number(second)?)),
-        b"truncate" => Ok(Operation::Truncate(number(first)?, number(second)?)),
-        b"rename" => Ok(Operation::Rename(bytes(alloc, first)?, bytes(alloc, second)?)),
-        b"get-attr" => Ok(Operation::GetAttr(bytes(alloc, first)?, hex_byte(second)?)),
-        b"remove-attr" => Ok(Operation::RemoveAttr(bytes(alloc, first)?, hex_byte(second)?)),
-        _ => Err(LineError::Words),
+// Returns the kind of the calls of which one fails.
+fn which(words: &[&[u8]]) -> Result<Which, LineError>
+    requires { 1 < length words.now }
+    ensures { IfErr result (IsWordFault (texts words.now)) }
+{
+    match word_at(words, 1) {
+        b"any" => Ok(Which::Any),
+        b"read" => Ok(Which::Read),
+        b"program" => Ok(Which::Program),
+        b"erase" => Ok(Which::Erase),
+        _ => Err(no_options(words, 1)),
     }
 }
 
-// Returns a device none of whose calls fails.
+// Returns what a failing call leaves, by the words from a place on.
+fn extent(words: &[&[u8]], place: usize) -> Result<Extent, LineError>
+    requires { place ≤ length words.now }
+    ensures { IfErr result (IsWordFault (texts words.now)) }
+{
+    if place == words.len() {
+        return Ok(Extent::Nothing);
+    }
+    match (word_at(words, place), words.len() - place) {
+        (b"whole", 1) => Ok(Extent::Whole),
+        (b"torn", 2) => Ok(Extent::FirstBytes(number(words, place + 1)?)),
+        _ => Err(no_options(words, place)),
+    }
+}
+
+// A device none of whose calls fails.
 const NO_FAULT: Fault = Fault {
     which: Which::Any,
     nth: 0,
@@ -134,124 +132,189 @@ const NO_FAULT: Fault = Fault {
     extent: Extent::Nothing,
 };
 
-fn which(word: &[u8]) -> Result<Which, LineError> {
-    match word {
-        b"any" => Ok(Which::Any),
-        b"read" => Ok(Which::Read),
-        b"program" => Ok(Which::Program),
-        b"erase" => Ok(Which::Erase),
-        _ => Err(LineError::Words),
+// Returns at which call a device fails.
+fn fault(words: &[&[u8]]) -> Result<Fault, LineError>
+    ensures { IfErr result (IsWordFault (texts words.now)) }
+{
+    if words.len() < 2 {
+        return Ok(NO_FAULT);
     }
-}
-
-// Returns what a failing call leaves, by the words for it.
-fn extent(words: &[&[u8]]) -> Result<Extent, LineError> {
-    match words {
-        [] => Ok(Extent::Nothing),
-        [b"whole"] => Ok(Extent::Whole),
-        [b"torn", count] => Ok(Extent::FirstBytes(number(count)?)),
-        _ => Err(LineError::Words),
+    let which = which(words)?;
+    if words.len() < 3 {
+        return Err(no_options(words, 1));
     }
-}
-
-// Returns at which call a device fails, by the words for it.
-fn fault(words: &[&[u8]]) -> Result<Fault, LineError> {
-    let [kind, nth, rest @ ..] = words else {
-        return Err(LineError::Words);
-    };
-    let (stops, rest) = match rest {
-        [b"stop", rest @ ..] => (true, rest),
-        _ => (false, rest),
-    };
+    let nth = u64::from(number(words, 2)?);
+    let stops = words.len() > 3 && words[3] == b"stop".as_slice();
+    let extent = extent(words, if stops { 4 } else { 3 })?;
     Ok(Fault {
-        which: which(kind)?,
-        nth: u64::from(number(nth)?),
+        which,
+        nth,
         stops,
-        extent: extent(rest)?,
+        extent,
     })
 }
 
-// Returns what a device's erases leave, by the words for it.
-fn erased(words: &[&[u8]]) -> Result<Erased, LineError> {
-    match words {
-        [] => Ok(Erased::Fill(0xff)),
-        [b"keep"] => Ok(Erased::Keep),
-        [b"fill", byte] => Ok(Erased::Fill(hex_byte(byte)?)),
-        _ => Err(LineError::Words),
+// Returns what a device's erases leave, by the words from a place on.
+fn erased(words: &[&[u8]], place: usize) -> Result<Erased, LineError>
+    requires { place ≤ length words.now }
+    ensures { IfErr result (IsWordFault (texts words.now)) }
+{
+    if place == words.len() {
+        return Ok(Erased::Fill(0xff));
+    }
+    match (word_at(words, place), words.len() - place) {
+        (b"keep", 1) => Ok(Erased::Keep),
+        (b"fill", 2) => Ok(Erased::Fill(byte(words, place + 1)?)),
+        _ => Err(no_options(words, place)),
     }
 }
 
-// Returns a blank device, by the words for it. Without a word for the order the longer names come
-// first.
-fn fresh(words: &[&[u8]]) -> Result<Command, LineError> {
-    let [block_size, page, block_count, rest @ ..] = words else {
-        return Err(LineError::Words);
-    };
-    let (order, rest) = match rest {
-        [b"shorter-first", rest @ ..] => (NameOrder::ShorterFirst, rest),
-        [b"longer-first", rest @ ..] => (NameOrder::LongerFirst, rest),
-        _ => (NameOrder::LongerFirst, rest),
-    };
+// Returns the order of names that the word at a place gives, if it gives one.
+fn order(words: &[&[u8]], place: usize) -> Option<NameOrder>
+    ensures { OnSome result (place < length words.now) }
+{
+    if place >= words.len() {
+        return None;
+    }
+    match word_at(words, place) {
+        b"longer-first" => Some(NameOrder::LongerFirst),
+        b"shorter-first" => Some(NameOrder::ShorterFirst),
+        _ => None,
+    }
+}
+
+// Returns a blank device. Without a word for the order the longer names come first.
+fn fresh(words: &[&[u8]]) -> Result<Command, LineError>
+    requires { 3 < length words.now }
+    ensures { IfErr result (IsWordFault (texts words.now)) }
+{
+    let order = order(words, 4);
+    let options = if order.is_some() { 5 } else { 4 };
     Ok(Command::Fresh {
-        block_size: number(block_size)?,
-        page: number(page)?,
-        block_count: number(block_count)?,
-        order,
-        erased: erased(rest)?,
+        block_size: number(words, 1)?,
+        page: number(words, 2)?,
+        block_count: number(words, 3)?,
+        order: order.unwrap_or(NameOrder::LongerFirst),
+        erased: erased(words, options)?,
     })
 }
 
-// Returns the command of a line with several words after its name.
-fn long_command(alloc: Global, name: &[u8], words: &[&[u8]]) -> Result<Command, LineError> {
-    match (name, words) {
-        (b"mount", _) => Ok(Command::Mount(fault(words)?)),
-        (b"fresh", _) => fresh(words),
-        (b"image", [block_size, page, file, rest @ ..]) => Ok(Command::Image {
-            block_size: number(block_size)?,
-            page: number(page)?,
-            file: bytes(alloc, file)?,
-            erased: erased(rest)?,
-        }),
-        (b"set-attr", [path, kind, attribute]) => Ok(Command::Perform(Operation::SetAttr(
-            bytes(alloc, path)?,
-            hex_byte(kind)?,
-            bytes(alloc, attribute)?,
-        ))),
-        (_, [first, second]) => Ok(Command::Perform(operation_on(alloc, name, first, second)?)),
-        _ => Err(LineError::Words),
-    }
+// Returns a device with the bytes of a file.
+fn image(alloc: Global, words: &[&[u8]]) -> Result<Command, LineError>
+    requires { 3 < length words.now }
+    ensures { IfErr result (IsWordFault (texts words.now)) }
+{
+    Ok(Command::Image {
+        block_size: number(words, 1)?,
+        page: number(words, 2)?,
+        file: bytes(alloc, words, 3)?,
+        erased: erased(words, 4)?,
+    })
 }
 
-// Returns the words of a line.
-fn words_of<'a>(alloc: Global, line: &'a [u8]) -> Result<Vec<&'a [u8]>, LineError> {
-    let mut words = Vec::new(alloc);
-    for word in line.split(|byte| *byte == b' ') {
-        if word.is_empty() {
-            return Err(LineError::Words);
-        }
-        words.push(word)?;
+// Returns the command of that name. The line has as many words as the command takes.
+fn command_named(alloc: Global, name: CommandName, words: &[&[u8]]) -> Result<Command, LineError>
+    requires { least_count name < length words.now }
+    ensures { IfErr result (IsWordFault (texts words.now)) }
+{
+    let command = match name {
+        CommandName::Fresh => fresh(words)?,
+        CommandName::Image => image(alloc, words)?,
+        CommandName::Unmount => Command::Unmount,
+        CommandName::Mount => Command::Mount(fault(words)?),
+        CommandName::Save => Command::Save(bytes(alloc, words, 1)?),
+        CommandName::Calls => Command::Calls,
+        CommandName::Compare => Command::Compare(scope(words)?),
+        CommandName::CompareWith => Command::CompareWith(bytes(alloc, words, 1)?),
+        CommandName::Perform(operation) => Command::Perform(operation_of(alloc, operation, words)?),
+    };
+    Ok(command)
+}
+
+// Returns the command that the first word names.
+fn name_in(words: &[&[u8]]) -> Option<CommandName>
+    requires { 0 < length words.now }
+    ensures { MatchOption result ((name : CommandName) → ¬ IsNamed (texts words.now) name) (IsNamed (texts words.now)) }
+{
+    let word = word_at(words, 0);
+    command_of_word(word)
+}
+
+// Refuses a line with too few or too many words behind its name.
+fn check_count(words: &[&[u8]], name: CommandName) -> Result<(), LineError>
+    requires { IsNamed (texts words.now) name }
+    ensures err { IfErr result (IsRefused (texts words.now)) }
+    ensures ok { OnOk result ((least_count name < length words.now) × (length words.now ≤ most_count name + 1)) }
+{
+    let count = words.len();
+    let least = least_count(name);
+    if count <= least {
+        return Err(LineError::Refused(Refusal::TooFew(name)));
     }
-    Ok(words)
+    let most = most_count(name);
+    let behind = count - 1;
+    if behind > most {
+        return Err(LineError::Refused(Refusal::TooMany(name)));
+    }
+    Ok(())
+}
+
+// Returns the name of a line's command, where it has as many words as the command takes.
+fn name_of(words: &[&[u8]]) -> Result<CommandName, LineError>
+    requires { 0 < length words.now }
+    ensures err { IfErr result (IsRefused (texts words.now)) }
+    ensures ok { IfOk result (IsCommandLine (texts words.now)) }
+{
+    if has_gap(words) {
+        return Err(LineError::Refused(Refusal::Spaces));
+    }
+    let Some(name) = name_in(words) else {
+        return Err(LineError::Refused(Refusal::Name));
+    };
+    check_count(words, name)?;
+    Ok(name)
+}
+
+// Returns the command of a line's words.
+fn command_of(alloc: Global, words: &[&[u8]]) -> Result<Command, LineError>
+    requires { 0 < length words.now }
+    ensures err { IfErr result (IsRefused (texts words.now)) }
+    ensures ok { OnOk result (HasCommand (texts words.now)) }
+{
+    let name = name_of(words)?;
+    let command = command_named(alloc, name, words)?;
+    Ok(command)
+}
+
+// Returns whether a text is empty or a comment.
+fn is_silent(text: &[u8]) -> bool
+    ensures { result ≡ is_silent text.now }
+{
+    text.is_empty() || text[0] == b'#'
 }
 
 /// Returns the command of a line. Returns None where the line is empty or begins with `#`.
 ///
+/// The line may be given with its newline, and with a CR before it. These and the spaces at both
+/// its ends don't count.
+///
 /// # Errors
-/// - `Words` where the line is no command of a script.
+/// - `Refused` where the line is no command of a script, with the reason.
 /// - `NoMemory` where its words or their bytes find no memory.
 pub fn read_line(alloc: Global, line: &[u8]) -> Result<Option<Command>, LineError>
-    ensures found { IfOk result (λ found. is_none found ≡ is_silent line.now) }
-    ensures silent { is_silent line.now ≡ true → result ≡ Ok None }
+    ensures found { IfOk result (λ found. is_none found ≡ is_silent (content_of line.now)) }
+    ensures silent { is_silent (content_of line.now) ≡ true → result ≡ Ok None }
+
+    // A command has one space between its words, its name first, and as many words as it takes.
+    ensures command { IfOk result (λ found. OnSome found (HasCommand (words_of (content_of line.now)))) }
+    // The reason says what the line lacks.
+    ensures refused { IfErr result (IsRefused (words_of (content_of line.now))) }
 {
-    if line.is_empty() || line[0] == b'#' {
+    let content = content_of(line);
+    if is_silent(content) {
         return Ok(None);
     }
-    let words = words_of(alloc, line)?;
-    let command = match words.as_slice() {
-        [] => return Err(LineError::Words),
-        [name] => bare_command(name)?,
-        [name, word] => command_on(alloc, name, word)?,
-        [name, rest @ ..] => long_command(alloc, name, rest)?,
-    };
+    let words = words_of(alloc, content)?;
+    let command = command_of(alloc, &words)?;
     Ok(Some(command))
 }

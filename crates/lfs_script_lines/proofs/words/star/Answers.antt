@@ -11,9 +11,9 @@ returns-in_err-end-clause-counted c n rest small is =
 pub returns-in_err-times-clause-counted : goal.returns-in_err-times-clause-counted
 returns-in_err-times-clause-counted c n rest small is =
     let parts = parted n c.in_ok-end.end c.args.behind.now rest small is c.in_ok-end.ensures in
-    absurd (never_both _ _ c.in_err-times.was (c.read_decimal.ensures n small parts.0))
+    absurd (never_both _ _ c.in_err-times.was (c.read_decimal.ensures.decimal n small parts.0))
 
 pub returns-clause-counted : goal.returns-clause-counted
 returns-clause-counted c n rest small is =
     let parts = parted n c.in_ok-end.end c.args.behind.now rest small is c.in_ok-end.ensures in
-    (same_value _ _ _ c.in_ok-times.was (c.read_decimal.ensures n small parts.0), parts.1)
+    (same_value _ _ _ c.in_ok-times.was (c.read_decimal.ensures.decimal n small parts.0), parts.1)

@@ -1,0 +1,78 @@
+// The words behind a command's name.
+
+ghost use Rattle.std.specs.Prelude.{◌≡◌, ◌<◌, ◌≤◌, IfErr, Some, length};
+ghost use Rattle.lfs_script_lines.specs.Lines.{IsWordFault, texts, word_at};
+
+use crate::lines::LineError;
+use crate::numbers::{read_decimal, read_hex};
+use crate::refusal::Refusal;
+use crate::words::read_word;
+use bitflags::Flags;
+use lfs_fs::OpenFlags;
+use std::alloc::Global;
+
+// Returns the word at a place.
+pub(crate) fn word_at<'a>(words: &[&'a [u8]], place: usize) -> &'a [u8]
+    requires { place < length words.now }
+    ensures { word_at (texts words.now) place ≡ Some result.now }
+{
+    words[place]
+}
+
+// Returns the refusal of a word that is no option.
+pub(crate) fn no_options(words: &[&[u8]], place: usize) -> LineError
+    requires { place < length words.now }
+    ensures { IsWordFault (texts words.now) result }
+{
+    let _word = word_at(words, place);
+    LineError::Refused(Refusal::Options(place))
+}
+
+// Returns the bytes of the word at a place.
+pub(crate) fn bytes(alloc: Global, words: &[&[u8]], place: usize) -> Result<Vec<u8>, LineError>
+    requires { place < length words.now }
+    ensures { IfErr result (IsWordFault (texts words.now)) }
+{
+    let found = read_word(alloc, word_at(words, place))?;
+    match found {
+        Some(bytes) => Ok(bytes),
+        None => Err(LineError::Refused(Refusal::Spelling(place))),
+    }
+}
+
+// Returns the decimal number at a place.
+pub(crate) fn number(words: &[&[u8]], place: usize) -> Result<u32, LineError>
+    requires { place < length words.now }
+    ensures { IfErr result (IsWordFault (texts words.now)) }
+{
+    match read_decimal(word_at(words, place)) {
+        Some(value) => Ok(value),
+        None => Err(LineError::Refused(Refusal::Number(place))),
+    }
+}
+
+// Returns the flags at a place, in hexadecimal.
+pub(crate) fn flags(words: &[&[u8]], place: usize) -> Result<OpenFlags, LineError>
+    requires { place < length words.now }
+    ensures { IfErr result (IsWordFault (texts words.now)) }
+{
+    match read_hex(word_at(words, place)) {
+        Some(bits) => Ok(OpenFlags::from_bits_retain(bits)),
+        None => Err(LineError::Refused(Refusal::Flags(place))),
+    }
+}
+
+// Returns the byte at a place, in hexadecimal.
+pub(crate) fn byte(words: &[&[u8]], place: usize) -> Result<u8, LineError>
+    requires { place < length words.now }
+    ensures { IfErr result (IsWordFault (texts words.now)) }
+{
+    let Some(value) = read_hex(word_at(words, place)) else {
+        return Err(LineError::Refused(Refusal::Byte(place)));
+    };
+    if value < 256 {
+        Ok(value as u8)
+    } else {
+        Err(LineError::Refused(Refusal::Byte(place)))
+    }
+}

@@ -1,0 +1,65 @@
+// Lines and their words.
+
+ghost use Rattle.std.specs.Prelude.{◌≡◌, ◌<◌, IfOk, length};
+ghost use Rattle.lfs_script_lines.specs.Lines.{content_of, has_gap, texts, without_end, without_spaces_behind, without_spaces_before, words_of};
+
+use std::alloc::{AllocError, Global};
+
+// Returns a text without this byte at its end.
+fn without_end(text: &[u8], end: u8) -> &[u8]
+    ensures { result.now ≡ without_end end text.now }
+{
+    match text.split_last() {
+        Some((last, rest)) if *last == end => rest,
+        _ => text,
+    }
+}
+
+// Returns a text without the spaces at its beginning.
+fn without_spaces_before(text: &[u8]) -> &[u8]
+    ensures { result.now ≡ without_spaces_before text.now }
+{
+    let mut rest = text;
+    while let Some((b' ', behind)) = rest.split_first() {
+        rest = behind;
+    }
+    rest
+}
+
+// Returns a text without the spaces at its end.
+fn without_spaces_behind(text: &[u8]) -> &[u8]
+    ensures { result.now ≡ without_spaces_behind text.now }
+{
+    let mut rest = text;
+    while let Some((last, before)) = rest.split_last() {
+        if *last != b' ' {
+            return rest;
+        }
+        rest = before;
+    }
+    rest
+}
+
+// Returns what counts of a line: it has no newline at its end, no CR before that, and no spaces
+// around it.
+pub(crate) fn content_of(line: &[u8]) -> &[u8]
+    ensures { result.now ≡ content_of line.now }
+{
+    let text = without_end(without_end(line, b'\n'), b'\r');
+    without_spaces_before(without_spaces_behind(text))
+}
+
+// Returns the words of a text, which stand between its spaces.
+pub(crate) fn words_of(alloc: Global, text: &[u8]) -> Result<Vec<&[u8]>, AllocError>
+    ensures words { IfOk result (λ words. texts words.items ≡ words_of text.now) }
+    ensures some { IfOk result (λ words. 0 < length words.items) }
+{
+    text.split(|byte| *byte == b' ').collect(alloc)
+}
+
+// Returns whether a word is empty, so that two spaces stand side by side.
+pub(crate) fn has_gap(words: &[&[u8]]) -> bool
+    ensures { result ≡ has_gap (texts words.now) }
+{
+    words.iter().any(|word| word.is_empty())
+}

@@ -1,0 +1,78 @@
+// The reasons for which lines are refused.
+
+use crate::names::CommandName;
+use std::fmt;
+
+/// The reason for which a line is no command. A place is that of a word: the command's name has 0.
+#[derive(Clone, Copy, Debug, PartialEq, Eq)]
+pub enum Refusal {
+    /// Two spaces stand side by side.
+    Spaces,
+    /// The first word is no command's name.
+    Name,
+    /// The command takes more words.
+    TooFew(CommandName),
+    /// The command takes fewer words.
+    TooMany(CommandName),
+    /// The word at this place isn't a decimal number below 2^32.
+    Number(usize),
+    /// The word at this place isn't a hexadecimal number below 2^32.
+    Flags(usize),
+    /// The word at this place isn't a hexadecimal number below 256.
+    Byte(usize),
+    /// The word at this place has no bytes.
+    Spelling(usize),
+    /// From this place on the words aren't options of the command.
+    Options(usize),
+}
+
+// Returns the number of the word at a place, from 1 on.
+fn number(place: usize) -> usize {
+    place.saturating_add(1)
+}
+
+impl fmt::Display for Refusal {
+    fn fmt<W: fmt::Write>(&self, f: &mut fmt::Formatter<W>) -> fmt::Result {
+        match self {
+            Refusal::Spaces => write!(f, "two spaces stand side by side"),
+            Refusal::Name => write!(f, "no command has this name (--help lists them)"),
+            Refusal::TooFew(name) => write!(f, "too few words: {}", name.usage()),
+            Refusal::TooMany(name) => write!(f, "too many words: {}", name.usage()),
+            Refusal::Number(place) => {
+                write!(
+                    f,
+                    "word {} is no decimal number up to 4294967295",
+                    number(*place)
+                )
+            }
+            Refusal::Flags(place) => {
+                write!(
+                    f,
+                    "word {} is no hexadecimal number up to ffffffff",
+                    number(*place)
+                )
+            }
+            Refusal::Byte(place) => {
+                write!(
+                    f,
+                    "word {} is no hexadecimal number up to ff",
+                    number(*place)
+                )
+            }
+            Refusal::Spelling(place) => {
+                write!(
+                    f,
+                    "word {} is not spelled as bytes are (--help says how)",
+                    number(*place)
+                )
+            }
+            Refusal::Options(place) => {
+                write!(
+                    f,
+                    "from word {} on there are no options of the command",
+                    number(*place)
+                )
+            }
+        }
+    }
+}

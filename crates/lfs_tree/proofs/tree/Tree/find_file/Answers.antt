@@ -3,8 +3,9 @@ use Rattle.std.specs.Prelude.{IfOk}
 use Rattle.lfs_model.specs.Frame.{parents}
 use Rattle.lfs_thread.specs.Kept.{State}
 use Rattle.lfs_lookup.specs.FileContents.{AreFoundAt}
+use Rattle.lfs_lookup.specs.Finds.{Finds}
 use Rattle.lfs_tree.specs.Reads.{ReadsOnce}
-use Rattle.lfs_tree.specs.TreeState.{TreeState, kept_of}
+use Rattle.lfs_tree.specs.TreeState.{TreeState, kept_of, tree_view}
 use Rattle.lfs_tree.proofs.Asking.{asking, held, rooted_held}
 use Rattle.lfs_tree.proofs.tree.Tree.find_file.Goals as goal
 
@@ -24,3 +25,7 @@ pub returns-clause-few : goal.returns-clause-few
 returns-clause-few g c =
     subst (λ (t : State). ReadsOnce (parents c.args.path.now) c.args.self.now t.kept.history) (sym c.note_error.ensures)
     (subst (λ (s : TreeState). ReadsOnce (parents c.args.path.now) s c.file_at-found.new.thread.kept.history) c.self.view_is (record { few = c.file_at-found.ensures.few; none = c.file_at-found.ensures.kept }))
+
+pub returns-clause-found : goal.returns-clause-found
+returns-clause-found g c =
+    subst (λ (s : TreeState). IfOk c.file_at-found.result (λ found. Finds (tree_view s) c.args.path.now found.finding)) c.self.view_is c.file_at-found.ensures.found

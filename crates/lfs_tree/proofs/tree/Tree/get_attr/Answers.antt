@@ -1,7 +1,9 @@
 use Rattle.std.proofs.Common.{ap, subst, sym}
+use Rattle.std.specs.Prelude.{IfOk}
 use Rattle.lfs_model.specs.TreeEdits.{attributes_of}
 use Rattle.lfs_model.specs.Shown.{tree_in}
 use Rattle.lfs_model.specs.Frame.{parents}
+use Rattle.lfs_lookup.specs.Finds.{Finds}
 use Rattle.lfs_tree.specs.Reads.{ReadsOnce}
 use Rattle.lfs_tree.specs.TreeState.{TreeState, tree_view}
 use Rattle.lfs_thread.specs.Kept.{State}
@@ -29,3 +31,7 @@ pub returns-clause-few : goal.returns-clause-few
 returns-clause-few g c =
     subst (λ (t : State). ReadsOnce (parents c.args.path.now) c.args.self.now t.kept.history) (sym c.note_error.ensures)
     (subst (λ (s : TreeState). ReadsOnce (parents c.args.path.now) s c.attribute_at-found.new.thread.kept.history) c.self.view_is (record { few = c.attribute_at-found.ensures.few; none = c.attribute_at-found.ensures.kept }))
+
+pub returns-clause-found : goal.returns-clause-found
+returns-clause-found g c =
+    subst (λ (s : TreeState). IfOk c.attribute_at-found.result (λ found. Finds (tree_view s) c.args.path.now found.finding)) c.self.view_is c.attribute_at-found.ensures.found

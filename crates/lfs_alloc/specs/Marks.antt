@@ -7,10 +7,10 @@ use Rattle.lfs_alloc.specs.declared.marks.Marks.{Marks}
 use Rattle.lfs_alloc.specs.declared.marks.State.{State}
 use Rattle.lfs_alloc.specs.declared.marks.State.TheVariants as state
 
-abbrev pub shown : State → BlockState
-shown state.Free = Free
-shown state.InFlight = InFlight
-shown state.Used = Used
+abbrev pub block_state_view : State → BlockState
+block_state_view state.Free = Free
+block_state_view state.InFlight = InFlight
+block_state_view state.Used = Used
 
 -- the state of the block at a place
 abbrev pub state_in : Marks → ℕ → BlockState

@@ -2,7 +2,7 @@ ghost use Rattle.std.specs.Prelude.{◌≡◌, ◌≤◌, ◌<◌, ◌↔◌, �
 ghost use Rattle.std.specs.Bool.{OnFalse, OnTrue};
 ghost use Rattle.lfs_model.specs.BlockSets.{IsFree, IsInFlight, IsUsed, used_count};
 ghost use Rattle.lfs_model.specs.BlockSets.BlockState.{Free, InFlight, Used};
-ghost use Rattle.lfs_alloc.specs.Marks.{shown};
+ghost use Rattle.lfs_alloc.specs.Marks.{block_state_view};
 ghost use Rattle.lfs_alloc.specs.Next.{IsNextFree};
 
 use crate::marks::{Marks, State};
@@ -161,14 +161,14 @@ impl BlockMap {
 
     fn state(&self, block: u32) -> State
         requires { block < length self.now }
-        ensures { slice_get self.now block ≡ Some (shown result) }
+        ensures { slice_get self.now block ≡ Some (block_state_view result) }
     {
         self.marks[block as usize / 64].state(block % 64)
     }
 
     fn set(&mut self, block: u32, state: State)
         requires { block < length self.old }
-        ensures { self.new ≡ slice_set self.old block (shown state) }
+        ensures { self.new ≡ slice_set self.old block (block_state_view state) }
     {
         let marks = &mut self.marks[block as usize / 64];
         let was = marks.state(block % 64);

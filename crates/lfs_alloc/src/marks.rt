@@ -3,7 +3,7 @@
 ghost use Rattle.std.specs.Prelude.{◌≡◌, ◌≢◌, ℕ, ◌<◌, ◌≤◌, IfNone, IfSome};
 ghost use Rattle.lfs_model.specs.BlockSets.{is_in_flight, is_used};
 ghost use Rattle.lfs_model.specs.BlockSets.BlockState.{Free};
-ghost use Rattle.lfs_alloc.specs.Marks.{shown, state_in};
+ghost use Rattle.lfs_alloc.specs.Marks.{block_state_view, state_in};
 
 /// The state of a block in the map.
 #[derive(Clone, Copy, PartialEq, Eq)]
@@ -15,13 +15,13 @@ pub enum State {
 
 impl State {
     pub fn is_used(self) -> bool
-        ensures { result ≡ is_used (shown self) }
+        ensures { result ≡ is_used (block_state_view self) }
     {
         matches!(self, State::Used)
     }
 
     pub fn is_in_flight(self) -> bool
-        ensures { result ≡ is_in_flight (shown self) }
+        ensures { result ≡ is_in_flight (block_state_view self) }
     {
         matches!(self, State::InFlight)
     }
@@ -47,7 +47,7 @@ impl Marks {
 
     pub fn state(self, place: u32) -> State
         requires { place < 64 }
-        ensures { shown result ≡ state_in self place }
+        ensures { block_state_view result ≡ state_in self place }
     {
         let bit = 1u64 << place;
         if self.used & bit != 0 {
@@ -62,7 +62,7 @@ impl Marks {
     /// Returns the same marks with one block in another state.
     pub fn with(self, place: u32, state: State) -> Marks
         requires { place < 64 }
-        ensures here { state_in result place ≡ shown state }
+        ensures here { state_in result place ≡ block_state_view state }
         ensures others { (other : ℕ) → other < 64 → other ≢ place → state_in result other ≡ state_in self other }
     {
         let bit = 1u64 << place;

@@ -1,12 +1,12 @@
 // Files and directories that the rows beside littlefs's own code are about.
 
-use crate::watched::Watched;
+use crate::counting_device::CountingDevice;
 use lfs_device::{Error, RamDevice};
 use lfs_fs::{OpenFlags, Session};
 use std::alloc::Global;
 
 /// The file system that the rows work on.
-pub type Measured = Session<Watched<RamDevice>>;
+pub type Measured = Session<CountingDevice<RamDevice>>;
 
 /// Returns the error in place of one that only says that memory isn't there.
 pub fn lacks<T: Drop>(_: T) -> Error {

@@ -5,13 +5,13 @@
 //! how many operations are made.
 #![tactic(auto)]
 
-mod against_c;
+mod c_rows;
 mod checksum;
 mod contents;
+mod counting_device;
 mod files;
 mod list_reads;
 mod look_ups;
-mod watched;
 mod wear;
 mod writes;
 
@@ -40,7 +40,7 @@ fn show_row(rt: &HostRuntime, words: &[String]) -> io::Result<()> {
     let Some(row) = words.get(2) else {
         return eprintln!(rt; "row NAME BLOCKS COUNT");
     };
-    against_c::show(
+    c_rows::show(
         rt,
         row.as_str(),
         number_or(words, 3, 0),

@@ -1,6 +1,6 @@
 // A benchmark of a file that is written in pieces of 4 KiB, over a session on a device in memory.
 
-use crate::watched::{Counts, Watched};
+use crate::counting_device::{CountingDevice, Counts};
 use lfs_ctz::blocks_for;
 use lfs_device::{Error, Geometry, RamDevice};
 use lfs_fs::{OpenFlags, Session, format};
@@ -12,7 +12,7 @@ const BLOCK: u32 = 4096;
 
 const PIECE: u32 = 4096;
 
-type Writing = Session<Watched<RamDevice>>;
+type Writing = Session<CountingDevice<RamDevice>>;
 
 // Returns the piece that is written again and again.
 fn piece() -> [u8; PIECE as usize] {
@@ -26,10 +26,13 @@ fn piece() -> [u8; PIECE as usize] {
 }
 
 // Makes a session over an empty file system with room for `pieces` pieces, and opens a new file.
-fn begun(alloc: Global, pieces: u32) -> Result<(Writing, u32), Error> {
+fn open_new_file(alloc: Global, pieces: u32) -> Result<(Writing, u32), Error> {
     let blocks = pieces.saturating_add(pieces / 64).saturating_add(16);
     let device = RamDevice::blank(alloc, Geometry::new(BLOCK, 256, blocks)?)?;
-    let mut session = format(alloc, Watched::new(alloc, device)).map_err(|(_, error)| error)?;
+    let mut session = format(alloc, CountingDevice::new(alloc, device)).map_err(|(
+        _,
+        error,
+    )| error)?;
     let fd = session.open(alloc, b"/file", OpenFlags::WRITE | OpenFlags::CREATE)?;
     Ok((session, fd))
 }
@@ -70,8 +73,8 @@ fn show_counts(rt: &HostRuntime, pieces: u32, counts: Counts) -> io::Result<()> 
 /// writing and closing took, and whether it is read as it was written. On standard error it prints
 /// the nanoseconds (bench/writes.py judges them).
 pub fn show(rt: &HostRuntime, pieces: u32) -> io::Result<()> {
-    let (mut session, fd) = match begun(rt.alloc(), pieces) {
-        Ok(begun) => begun,
+    let (mut session, fd) = match open_new_file(rt.alloc(), pieces) {
+        Ok(open_new_file) => open_new_file,
         Err(error) => return println!(rt; "{error:?}"),
     };
     let before = session.device().counts();

@@ -36,7 +36,7 @@ fn carry_out<D: BlockDevice>(
 
 // What the last step answers where one read fails, how many reads there were, and the first byte of
 // each cached block.
-fn played(
+fn play(
     alloc: Global,
     nth: u64,
     steps: &[Step],
@@ -113,7 +113,7 @@ fn blocks_are_kept(rt: HostRuntime) -> Result<(), Fail> {
         (2, &FAILED_AND_AT_HAND, Ok(0), 2, &[7]),
         (2, &FAILED_AND_FILLED, Ok(0), 3, &[7, 8]),
     ] {
-        let found = played(rt.alloc(), nth, steps)?;
+        let found = play(rt.alloc(), nth, steps)?;
         assert_eq!(rt;
             (found.0, found.1, found.2.as_slice()),
             (answer, reads, cached_log)

@@ -3,7 +3,7 @@
 ghost use Rattle.std.specs.Prelude.{◌≡◌, ◌≤◌, ◌<◌, ◌+◌, ◌*◌, ◌^◌, true, max, length, IfOk};
 ghost use Rattle.lfs_model.specs.BlockSets.{used_count};
 ghost use Rattle.lfs_model.specs.SkipLists.{blocks_for};
-ghost use Rattle.lfs_writer.specs.Contents.{IsLarge, Stands, form_of};
+ghost use Rattle.lfs_writer.specs.Contents.{IsLarge, AreOnDisk, form_of};
 ghost use Rattle.lfs_writer.specs.Form.{form_size};
 
 use crate::plain::content;
@@ -24,7 +24,7 @@ pub enum Call {
 
 /// No bytes, and a map of blocks that are all free.
 pub fn start<D: BlockDevice>(alloc: Global, dev: &D) -> Result<(BlockMap, Contents), Error>
-    ensures stands { IfOk result (λ r. Stands r.0 (D.blocks dev.now) (D.geometry dev.now) r.1) }
+    ensures stands { IfOk result (λ r. AreOnDisk r.0 (D.blocks dev.now) (D.geometry dev.now) r.1) }
 {
     let geometry = dev.geometry();
     let mut map = BlockMap::new(alloc, geometry.block_count)?;
@@ -35,7 +35,7 @@ pub fn start<D: BlockDevice>(alloc: Global, dev: &D) -> Result<(BlockMap, Conten
 
 // How many bytes the contents have.
 fn length<D: BlockDevice>(dev: &D, map: &BlockMap, contents: &Contents) -> u32
-    requires { Stands map.now (D.blocks dev.now) (D.geometry dev.now) contents.now }
+    requires { AreOnDisk map.now (D.blocks dev.now) (D.geometry dev.now) contents.now }
     ensures { result ≡ form_size (form_of contents.now) }
 {
     match contents {
@@ -47,7 +47,7 @@ fn length<D: BlockDevice>(dev: &D, map: &BlockMap, contents: &Contents) -> u32
 
 // Whether contents in a list that are in flight are past the limit, and those in memory are not.
 fn is_large<D: BlockDevice>(dev: &D, map: &BlockMap, contents: &Contents) -> bool
-    requires { Stands map.now (D.blocks dev.now) (D.geometry dev.now) contents.now }
+    requires { AreOnDisk map.now (D.blocks dev.now) (D.geometry dev.now) contents.now }
     ensures { result ≡ true → IsLarge 128 (form_of contents.now) }
 {
     match contents {
@@ -75,8 +75,8 @@ fn write<D: BlockDevice>(
     place: u32,
     bytes: &[u8],
 ) -> Result<Contents, Error>
-    requires stands { Stands map.old (D.blocks dev.old) (D.geometry dev.old) contents }
-    ensures stands { IfOk result (λ c. Stands map.new (D.blocks dev.new) (D.geometry dev.new) c) }
+    requires stands { AreOnDisk map.old (D.blocks dev.old) (D.geometry dev.old) contents }
+    ensures stands { IfOk result (λ c. AreOnDisk map.new (D.blocks dev.new) (D.geometry dev.new) c) }
 {
     if bytes.is_empty() || bytes.len() > 65536 || place > 65536 {
         return Err(Error::Invalid);
@@ -97,8 +97,8 @@ fn truncate<D: BlockDevice>(
     contents: Contents,
     size: u32,
 ) -> Result<Contents, Error>
-    requires stands { Stands map.old (D.blocks dev.old) (D.geometry dev.old) contents }
-    ensures stands { IfOk result (λ c. Stands map.new (D.blocks dev.new) (D.geometry dev.new) c) }
+    requires stands { AreOnDisk map.old (D.blocks dev.old) (D.geometry dev.old) contents }
+    ensures stands { IfOk result (λ c. AreOnDisk map.new (D.blocks dev.new) (D.geometry dev.new) c) }
 {
     let most = length(dev, map, &contents).max(size);
     if size > 65536 || !is_large(dev, map, &contents) || !has_room(dev, map, most) {
@@ -116,8 +116,8 @@ pub fn carry_out<D: BlockDevice>(
     contents: Contents,
     call: Call,
 ) -> Result<Contents, Error>
-    requires stands { Stands map.old (D.blocks dev.old) (D.geometry dev.old) contents }
-    ensures stands { IfOk result (λ c. Stands map.new (D.blocks dev.new) (D.geometry dev.new) c) }
+    requires stands { AreOnDisk map.old (D.blocks dev.old) (D.geometry dev.old) contents }
+    ensures stands { IfOk result (λ c. AreOnDisk map.new (D.blocks dev.new) (D.geometry dev.new) c) }
 {
     match call {
         Call::Write(place, count) => {
@@ -135,8 +135,8 @@ pub fn end<D: BlockDevice>(
     map: &mut BlockMap,
     contents: Contents,
 ) -> Result<Contents, Error>
-    requires stands { Stands map.old (D.blocks dev.old) (D.geometry dev.old) contents }
-    ensures stands { IfOk result (λ c. Stands map.new (D.blocks dev.new) (D.geometry dev.new) c) }
+    requires stands { AreOnDisk map.old (D.blocks dev.old) (D.geometry dev.old) contents }
+    ensures stands { IfOk result (λ c. AreOnDisk map.new (D.blocks dev.new) (D.geometry dev.new) c) }
 {
     let most = length(dev, map, &contents);
     if !has_room(dev, map, most) {
@@ -152,7 +152,7 @@ pub fn settle<D: BlockDevice>(
     map: &mut BlockMap,
     contents: &Contents,
 ) -> Result<(), Error>
-    requires { Stands map.old (D.blocks dev.old) (D.geometry dev.old) contents.now }
+    requires { AreOnDisk map.old (D.blocks dev.old) (D.geometry dev.old) contents.now }
 {
     let before = Stored {
         head: 0,
@@ -173,7 +173,7 @@ pub fn read<D: BlockDevice>(
     map: &BlockMap,
     contents: &Contents,
 ) -> Result<Vec<u8>, Error>
-    requires { Stands map.now (D.blocks dev.old) (D.geometry dev.old) contents.now }
+    requires { AreOnDisk map.now (D.blocks dev.old) (D.geometry dev.old) contents.now }
 {
     match contents {
         Contents::InMemory(list) => Ok(Vec::from_slice(alloc, list.held())?),

@@ -23,7 +23,7 @@ pub fn device(alloc: Global) -> Result<RamDevice, Error> {
 }
 
 /// An erased device of 24 blocks of 1,024 bytes, with pages of 128.
-pub fn erased(alloc: Global) -> Result<RamDevice, Error> {
+pub fn erased_device(alloc: Global) -> Result<RamDevice, Error> {
     RamDevice::blank(alloc, Geometry::new(1024, 128, 24)?)
 }
 

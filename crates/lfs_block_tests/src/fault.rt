@@ -3,7 +3,7 @@ use lfs_device::{BlockDevice, Error, Extent, Which};
 use std::test::Fail;
 
 // Whether each of three rewrites of a block succeeds.
-fn rewritten<D: BlockDevice>(device: &mut D) -> [Result<(), Error>; 3] {
+fn rewrites_succeed<D: BlockDevice>(device: &mut D) -> [Result<(), Error>; 3] {
     [
         rewrite(device, 1, &[5; 64]),
         rewrite(device, 1, &[5; 64]),
@@ -122,7 +122,7 @@ fn the_nth_call_fails(rt: HostRuntime) -> Result<(), Fail> {
         (Which::Program, 1, true, Extent::Whole, [IO, IO, IO], 4, 64),
     ] {
         let mut device = faulty(rt.alloc(), which, nth, stops, extent)?;
-        let found = rewritten(&mut device);
+        let found = rewrites_succeed(&mut device);
         assert_eq!(rt; (found, device.calls(Which::Any)), (answers, calls));
         let expected = runs(
             rt.alloc(),

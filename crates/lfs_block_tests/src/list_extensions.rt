@@ -1,5 +1,5 @@
 use crate::hand_made_list::image;
-use crate::lists::{List, blank, changed, content, extend, holds, write};
+use crate::lists::{List, blank, changed_blocks, content, extend, holds, write};
 use lfs_device::{BlockDevice, Error, RamDevice};
 use std::alloc::Global;
 use std::test::Fail;
@@ -22,7 +22,7 @@ fn a_list_is_written(rt: HostRuntime) -> Result<(), Fail> {
 // blocks that changed, and whether each of the two lists holds its bytes.
 type Extended = (List, Option<(usize, usize)>, bool, bool);
 
-fn extended(
+fn extend_list(
     alloc: Global,
     device: &mut RamDevice,
     keep: u32,
@@ -34,13 +34,13 @@ fn extended(
     let list = write(alloc, device, 5, &bytes, 100)?;
     let was = Vec::from_slice(alloc, device.bytes())?;
     let longer = extend(alloc, device, list, keep, &more, step)?;
-    let changed = changed(&was, device.bytes());
+    let changed_blocks = changed_blocks(&was, device.bytes());
     let old_holds = holds(alloc, device, list, &bytes)?;
     let mut all = bytes;
     all.truncate(keep as usize);
     all.extend_from_slice(&more)?;
     let new_holds = holds(alloc, device, longer, &all)?;
-    Ok((longer, changed, old_holds, new_holds))
+    Ok((longer, changed_blocks, old_holds, new_holds))
 }
 
 // The new blocks point to kept ones. Byte 1,015 of those that came is 1,015 modulo 251, turned by the
@@ -62,9 +62,9 @@ fn a_list_is_extended(rt: HostRuntime) -> Result<(), Fail> {
     ] {
         for step in [7, n] {
             let mut device = blank(alloc, 16)?;
-            let (list, changed, old, new) = extended(alloc, &mut device, keep, n, step)?;
+            let (list, changed_blocks, old, new) = extend_list(alloc, &mut device, keep, n, step)?;
             assert_eq!(rt; (list.head, list.size, old, new), (head, size, true, true));
-            assert_eq!(rt; changed, Some((8, head as usize)));
+            assert_eq!(rt; changed_blocks, Some((8, head as usize)));
             if (keep, n) == (2045, 1016) {
                 let pointers = [6, 0, 0, 0, 5, 0, 0, 0];
                 assert_eq!(rt; device.bytes().get(8192..8200), Some(pointers.as_slice()));

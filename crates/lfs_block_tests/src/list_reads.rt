@@ -1,6 +1,6 @@
 use crate::hand_made_list::device;
 use crate::list_clients::is_list;
-use crate::lists::{content, visited};
+use crate::lists::{content, visited_blocks};
 use lfs_ctz::{cut, head_before, read_at};
 use lfs_device::{BlockDevice, Error, Which};
 use std::test::Fail;
@@ -71,7 +71,7 @@ fn lists_are_told_apart(rt: HostRuntime) -> Result<(), Fail> {
         (5, [6, 5], 7, 0x8000_0000, None),
     ] {
         let mut device = device(alloc, &content, second, third, 0)?;
-        let walked = visited(&mut device, head, size);
+        let walked = visited_blocks(&mut device, head, size);
         let wanted = blocks.map_or(Err(Error::Corrupt), |blocks| Ok((3, blocks)));
         assert_eq!(rt; (third, head, size, walked), (third, head, size, wanted));
         assert!(rt; blocks.is_none() || device.calls(Which::Any) == 2);

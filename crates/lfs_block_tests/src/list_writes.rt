@@ -1,5 +1,5 @@
 use crate::calls::{Call, carry_out, end, read, settle, start};
-use crate::devices::erased;
+use crate::devices::erased_device;
 use crate::plain::after;
 use lfs_alloc::BlockMap;
 use lfs_device::{BlockDevice, Error};
@@ -31,7 +31,7 @@ fn in_flight(map: &BlockMap) -> u32 {
 }
 
 // The bytes after three calls, and how many blocks are in flight then.
-pub fn written<D: BlockDevice>(
+pub fn bytes_after_writes<D: BlockDevice>(
     alloc: Global,
     dev: &mut D,
     calls: [Call; 3],
@@ -48,9 +48,9 @@ pub fn written<D: BlockDevice>(
 }
 
 /// Whether they are those of a plain vector, and how many blocks are in flight.
-pub fn compared(alloc: Global, calls: [Call; 3]) -> Result<(bool, u32), Error> {
-    let mut dev = erased(alloc)?;
-    let (bytes, blocks) = written(alloc, &mut dev, calls)?;
+pub fn compare_with_vector(alloc: Global, calls: [Call; 3]) -> Result<(bool, u32), Error> {
+    let mut dev = erased_device(alloc)?;
+    let (bytes, blocks) = bytes_after_writes(alloc, &mut dev, calls)?;
     let [first, second, third] = calls;
     let wanted = after(alloc, Vec::new(alloc), first)?;
     let wanted = after(alloc, wanted, second)?;
@@ -70,14 +70,14 @@ fn bytes_are_written_at_a_place(rt: HostRuntime) -> Result<(), Fail> {
                     Call::Write(place, 2),
                     Call::Truncate(last),
                 ];
-                let cut = compared(rt.alloc(), cut)?;
+                let cut = compare_with_vector(rt.alloc(), cut)?;
                 assert!(rt; cut == (true, most), "{first}, {place}, {last}");
                 let twice = [
                     Call::Write(0, first),
                     Call::Write(place - 1, 1),
                     Call::Write(last - 1, 1),
                 ];
-                let twice = compared(rt.alloc(), twice)?;
+                let twice = compare_with_vector(rt.alloc(), twice)?;
                 let blocks = few.max(more).max(most);
                 assert!(rt; twice == (true, blocks), "{first}, {place}, {last}");
             }
@@ -87,7 +87,7 @@ fn bytes_are_written_at_a_place(rt: HostRuntime) -> Result<(), Fail> {
                 Call::Write(2047, 1),
             ];
             assert!(rt;
-                compared(rt.alloc(), turned)? == (true, 3),
+                compare_with_vector(rt.alloc(), turned)? == (true, 3),
                 "{first}, {place}"
             );
         }
@@ -96,7 +96,11 @@ fn bytes_are_written_at_a_place(rt: HostRuntime) -> Result<(), Fail> {
 }
 
 // How many blocks are used, and how many in flight, once contents of so many bytes are settled.
-fn settled<D: BlockDevice>(alloc: Global, dev: &mut D, size: u32) -> Result<(u32, u32), Error> {
+fn count_after_settle<D: BlockDevice>(
+    alloc: Global,
+    dev: &mut D,
+    size: u32,
+) -> Result<(u32, u32), Error> {
     let (map, contents) = start(alloc, dev)?;
     let mut map = map;
     let contents = carry_out(alloc, dev, &mut map, contents, Call::Truncate(size))?;
@@ -108,9 +112,9 @@ fn settled<D: BlockDevice>(alloc: Global, dev: &mut D, size: u32) -> Result<(u32
 #[test]
 fn a_settled_list_is_used(rt: HostRuntime) -> Result<(), Fail> {
     for (size, blocks) in SIZES {
-        let mut dev = erased(rt.alloc())?;
+        let mut dev = erased_device(rt.alloc())?;
         assert!(rt;
-            settled(rt.alloc(), &mut dev, size)? == (blocks, 0),
+            count_after_settle(rt.alloc(), &mut dev, size)? == (blocks, 0),
             "{size}"
         );
     }

@@ -168,7 +168,7 @@ pub fn holds<D: BlockDevice>(
 }
 
 /// How many blocks a walk visits, and the last four of them, or zeros.
-pub fn visited<D: BlockDevice>(
+pub fn visited_blocks<D: BlockDevice>(
     dev: &mut D,
     head: u32,
     size: u32,
@@ -188,7 +188,7 @@ pub fn visited<D: BlockDevice>(
 }
 
 /// The first and the last block of 1,024 bytes in which two images differ.
-pub fn changed(old: &[u8], new: &[u8]) -> Option<(usize, usize)> {
+pub fn changed_blocks(old: &[u8], new: &[u8]) -> Option<(usize, usize)> {
     let mut range = None;
     for (block, (was, is)) in old
         .chunks_exact(1024)

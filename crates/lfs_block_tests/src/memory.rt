@@ -2,7 +2,7 @@
 // (bench/fail_alloc.py).
 
 use crate::calls::Call;
-use crate::list_writes::compared;
+use crate::list_writes::compare_with_vector;
 use lfs_device::Error;
 use std::alloc::Global;
 use std::test::Fail;
@@ -37,7 +37,7 @@ const CALLS: [([Call; 3], u32); 3] = [
 
 // Whether the bytes are those of a plain vector, or memory ran out.
 fn holds(alloc: Global, calls: [Call; 3], blocks: u32) -> bool {
-    match compared(alloc, calls) {
+    match compare_with_vector(alloc, calls) {
         Ok(answer) => answer == (true, blocks),
         Err(error) => error == Error::NoMemory,
     }

@@ -7,8 +7,8 @@ use Rattle.lru.specs.LruCache.{LruCache}
 use Rattle.lfs_model.specs.Cache.{CachedBlocks, cache_limit}
 
 -- the blocks of a cache with their bytes, the most recent first
-abbrev pub shown : List (ℕ × Vec ℕ Global) → CachedBlocks
-shown entries = map (λ e. (e.0, e.1.items)) entries
+abbrev pub cached_blocks_view : List (ℕ × Vec ℕ Global) → CachedBlocks
+cached_blocks_view entries = map (λ e. (e.0, e.1.items)) entries
 
 -- A cache has no block twice, and at most eight blocks.
 pub record IsCache (recent : LruCache ℕ (Vec ℕ Global)) : Type 0 where

@@ -1,7 +1,7 @@
 ghost use Rattle.std.specs.Prelude.{◌≡◌, ◌⊎◌, ◌<◌, ◌≤◌, ℕ, List, ◌∷◌, [], is_some, true, false, length, unwrap_or, IfErr, IfOk, IsErrOf, IsOk, IsSome, None, OnErr, OnOk, option_copied, option_map};
 ghost use Rattle.std.specs.Bool.{OnFalse, OnTrue};
 ghost use Rattle.lfs_model.specs.Blocks.{block_in};
-ghost use Rattle.lfs_model.specs.Cache.{cache_limit, cached, put_first, without};
+ghost use Rattle.lfs_model.specs.Cache.{cache_limit, cached, put_first, without_block};
 ghost use Rattle.lfs_device.specs.Calls.{ReadsOnly, ReportsFaults};
 ghost use Rattle.lfs_cache.specs.Read.{ReadsWhereMissing};
 
@@ -24,11 +24,11 @@ pub struct Cache {
 
 impl Model for Cache {
     ghost use Rattle.std.specs.Prelude.{ℕ, List};
-    ghost use Rattle.lfs_cache.specs.Cache.{IsCache, shown};
+    ghost use Rattle.lfs_cache.specs.Cache.{IsCache, cached_blocks_view};
 
     ghost Value = { List (ℕ × List ℕ) };
 
-    ghost view = { λ cache. shown cache.recent.entries };
+    ghost view = { λ cache. cached_blocks_view cache.recent.entries };
 
     ghost invariant = { λ cache. IsCache cache.recent };
 }
@@ -89,7 +89,7 @@ impl Cache {
     /// The call takes no memory and makes no call of the device.
     pub fn take(&mut self, block: u32) -> Option<Vec<u8>>
         ensures bytes { option_map (λ bytes. bytes.items) result ≡ cached self.old block }
-        ensures others { self.new ≡ without self.old block }
+        ensures others { self.new ≡ without_block self.old block }
     {
         self.recent.pop(&block)
     }
@@ -97,7 +97,7 @@ impl Cache {
     /// Takes a block out of the cache and drops its bytes. Nothing changes where the block isn't at
     /// hand. The call takes no memory and makes no call of the device.
     pub fn forget(&mut self, block: u32)
-        ensures { self.new ≡ without self.old block }
+        ensures { self.new ≡ without_block self.old block }
     {
         self.take(block);
     }

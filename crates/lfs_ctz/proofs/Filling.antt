@@ -8,7 +8,7 @@ use Rattle.lfs_model.specs.Blocks.{Blocks, IsDivided, SameBut, block_in, overwri
 use Rattle.lfs_model.specs.SkipLists.{pointers_of, capacity_of, bytes_before, blocks_back, blocks_for, AreListBlocks, data_of}
 use Rattle.lfs_model.proofs.Files.{data_same}
 use Rattle.lfs_ctz.specs.Finished.{IsEnd}
-use Rattle.lfs_ctz.specs.Growing.{joined, IsHanded, IsShared}
+use Rattle.lfs_ctz.specs.Growing.{bytes_of_blocks, IsHanded, IsShared}
 use Rattle.lfs_ctz.proofs.Chains.{length_back}
 use Rattle.lfs_ctz.proofs.Grown.{same_apart}
 use Rattle.lfs_ctz.proofs.Joined.{joined-append, length-joined}
@@ -40,92 +40,92 @@ rest_more items new p filled n low size room =
 
 -- the bytes of one block more
 pub joined_grown : (d e : Blocks) (full head block : ℕ) → blocks_back e (full + 1) block ≡ blocks_back d full head ++ block ∷ [] → SameBut block d e → All (λ c. c ≢ block) (blocks_back d full head)
-    → joined e (blocks_back e (full + 1) block) ≡ joined d (blocks_back d full head) ++ data_of e (full, block)
+    → bytes_of_blocks e (blocks_back e (full + 1) block) ≡ bytes_of_blocks d (blocks_back d full head) ++ data_of e (full, block)
 joined_grown d e full head block back same apart =
-    ap (joined e) back
+    ap (bytes_of_blocks e) back
     ∙ joined-append e 0 (blocks_back d full head) (block ∷ [])
     ∙ ap (λ (l : List ℕ). l ++ (data_of e (0 + length (blocks_back d full head), block) ++ [])) (data_same d e 0 (blocks_back d full head) (same_apart d e block (blocks_back d full head) same apart))
-    ∙ ap (λ (l : List ℕ). joined d (blocks_back d full head) ++ l) (append-nil (data_of e (0 + length (blocks_back d full head), block)))
-    ∙ ap (λ k. joined d (blocks_back d full head) ++ data_of e (k, block)) (let len = length_back d full head in omega arith)
+    ∙ ap (λ (l : List ℕ). bytes_of_blocks d (blocks_back d full head) ++ l) (append-nil (data_of e (0 + length (blocks_back d full head), block)))
+    ∙ ap (λ k. bytes_of_blocks d (blocks_back d full head) ++ data_of e (k, block)) (let len = length_back d full head in omega arith)
 
 -- of a whole block
 pub joined_full : (d e : Blocks) (full head block size : ℕ) (bytes : List ℕ) → blocks_back e (full + 1) block ≡ blocks_back d full head ++ block ∷ [] → SameBut block d e
     → All (λ c. c ≢ block) (blocks_back d full head) → length (block_in e block) ≡ size → take (size - 4 * pointers_of full) (drop (4 * pointers_of full) (block_in e block)) ≡ bytes
-    → joined e (blocks_back e (full + 1) block) ≡ joined d (blocks_back d full head) ++ bytes
+    → bytes_of_blocks e (blocks_back e (full + 1) block) ≡ bytes_of_blocks d (blocks_back d full head) ++ bytes
 joined_full d e full head block size bytes back same apart sized is =
     joined_grown d e full head block back same apart
-    ∙ ap (λ (l : List ℕ). joined d (blocks_back d full head) ++ l) (sym (take_all (size - 4 * pointers_of full) (data_of e (full, block)) (omega (arith, length-drop (4 * pointers_of full) (block_in e block)))) ∙ is)
+    ∙ ap (λ (l : List ℕ). bytes_of_blocks d (blocks_back d full head) ++ l) (sym (take_all (size - 4 * pointers_of full) (data_of e (full, block)) (omega (arith, length-drop (4 * pointers_of full) (block_in e block)))) ∙ is)
 
 -- ---- the end
 
 -- of blocks that stand one after the other on a disk
 pub joined_back : (d : Blocks) (full head block : ℕ) → blocks_back d (full + 1) block ≡ blocks_back d full head ++ block ∷ []
-    → joined d (blocks_back d (full + 1) block) ≡ joined d (blocks_back d full head) ++ data_of d (full, block)
+    → bytes_of_blocks d (blocks_back d (full + 1) block) ≡ bytes_of_blocks d (blocks_back d full head) ++ data_of d (full, block)
 joined_back d full head block back =
-    ap (joined d) back
+    ap (bytes_of_blocks d) back
     ∙ joined-append d 0 (blocks_back d full head) (block ∷ [])
-    ∙ ap (λ (l : List ℕ). joined d (blocks_back d full head) ++ l) (append-nil (data_of d (0 + length (blocks_back d full head), block)))
-    ∙ ap (λ k. joined d (blocks_back d full head) ++ data_of d (k, block)) (let len = length_back d full head in omega arith)
+    ∙ ap (λ (l : List ℕ). bytes_of_blocks d (blocks_back d full head) ++ l) (append-nil (data_of d (0 + length (blocks_back d full head), block)))
+    ∙ ap (λ k. bytes_of_blocks d (blocks_back d full head) ++ data_of d (k, block)) (let len = length_back d full head in omega arith)
 
 -- the full blocks hold what they have room for
-pub length-full : (d : Blocks) (block_size count full head : ℕ) → 1024 ≤ block_size → IsDivided block_size count d → AreListBlocks d full head → length (joined d (blocks_back d full head)) ≡ bytes_before block_size full
+pub length-full : (d : Blocks) (block_size count full head : ℕ) → 1024 ≤ block_size → IsDivided block_size count d → AreListBlocks d full head → length (bytes_of_blocks d (blocks_back d full head)) ≡ bytes_before block_size full
 length-full d block_size count full head large shape chain =
     let all = length-joined d block_size 0 (blocks_back d full head) large (λ k x l. shape.sizes (get_or (blocks_back d full head) k x) (let lt = chain.in_range k x l in omega (arith, lt, shape.count))) in
     let len = length_back d full head in
     omega (arith, all, ap (bytes_before block_size) (let s : 0 + length (blocks_back d full head) ≡ full = omega arith in s))
 
 -- a list of so many blocks
-at_end : (d : Blocks) (block_size head size n : ℕ) (content : List ℕ) → 1 ≤ size → size < 2 ^ 31 → blocks_for block_size size ≡ n → AreListBlocks d n head → take size (joined d (blocks_back d n head)) ≡ content
+at_end : (d : Blocks) (block_size head size n : ℕ) (content : List ℕ) → 1 ≤ size → size < 2 ^ 31 → blocks_for block_size size ≡ n → AreListBlocks d n head → take size (bytes_of_blocks d (blocks_back d n head)) ≡ content
     → IsEnd d block_size head size content (blocks_back d n head)
 at_end d block_size head size n content low high count chain is =
     let whole : AreListBlocks d (blocks_for block_size size) head = subst (λ k. AreListBlocks d k head) (sym count) chain in
     record {
       list = record { size_low = low; size_high = high; blocks = whole };
-      bytes = ap (λ k. take size (joined d (blocks_back d k head))) count ∙ is;
+      bytes = ap (λ k. take size (bytes_of_blocks d (blocks_back d k head))) count ∙ is;
       blocks = ap (λ k. blocks_back d k head) count;
     }
 
 -- with nothing after the full blocks
 pub end_closed : (d : Blocks) (block_size count full head size : ℕ) → 1024 ≤ block_size → IsDivided block_size count d → AreListBlocks d full head → 1 ≤ size → size < 2 ^ 31 → size ≡ bytes_before block_size full
-    → IsEnd d block_size head size (joined d (blocks_back d full head)) (blocks_back d full head)
+    → IsEnd d block_size head size (bytes_of_blocks d (blocks_back d full head)) (blocks_back d full head)
 end_closed d block_size count zero head size large shape chain low high is = absurd (omega arith)
 end_closed d block_size count (suc full) head size large shape chain low high is =
     let one = capacity_of-pos block_size full large in
     let above = blocks_for-above block_size size full large (omega arith) in
     let within = blocks_for-within block_size size (suc full) large (omega arith) in
-    at_end d block_size head size (suc full) (joined d (blocks_back d (suc full) head)) low high (omega arith) chain
-    (take_all size (joined d (blocks_back d (suc full) head)) (omega (arith, length-full d block_size count (suc full) head large shape chain)))
+    at_end d block_size head size (suc full) (bytes_of_blocks d (blocks_back d (suc full) head)) low high (omega arith) chain
+    (take_all size (bytes_of_blocks d (blocks_back d (suc full) head)) (omega (arith, length-full d block_size count (suc full) head large shape chain)))
 
 -- with a block after them that begins with the rest
 pub end_open : (d e : Blocks) (block_size count full head block size : ℕ) (rest : List ℕ) → 1024 ≤ block_size → IsDivided block_size count d → AreListBlocks d full head → AreListBlocks e (full + 1) block
-    → joined e (blocks_back e (full + 1) block) ≡ joined d (blocks_back d full head) ++ data_of e (full, block) → take (length rest) (data_of e (full, block)) ≡ rest
+    → bytes_of_blocks e (blocks_back e (full + 1) block) ≡ bytes_of_blocks d (blocks_back d full head) ++ data_of e (full, block) → take (length rest) (data_of e (full, block)) ≡ rest
     → 1 ≤ length rest → length rest ≤ capacity_of block_size full → size < 2 ^ 31 → size ≡ bytes_before block_size full + length rest
-    → IsEnd e block_size block size (joined d (blocks_back d full head) ++ rest) (blocks_back e (full + 1) block)
+    → IsEnd e block_size block size (bytes_of_blocks d (blocks_back d full head) ++ rest) (blocks_back e (full + 1) block)
 end_open d e block_size count full head block size rest large shape chain more bytes begins some short high is =
     let all = length-full d block_size count full head large shape chain in
     let above = blocks_for-above block_size size full large (omega arith) in
     let within = blocks_for-within block_size size (suc full) large (omega arith) in
-    let sum : size ≡ length (joined d (blocks_back d full head)) + length rest = omega arith in
-    at_end e block_size block size (full + 1) (joined d (blocks_back d full head) ++ rest) (omega arith) high (omega arith) more
+    let sum : size ≡ length (bytes_of_blocks d (blocks_back d full head)) + length rest = omega arith in
+    at_end e block_size block size (full + 1) (bytes_of_blocks d (blocks_back d full head) ++ rest) (omega arith) high (omega arith) more
     (ap (take size) bytes
-    ∙ ap (λ k. take k (joined d (blocks_back d full head) ++ data_of e (full, block))) sum
-    ∙ take-append-add (joined d (blocks_back d full head)) (data_of e (full, block)) (length rest)
-    ∙ ap (λ (l : List ℕ). joined d (blocks_back d full head) ++ l) begins)
+    ∙ ap (λ k. take k (bytes_of_blocks d (blocks_back d full head) ++ data_of e (full, block))) sum
+    ∙ take-append-add (bytes_of_blocks d (blocks_back d full head)) (data_of e (full, block)) (length rest)
+    ∙ ap (λ (l : List ℕ). bytes_of_blocks d (blocks_back d full head) ++ l) begins)
 
 -- the ends of a list that grows
 pub closed_end : (d : Blocks) (block_size count full head size : ℕ) (rest : List ℕ) → 1024 ≤ block_size → IsDivided block_size count d → AreListBlocks d full head → rest ≡ []
-    → 1 ≤ size → size < 2 ^ 31 → size ≡ bytes_before block_size full + length rest → IsEnd d block_size head size (joined d (blocks_back d full head) ++ rest) (blocks_back d full head ++ [])
+    → 1 ≤ size → size < 2 ^ 31 → size ≡ bytes_before block_size full + length rest → IsEnd d block_size head size (bytes_of_blocks d (blocks_back d full head) ++ rest) (blocks_back d full head ++ [])
 closed_end d block_size count full head size rest large shape chain none low high is =
     let end = end_closed d block_size count full head size large shape chain low high (omega (arith, is, ap length none)) in
     record {
       list = end.list;
-      bytes = end.bytes ∙ sym (append-nil (joined d (blocks_back d full head))) ∙ ap (λ (l : List ℕ). joined d (blocks_back d full head) ++ l) (sym none);
+      bytes = end.bytes ∙ sym (append-nil (bytes_of_blocks d (blocks_back d full head))) ∙ ap (λ (l : List ℕ). bytes_of_blocks d (blocks_back d full head) ++ l) (sym none);
       blocks = end.blocks ∙ sym (append-nil (blocks_back d full head));
     }
 
 pub shared_end : (d : Blocks) (block_size count full head block size : ℕ) (rest : List ℕ) → 1024 ≤ block_size → IsDivided block_size count d → AreListBlocks d full head → IsShared d full head rest block
     → length rest ≤ capacity_of block_size full → size < 2 ^ 31 → size ≡ bytes_before block_size full + length rest
-    → IsEnd d block_size block size (joined d (blocks_back d full head) ++ rest) (blocks_back d full head ++ block ∷ [])
+    → IsEnd d block_size block size (bytes_of_blocks d (blocks_back d full head) ++ rest) (blocks_back d full head ++ block ∷ [])
 shared_end d block_size count full head block size rest large shape chain shared short high is =
     let end = end_open d d block_size count full head block size rest large shape chain shared.chain (joined_back d full head block shared.back) shared.begins shared.some short high is in
     record { list = end.list; bytes = end.bytes; blocks = end.blocks ∙ shared.back }
@@ -133,7 +133,7 @@ shared_end d block_size count full head block size rest large shape chain shared
 pub handed_end : (d e : Blocks) (block_size count full head block size : ℕ) (rest : List ℕ) → 1024 ≤ block_size → IsDivided block_size count d → AreListBlocks d full head → IsHanded d full head rest block
     → AreListBlocks e (full + 1) block → blocks_back e (full + 1) block ≡ blocks_back d full head ++ block ∷ [] → SameBut block d e → take (length rest) (data_of e (full, block)) ≡ rest
     → length rest ≤ capacity_of block_size full → size < 2 ^ 31 → size ≡ bytes_before block_size full + length rest
-    → IsEnd e block_size block size (joined d (blocks_back d full head) ++ rest) (blocks_back d full head ++ block ∷ [])
+    → IsEnd e block_size block size (bytes_of_blocks d (blocks_back d full head) ++ rest) (blocks_back d full head ++ block ∷ [])
 handed_end d e block_size count full head block size rest large shape chain handed more back same begins short high is =
     let end = end_open d e block_size count full head block size rest large shape chain more (joined_grown d e full head block back same handed.apart) begins handed.some short high is in
     record { list = end.list; bytes = end.bytes; blocks = end.blocks ∙ back }

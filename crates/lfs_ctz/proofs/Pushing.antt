@@ -12,7 +12,7 @@ use Rattle.lfs_model.proofs.Histories.{StayUnprogrammed-trans, StayUnprogrammed-
 use Rattle.lfs_model.specs.SkipLists.{capacity_of, blocks_back, blocks_for}
 use Rattle.lfs_ctz.specs.declared.rest.Rest.{Rest}
 use Rattle.lfs_ctz.specs.declared.rest.Rest.TheVariants.{Closed, Shared, Handed, Held}
-use Rattle.lfs_ctz.specs.Growing.{Growing, pending_in, last_in, is_held, is_held_in, pending_of, kept_of, blocks_of_list, size_of, next_of, IsRest, IsGrowing}
+use Rattle.lfs_ctz.specs.Growing.{Growing, pending_in, last_in, is_in_buffer_alone, is_rest_in_buffer, pending_of, kept_blocks, blocks_of_list, size_with_pointers, next_of, IsRest, IsGrowing}
 use Rattle.lfs_ctz.proofs.Sizes.{blocks_for-above, blocks_for-within}
 use Rattle.lfs_ctz.proofs.Chains.{length_back}
 
@@ -89,7 +89,7 @@ next_kept Held back front blocks used some is = one_used back front blocks used 
 -- ---- how many are used
 
 -- the full blocks and the pending one
-pub kept_count : (d e : Blocks) (was now : Growing) (blocks : List ℕ) (used : ℕ) → used ≤ length blocks → kept_of e now ≡ kept_of d was ++ take used blocks
+pub kept_count : (d e : Blocks) (was now : Growing) (blocks : List ℕ) (used : ℕ) → used ≤ length blocks → kept_blocks e now ≡ kept_blocks d was ++ take used blocks
     → now.full + length (pending_of now) ≡ was.full + length (pending_of was) + used
 kept_count d e was now blocks used le is =
     omega (
@@ -97,36 +97,36 @@ kept_count d e was now blocks used le is =
       ap length is,
       length-append (blocks_back e now.full now.head) (pending_of now),
       length-append (blocks_back d was.full was.head) (pending_of was),
-      length-append (kept_of d was) (take used blocks),
+      length-append (kept_blocks d was) (take used blocks),
       length_back e now.full now.head,
       length_back d was.full was.head,
       length-take-le used blocks le,
     )
 
 -- while bytes are left and no block is pending there is one to take
-pub still_some : (d e : Blocks) (block_size : ℕ) (was now : Growing) (blocks : List ℕ) (used done total : ℕ) → 1024 ≤ block_size → used ≤ length blocks → kept_of e now ≡ kept_of d was ++ take used blocks
-    → length blocks ≡ blocks_for block_size (size_of block_size was + total) - (was.full + length (pending_of was)) → size_of block_size now ≡ size_of block_size was + done → done < total → pending_of now ≡ [] → used < length blocks
+pub still_some : (d e : Blocks) (block_size : ℕ) (was now : Growing) (blocks : List ℕ) (used done total : ℕ) → 1024 ≤ block_size → used ≤ length blocks → kept_blocks e now ≡ kept_blocks d was ++ take used blocks
+    → length blocks ≡ blocks_for block_size (size_with_pointers block_size was + total) - (was.full + length (pending_of was)) → size_with_pointers block_size now ≡ size_with_pointers block_size was + done → done < total → pending_of now ≡ [] → used < length blocks
 still_some d e block_size was now blocks used done total large le is count sum less none =
     let counted = kept_count d e was now blocks used le is in
-    let more = blocks_for-above block_size (size_of block_size was + total) now.full large (omega arith) in
+    let more = blocks_for-above block_size (size_with_pointers block_size was + total) now.full large (omega arith) in
     omega (arith, counted, more, count, ap length none)
 
 -- at the end all are used
-size_fits : (d : Blocks) (block_size : ℕ) (g : Growing) → 1024 ≤ block_size → IsGrowing d g → length g.rest < capacity_of block_size g.full → blocks_of_list d g ≡ kept_of d g → is_held g ≡ false
-    → blocks_for block_size (size_of block_size g) ≤ g.full + length (pending_of g)
+size_fits : (d : Blocks) (block_size : ℕ) (g : Growing) → 1024 ≤ block_size → IsGrowing d g → length g.rest < capacity_of block_size g.full → blocks_of_list d g ≡ kept_blocks d g → is_in_buffer_alone g ≡ false
+    → blocks_for block_size (size_with_pointers block_size g) ≤ g.full + length (pending_of g)
 size_fits d block_size g large held short own listed = go g.stand held.stand listed own
   where
-    go : (t : Rest) → IsRest d g.full g.head g.rest t → is_held_in t ≡ false → blocks_back d g.full g.head ++ last_in t ≡ blocks_back d g.full g.head ++ pending_in t
-        → blocks_for block_size (size_of block_size g) ≤ g.full + length (pending_in t)
-    go Closed none out e = let w = blocks_for-within block_size (size_of block_size g) g.full large (omega (arith, ap length none)) in omega arith
+    go : (t : Rest) → IsRest d g.full g.head g.rest t → is_rest_in_buffer t ≡ false → blocks_back d g.full g.head ++ last_in t ≡ blocks_back d g.full g.head ++ pending_in t
+        → blocks_for block_size (size_with_pointers block_size g) ≤ g.full + length (pending_in t)
+    go Closed none out e = let w = blocks_for-within block_size (size_with_pointers block_size g) g.full large (omega (arith, ap length none)) in omega arith
     go (Shared b) shared out e =
         absurd (omega (arith, ap length e, length-append (blocks_back d g.full g.head) (b ∷ []), length-append (blocks_back d g.full g.head) []))
-    go (Handed b) handed out e = let w = blocks_for-within block_size (size_of block_size g) (suc g.full) large (omega arith) in omega arith
+    go (Handed b) handed out e = let w = blocks_for-within block_size (size_with_pointers block_size g) (suc g.full) large (omega arith) in omega arith
     go Held none out e = absurd (cc)
 
-pub all_used : (d e : Blocks) (block_size : ℕ) (was now : Growing) (blocks : List ℕ) (used total : ℕ) → 1024 ≤ block_size → used ≤ length blocks → kept_of e now ≡ kept_of d was ++ take used blocks
-    → length blocks ≡ blocks_for block_size (size_of block_size was + total) - (was.full + length (pending_of was)) → size_of block_size now ≡ size_of block_size was + total → IsGrowing e now → length now.rest < capacity_of block_size now.full → blocks_of_list e now ≡ kept_of e now
-    → is_held now ≡ false → length blocks ≤ used
+pub all_used : (d e : Blocks) (block_size : ℕ) (was now : Growing) (blocks : List ℕ) (used total : ℕ) → 1024 ≤ block_size → used ≤ length blocks → kept_blocks e now ≡ kept_blocks d was ++ take used blocks
+    → length blocks ≡ blocks_for block_size (size_with_pointers block_size was + total) - (was.full + length (pending_of was)) → size_with_pointers block_size now ≡ size_with_pointers block_size was + total → IsGrowing e now → length now.rest < capacity_of block_size now.full → blocks_of_list e now ≡ kept_blocks e now
+    → is_in_buffer_alone now ≡ false → length blocks ≤ used
 all_used d e block_size was now blocks used total large le is count sum held short own listed =
     let counted = kept_count d e was now blocks used le is in
     let fits = size_fits e block_size now large held short own listed in

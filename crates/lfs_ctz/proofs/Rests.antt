@@ -3,22 +3,22 @@ use Rattle.std.proofs.Common.{ℕ, ◌≡◌, ◌<◌, ◌+◌, ◌-◌, ◌*◌
 use Rattle.std.proofs.lemmas.List.{length-take-le}
 use Rattle.lfs_model.specs.SkipLists.{pointers_of}
 use Rattle.lfs_ctz.specs.declared.extender.Extender.TheInside.{Inside}
-use Rattle.lfs_ctz.specs.Fields.{HasBlock, growing}
-use Rattle.lfs_ctz.specs.Growing.{Growing, IsShort, end_of}
+use Rattle.lfs_ctz.specs.Fields.{HasBlock, growing_view}
+use Rattle.lfs_ctz.specs.Growing.{Growing, HasShortRest, end_of}
 
 -- how many there are
-pub rest_long : (e : Inside) → HasBlock e → length (growing e).rest + 4 * pointers_of e.full ≡ e.filled
+pub rest_long : (e : Inside) → HasBlock e → length (growing_view e).rest + 4 * pointers_of e.full ≡ e.filled
 rest_long e has =
     let p : ℕ = 4 * pointers_of e.full in
     omega (arith, length-take-le (e.filled - p) (drop p e.buffer.items) (omega (arith, has.one_block, has.in_step.high, length-drop p e.buffer.items)), has.in_step.low)
 
 -- they do not fill a block, and the size counts them
 pub record IsCounted (g : Growing) (size : ℕ) : Type 0 where
-  pub short : IsShort g.geometry.block_size g
+  pub short : HasShortRest g.geometry.block_size g
   pub sum : size ≡ end_of g
   pub fits : size < 2 ^ 31
 
-pub counted : (e : Inside) (g : Growing) → HasBlock e → growing e ≡ g → IsCounted g e.size
+pub counted : (e : Inside) (g : Growing) → HasBlock e → growing_view e ≡ g → IsCounted g e.size
 counted e g has is =
     let rest = rest_long e has in
     subst (λ (v : Growing). IsCounted v e.size) is

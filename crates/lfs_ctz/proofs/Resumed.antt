@@ -9,7 +9,7 @@ use Rattle.std.proofs.lemmas.Map.Keys.{IsDistinct-from_apart, apart_from_distinc
 use Rattle.lfs_model.specs.Blocks.{Blocks, IsDivided, block_in}
 use Rattle.lfs_model.specs.SkipLists.{word_at, pointers_of, bytes_before, blocks_back, blocks_for, AreListBlocks, IsList, IsBytePlace, data_of, bytes_of}
 use Rattle.lfs_ctz.specs.Finished.{IsEnd}
-use Rattle.lfs_ctz.specs.Growing.{joined, IsShared}
+use Rattle.lfs_ctz.specs.Growing.{bytes_of_blocks, IsShared}
 use Rattle.lfs_ctz.proofs.Sizes.{pointers_of-le, blocks_for-place, place-lt}
 use Rattle.lfs_ctz.proofs.Chains.{length_back, back-pointer0}
 use Rattle.lfs_ctz.proofs.Filling.{none_chain}
@@ -71,13 +71,13 @@ module _ (d : Blocks) (block_size count head size keep i off block : ℕ) (large
   pub front_chain : AreListBlocks d (i + 1) block
   front_chain = subst (AreListBlocks d (i + 1)) (sym is) (chain_prefix d (blocks_for block_size size) head i low list.blocks)
 
-  joined_split : (m : ℕ) → m ≤ blocks_for block_size size → (joined d bs ≡ joined d (take m bs) ++ joined_from d m (drop m bs)) × (length (joined d (take m bs)) ≡ bytes_before block_size m)
+  joined_split : (m : ℕ) → m ≤ blocks_for block_size size → (bytes_of_blocks d bs ≡ bytes_of_blocks d (take m bs) ++ joined_from d m (drop m bs)) × (length (bytes_of_blocks d (take m bs)) ≡ bytes_before block_size m)
   joined_split m le =
       let len = length_back d (blocks_for block_size size) head in
       let front : length (take m bs) ≡ m = length-take-le m bs (omega arith) in
       let here : 0 + length (take m bs) ≡ m = omega arith in
       let all = length-joined d block_size 0 (take m bs) large (λ k x l. subst (λ b. length (block_in d b) ≡ block_size) (sym (get_or-take m bs k x (omega arith))) (sized k x (omega arith))) in (
-        ap (joined d) (sym (take-append-drop m bs)) ∙ joined-append d 0 (take m bs) (drop m bs) ∙ ap (λ k. joined d (take m bs) ++ joined_from d k (drop m bs)) here,
+        ap (bytes_of_blocks d) (sym (take-append-drop m bs)) ∙ joined-append d 0 (take m bs) (drop m bs) ∙ ap (λ k. bytes_of_blocks d (take m bs) ++ joined_from d k (drop m bs)) here,
         omega (arith, all, ap (bytes_before block_size) here),
       )
 
@@ -90,9 +90,9 @@ module _ (d : Blocks) (block_size count head size keep i off block : ℕ) (large
       let own : blocks_back d (blocks_for block_size keep) block ≡ take (i + 1) bs = ap (λ k. blocks_back d k block) few_blocks ∙ front_back in
       record {
         list = record { size_low = some; size_high = few; blocks = whole };
-        bytes = ap (λ (l : List ℕ). take keep (joined d l)) own
-            ∙ sym (take-take keep size (joined d bs) within ∙ ap (take keep) split.0
-            ∙ take-append-le keep (joined d (take (i + 1) bs)) (joined_from d (i + 1) (drop (i + 1) bs)) (omega (arith, split.1, ap (bytes_before block_size) (add-one i))));
+        bytes = ap (λ (l : List ℕ). take keep (bytes_of_blocks d l)) own
+            ∙ sym (take-take keep size (bytes_of_blocks d bs) within ∙ ap (take keep) split.0
+            ∙ take-append-le keep (bytes_of_blocks d (take (i + 1) bs)) (joined_from d (i + 1) (drop (i + 1) bs)) (omega (arith, split.1, ap (bytes_before block_size) (add-one i))));
         blocks = own ∙ ap (λ k. take k bs) (sym few_blocks);
       }
 
@@ -106,12 +106,12 @@ module _ (d : Blocks) (block_size count head size keep i off block : ℕ) (large
         let from = place.from in
         omega (arith, ap (bytes_before block_size) (add-one i))
 
-    pub full_content : joined d (blocks_back d (i + 1) block) ++ [] ≡ take keep (bytes_of d block_size head size)
+    pub full_content : bytes_of_blocks d (blocks_back d (i + 1) block) ++ [] ≡ take keep (bytes_of d block_size head size)
     full_content =
         let split = joined_split (i + 1) (let l = low in omega arith) in
-        append-nil (joined d (blocks_back d (i + 1) block))
-        ∙ ap (joined d) front_back
-        ∙ sym (take-take keep size (joined d bs) within ∙ ap (take keep) split.0 ∙ take_at (joined d (take (i + 1) bs)) (joined_from d (i + 1) (drop (i + 1) bs)) keep (omega (arith, split.1, keep_full)))
+        append-nil (bytes_of_blocks d (blocks_back d (i + 1) block))
+        ∙ ap (bytes_of_blocks d) front_back
+        ∙ sym (take-take keep size (bytes_of_blocks d bs) within ∙ ap (take keep) split.0 ∙ take_at (bytes_of_blocks d (take (i + 1) bs)) (joined_from d (i + 1) (drop (i + 1) bs)) keep (omega (arith, split.1, keep_full)))
 
     pub full_blocks : blocks_back d (i + 1) block ++ [] ≡ take (blocks_for block_size keep) bs
     full_blocks = append-nil (blocks_back d (i + 1) block) ∙ front_back ∙ ap (λ k. take k bs) (sym few_blocks)
@@ -174,21 +174,21 @@ module _ (d : Blocks) (block_size count head size keep i off block : ℕ) (large
         begins = ap (λ k. take k (drop p (block_in d block))) rest_long.0 ∙ sym rest_is;
       }
 
-      pub open_content : joined d (blocks_back d i before) ++ rest ≡ take keep (bytes_of d block_size head size)
+      pub open_content : bytes_of_blocks d (blocks_back d i before) ++ rest ≡ take keep (bytes_of d block_size head size)
       open_content =
           let len = length_back d (blocks_for block_size size) head in
           let split = joined_split i (let l = low in omega arith) in
           let r : ℕ = off + 1 - p in
-          let sum : keep ≡ length (joined d (take i bs)) + r = (let l = rest_long in omega (arith, split.1)) in
+          let sum : keep ≡ length (bytes_of_blocks d (take i bs)) + r = (let l = rest_long in omega (arith, split.1)) in
           let bytes : List ℕ = data_of d (i, slice_index bs i) in
           let more : List ℕ = joined_from d (i + 1) (drop (i + 1) bs) in
           let next : joined_from d i (drop i bs) ≡ bytes ++ more = ap (joined_from d i) (drop_more bs i 0 (let l = low in omega arith)) in
           let there : bytes ≡ drop p (block_in d block) = ap (λ b. drop p (block_in d b)) (sym is) in
           let long : length bytes ≡ block_size - p = ap length there ∙ omega (arith, length-drop p (block_in d block), block_long) in
           let few = pointers_of-le i in
-          ap (λ (l : List ℕ). joined d l ++ rest) (before_back i refl)
-          ∙ ap (λ (l : List ℕ). joined d (take i bs) ++ l) (rest_is ∙ ap (take r) (sym there) ∙ sym (take-append-le r bytes more (omega arith)))
-          ∙ sym (take-append-add (joined d (take i bs)) (bytes ++ more) r)
-          ∙ ap (λ k. take k (joined d (take i bs) ++ (bytes ++ more))) (sym sum)
-          ∙ ap (λ (l : List ℕ). take keep (joined d (take i bs) ++ l)) (sym next)
-          ∙ sym (take-take keep size (joined d bs) within ∙ ap (take keep) split.0)
+          ap (λ (l : List ℕ). bytes_of_blocks d l ++ rest) (before_back i refl)
+          ∙ ap (λ (l : List ℕ). bytes_of_blocks d (take i bs) ++ l) (rest_is ∙ ap (take r) (sym there) ∙ sym (take-append-le r bytes more (omega arith)))
+          ∙ sym (take-append-add (bytes_of_blocks d (take i bs)) (bytes ++ more) r)
+          ∙ ap (λ k. take k (bytes_of_blocks d (take i bs) ++ (bytes ++ more))) (sym sum)
+          ∙ ap (λ (l : List ℕ). take keep (bytes_of_blocks d (take i bs) ++ l)) (sym next)
+          ∙ sym (take-take keep size (bytes_of_blocks d bs) within ∙ ap (take keep) split.0)

@@ -11,7 +11,7 @@ use Rattle.lfs_ctz.specs.declared.rest.Rest.{Rest}
 use Rattle.lfs_ctz.specs.declared.rest.Rest.TheVariants.{Closed, Shared, Handed, Held}
 use Rattle.lfs_ctz.specs.Extended.{IsGrown}
 use Rattle.lfs_ctz.specs.Extending.{IsHolding}
-use Rattle.lfs_ctz.specs.Growing.{Growing, IsGrowing, IsHeld, IsRest, IsShort, IsStill, blocks_of_list, content_of, is_held_in, joined, kept_of, last_in, pending_in, size_of}
+use Rattle.lfs_ctz.specs.Growing.{Growing, IsGrowing, IsInBufferAlone, IsRest, HasShortRest, IsSameList, blocks_of_list, content_of, is_rest_in_buffer, bytes_of_blocks, kept_blocks, last_in, pending_in, size_with_pointers}
 use Rattle.lfs_ctz.proofs.Filling.{length-full, none_chain}
 
 module _ (d later : Blocks) (count : length later ≡ length d) where
@@ -38,21 +38,21 @@ module _ (d later : Blocks) (count : length later ≡ length d) where
       }
   rest_same full head rest Held same is = is
 
-  pub still : (g : Growing) → All IsSame (blocks_of_list d g) → IsGrowing d g → IsStill d later g
+  pub still : (g : Growing) → All IsSame (blocks_of_list d g) → IsGrowing d g → IsSameList d later g
   still g same is =
       let each : Same d later (blocks_back d g.full g.head ++ last_in g.stand) = recursion_from_All IsSame (blocks_of_list d g) same in
       let front = each_left IsSame (blocks_back d g.full g.head) (last_in g.stand) each in
       let back = back_same d later g.full g.head front in
       record {
         growing = record { chain = chain_same d later g.full g.head count front is.chain; stand = rest_same g.full g.head g.rest g.stand each is.stand };
-        content = ap (λ (l : List ℕ). l ++ g.rest) (ap (joined later) back ∙ data_same d later 0 (blocks_back d g.full g.head) front);
+        content = ap (λ (l : List ℕ). l ++ g.rest) (ap (bytes_of_blocks later) back ∙ data_same d later 0 (blocks_back d g.full g.head) front);
         kept = ap (λ (l : List ℕ). l ++ pending_in g.stand) back;
         blocks = ap (λ (l : List ℕ). l ++ last_in g.stand) back;
       }
 
 -- what a list shows, from what doesn't follow
 pub is_grown : (divided : Geometry) (d : Blocks) (e : Growing) (bytes : List ℕ) (size count : ℕ) (own all : List ℕ) → IsDivided divided.block_size count d → e.geometry ≡ divided
-    → IsShort e.geometry.block_size e → IsGrowing d e → content_of d e ≡ bytes → size_of divided.block_size e ≡ size → kept_of d e ≡ own → blocks_of_list d e ≡ all
+    → HasShortRest e.geometry.block_size e → IsGrowing d e → content_of d e ≡ bytes → size_with_pointers divided.block_size e ≡ size → kept_blocks d e ≡ own → blocks_of_list d e ≡ all
     → IsGrown divided d e bytes size own all
 is_grown divided d e bytes size count own all shape geometry short growing content sum kept blocks =
     let full = length-full d divided.block_size count e.full e.head divided.valid.no_smaller shape growing.chain in
@@ -61,7 +61,7 @@ is_grown divided d e bytes size count own all shape geometry short growing conte
       growing = growing;
       content = content;
       sum = sum;
-      whole = omega (arith, ap length content, full, sum, length-append (joined d (blocks_back d e.full e.head)) e.rest);
+      whole = omega (arith, ap length content, full, sum, length-append (bytes_of_blocks d (blocks_back d e.full e.head)) e.rest);
       kept = kept;
       blocks = blocks;
       short = subst (λ (k : Geometry). length e.rest < k.block_size - 4 * pointers_of e.full) geometry short;
@@ -69,21 +69,21 @@ is_grown divided d e bytes size count own all shape geometry short growing conte
     }
 
 -- all bytes in memory
-pub stands_held : (t : Rest) → is_held_in t ≡ true → t ≡ Held
+pub stands_held : (t : Rest) → is_rest_in_buffer t ≡ true → t ≡ Held
 stands_held Closed is = absurd (cc)
 stands_held (Shared b) is = absurd (cc)
 stands_held (Handed b) is = absurd (cc)
 stands_held Held is = refl
 
-module _ (divided : Geometry) (e : Growing) (bytes : List ℕ) (size : ℕ) (geometry : e.geometry ≡ divided) (none : e.full ≡ 0) (short : IsShort e.geometry.block_size e) (rest : e.rest ≡ bytes) (long : length bytes ≡ size) where
+module _ (divided : Geometry) (e : Growing) (bytes : List ℕ) (size : ℕ) (geometry : e.geometry ≡ divided) (none : e.full ≡ 0) (short : HasShortRest e.geometry.block_size e) (rest : e.rest ≡ bytes) (long : length bytes ≡ size) where
   nothing : (d : Blocks) → blocks_back d e.full e.head ≡ []
   nothing d = ap (λ k. blocks_back d k e.head) none
 
-  alone : (d : Blocks) → IsGrowing d e → kept_of d e ≡ [] → blocks_of_list d e ≡ [] → IsGrown divided d e bytes size [] []
+  alone : (d : Blocks) → IsGrowing d e → kept_blocks d e ≡ [] → blocks_of_list d e ≡ [] → IsGrown divided d e bytes size [] []
   alone d growing kept blocks = record {
     geometry = geometry;
     growing = growing;
-    content = ap (λ (l : List ℕ). joined d l ++ e.rest) (nothing d) ∙ rest;
+    content = ap (λ (l : List ℕ). bytes_of_blocks d l ++ e.rest) (nothing d) ∙ rest;
     sum = omega (arith, ap (bytes_before divided.block_size) none, ap length rest, long);
     whole = long;
     kept = kept;
@@ -109,7 +109,7 @@ module _ (divided : Geometry) (e : Growing) (bytes : List ℕ) (size : ℕ) (geo
       (ap₂ (λ (x y : List ℕ). x ++ y) (nothing d) (ap pending_in is))
       (ap₂ (λ (x y : List ℕ). x ++ y) (nothing d) (ap last_in is))
 
-pub is_holding : (divided : Geometry) (e : Growing) (bytes : List ℕ) → e.geometry ≡ divided → IsShort e.geometry.block_size e → e.rest ≡ bytes → IsHeld e → IsHolding divided e bytes
+pub is_holding : (divided : Geometry) (e : Growing) (bytes : List ℕ) → e.geometry ≡ divided → HasShortRest e.geometry.block_size e → e.rest ≡ bytes → IsInBufferAlone e → IsHolding divided e bytes
 is_holding divided e bytes geometry short rest held = record {
   held = held;
   rest = rest;

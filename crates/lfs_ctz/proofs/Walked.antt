@@ -15,7 +15,7 @@ use Rattle.std.proofs.lemmas.Map.Steps.{length-le_from_distinct_below}
 use Rattle.std.proofs.lemmas.Map.Keys.{IsDistinct-from_apart, apart_from_distinct}
 use Rattle.lfs_model.specs.Blocks.{Blocks, block_in}
 use Rattle.lfs_model.specs.SkipLists.{word_at, pointers_of, blocks_back, AreListBlocks}
-use Rattle.lfs_ctz.specs.Right.{IsNamed, IsNoted}
+use Rattle.lfs_ctz.specs.Right.{IsNamedByPointers, WordsAreNoted}
 use Rattle.lfs_ctz.proofs.Back.{power_below}
 use lib.Count.{count_trailing_zeros}
 use Rattle.std.specs.Int.{w32, trailing_zeros}
@@ -123,7 +123,7 @@ one_more : (P : ℕ → Type 0) (index last : ℕ) → ((j : ℕ) → index < j 
 one_more P index last checked here j above le = ⊎_elim (λ more. checked j more le) (λ most. subst P (let e : index ≡ j = omega arith in e) here) (cases_lt index j)
 
 module _ (d : Blocks) (last head first count index block : ℕ) (words new : List ℕ) (low : last < 2 ^ 32) (some : 0 < index) (checked : IsChecked d last head first count index words)
-    (is : block ≡ slice_index (blocks_back d (last + 1) head) index) (named : IsNamed words block index last) (notes : IsNoted d block index words new) where
+    (is : block ≡ slice_index (blocks_back d (last + 1) head) index) (named : IsNamedByPointers words block index last) (notes : WordsAreNoted d block index words new) where
   abbrev all : List ℕ
   all = blocks_back d (last + 1) head
 
@@ -161,7 +161,7 @@ module _ (d : Blocks) (last head first count index block : ℕ) (words new : Lis
   }
 
 pub chain_of_walk : (d : Blocks) (last head first : ℕ) (words : List ℕ) → last < 2 ^ 32 → IsChecked d last head first (length d) 0 words → slice_index (blocks_back d (last + 1) head) 0 ≡ first → first < length d
-    → IsNamed words first 0 last → AreListBlocks d (last + 1) head
+    → IsNamedByPointers words first 0 last → AreListBlocks d (last + 1) head
 chain_of_walk d last head first words low checked is lt named = record {
   in_range = λ k x l.
       let len = length_back d (last + 1) head in
@@ -186,7 +186,7 @@ chain_of_walk d last head first words low checked is lt named = record {
 
 -- and what it would have found in a list
 pub named_of_chain : (d : Blocks) (last head first count index : ℕ) (words : List ℕ) → last < 2 ^ 32 → IsChecked d last head first count index words → AreListBlocks d (last + 1) head → index ≤ last
-    → (block : ℕ) → block ≡ slice_index (blocks_back d (last + 1) head) index → IsNamed words block index last
+    → (block : ℕ) → block ≡ slice_index (blocks_back d (last + 1) head) index → IsNamedByPointers words block index last
 named_of_chain d last head first count index words low checked chain within block is k fits le =
     let power = one-le-pow k 2 (omega arith) in
     let more = zeros_more index k (omega arith) le in

@@ -5,8 +5,8 @@ use Rattle.lfs_ctz.specs.Filled.{IsFilled}
 use Rattle.lfs_ctz.specs.Growing.{Growing}
 use Rattle.lfs_ctz.specs.declared.extender.Extender.TheInside.{Inside}
 
-abbrev pub growing : Inside → Growing
-growing e = record { geometry = e.geometry; full = e.full; head = e.head; rest = take (e.filled - 4 * pointers_of e.full) (drop (4 * pointers_of e.full) e.buffer.items); stand = e.stand }
+abbrev pub growing_view : Inside → Growing
+growing_view e = record { geometry = e.geometry; full = e.full; head = e.head; rest = take (e.filled - 4 * pointers_of e.full) (drop (4 * pointers_of e.full) e.buffer.items); stand = e.stand }
 
 -- the buffer is one block, and the numbers agree
 pub record HasBlock (e : Inside) : Type 0 where

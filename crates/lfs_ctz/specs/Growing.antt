@@ -32,43 +32,43 @@ last_in (Handed b) = b ∷ []
 last_in Held = []
 
 -- the rest is in memory for no block
-abbrev pub is_held_in : Rest → Bool
-is_held_in Closed = false
-is_held_in (Shared b) = false
-is_held_in (Handed b) = false
-is_held_in Held = true
+abbrev pub is_rest_in_buffer : Rest → Bool
+is_rest_in_buffer Closed = false
+is_rest_in_buffer (Shared b) = false
+is_rest_in_buffer (Handed b) = false
+is_rest_in_buffer Held = true
 
-abbrev pub is_held : Growing → Bool
-is_held g = is_held_in g.stand
+abbrev pub is_in_buffer_alone : Growing → Bool
+is_in_buffer_alone g = is_rest_in_buffer g.stand
 
 abbrev pub pending_of : Growing → List ℕ
 pending_of g = pending_in g.stand
 
 -- the blocks that stay the list's when it grows: full ones, and the pending one
-abbrev pub kept_of : Blocks → Growing → List ℕ
-kept_of disk g = blocks_back disk g.full g.head ++ pending_of g
+abbrev pub kept_blocks : Blocks → Growing → List ℕ
+kept_blocks disk g = blocks_back disk g.full g.head ++ pending_of g
 
 -- the blocks of the list as it is
 abbrev pub blocks_of_list : Blocks → Growing → List ℕ
 blocks_of_list disk g = blocks_back disk g.full g.head ++ last_in g.stand
 
-abbrev pub joined : Blocks → List ℕ → List ℕ
-joined disk bs = flat_map (data_of disk) (enumerate_from 0 bs)
+abbrev pub bytes_of_blocks : Blocks → List ℕ → List ℕ
+bytes_of_blocks disk bs = flat_map (data_of disk) (enumerate_from 0 bs)
 
 -- the bytes of the list
 abbrev pub content_of : Blocks → Growing → List ℕ
-content_of disk g = joined disk (blocks_back disk g.full g.head) ++ g.rest
+content_of disk g = bytes_of_blocks disk (blocks_back disk g.full g.head) ++ g.rest
 
-abbrev pub size_of : ℕ → Growing → ℕ
-size_of block_size g = bytes_before block_size g.full + length g.rest
+abbrev pub size_with_pointers : ℕ → Growing → ℕ
+size_with_pointers block_size g = bytes_before block_size g.full + length g.rest
 
 -- how many bytes the list has
 abbrev pub end_of : Growing → ℕ
-end_of g = size_of g.geometry.block_size g
+end_of g = size_with_pointers g.geometry.block_size g
 
 -- the rest does not fill a block, so that no other blocks are full
-abbrev pub IsShort : ℕ → Growing → Type 0
-IsShort block_size g = length g.rest < capacity_of block_size g.full
+abbrev pub HasShortRest : ℕ → Growing → Type 0
+HasShortRest block_size g = length g.rest < capacity_of block_size g.full
 
 -- how many blocks the list needs for so many bytes more
 abbrev pub needed_of : Growing → ℕ → ℕ
@@ -106,18 +106,18 @@ next_of (Handed b) blocks used = (b, used)
 next_of Held blocks used = (slice_index blocks used, used + 1)
 
 -- the list on a disk that has the same bytes in its blocks
-pub record IsStill (disk later : Blocks) (g : Growing) : Type 0 where
+pub record IsSameList (disk later : Blocks) (g : Growing) : Type 0 where
   pub growing : IsGrowing later g
   pub content : content_of later g ≡ content_of disk g
-  pub kept : kept_of later g ≡ kept_of disk g
+  pub kept : kept_blocks later g ≡ kept_blocks disk g
   pub blocks : blocks_of_list later g ≡ blocks_of_list disk g
 
 -- all bytes are in memory, and none in a block
-pub record IsHeld (g : Growing) : Type 0 where
-  pub held : is_held g ≡ true
+pub record IsInBufferAlone (g : Growing) : Type 0 where
+  pub held : is_in_buffer_alone g ≡ true
   pub none : g.full ≡ 0
 
 -- the list can be ended, and the block that waits for more bytes is one of these
-pub record WaitsIn (bs : List ℕ) (g : Growing) : Type 0 where
-  pub listed : is_held g ≡ false
+pub record IsPendingIn (bs : List ℕ) (g : Growing) : Type 0 where
+  pub listed : is_in_buffer_alone g ≡ false
   pub pending : (other : ℕ) → All (λ b. b ≢ other) bs → All (λ b. b ≢ other) (pending_of g)

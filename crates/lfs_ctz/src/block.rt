@@ -2,7 +2,7 @@ ghost use Rattle.std.specs.Prelude.{[], ◌∷◌, ◌≡◌, ◌≢◌, ◌≤�
 ghost use Rattle.byteorder.specs.Endian.{little_bytes};
 ghost use Rattle.lfs_ctz.specs.Appended.{IsAppended};
 ghost use Rattle.lfs_ctz.specs.Calls.{ReportsIo};
-ghost use Rattle.lfs_ctz.specs.Counts.{Writes};
+ghost use Rattle.lfs_ctz.specs.Counts.{WritesCount};
 ghost use Rattle.lfs_ctz.specs.Extending.{CanFollow};
 ghost use Rattle.lfs_device.specs.Calls.{ChangesBlock, ReadsOnly, ReportsFaults};
 ghost use Rattle.lfs_model.specs.Blocks.{block_in};
@@ -67,7 +67,7 @@ pub(crate) fn write_block<D: BlockDevice>(
     ensures appended { OnOk result (IsAppended (D.blocks dev.old) (D.blocks dev.new) index head block) }
     ensures bytes { OnOk result (take (end - 4 * pointers_of index) (drop (4 * pointers_of index) (block_in (D.blocks dev.new) block))
         ≡ take (end - 4 * pointers_of index) (drop (4 * pointers_of index) buf.old)) }
-    ensures writes { OnOk result (Writes 0 1 (D.history dev.old) (D.history dev.new)) }
+    ensures writes { OnOk result (WritesCount 0 1 (D.history dev.old) (D.history dev.new)) }
     ensures device { ChangesBlock D.BlockDevice block dev.old dev.new }
     ensures io { ReportsIo D.BlockDevice dev.old dev.new result }
 {

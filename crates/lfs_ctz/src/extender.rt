@@ -1,11 +1,11 @@
 ghost use Rattle.std.specs.Prelude.{◌≡◌, ◌≤◌, ◌<◌, ◌+◌, ◌-◌, ◌*◌, ◌^◌, ◌++◌, ◌∷◌, [], length, take, drop, replicate, OnOk, IfOk, IfErr};
 ghost use Rattle.lfs_ctz.specs.Appended.{IsAppended};
 ghost use Rattle.lfs_ctz.specs.Calls.{ReportsIo, ReportsMemory};
-ghost use Rattle.lfs_ctz.specs.Counts.{Writes};
+ghost use Rattle.lfs_ctz.specs.Counts.{WritesCount};
 ghost use Rattle.lfs_ctz.specs.Extended.{IsGrown};
-ghost use Rattle.lfs_ctz.specs.Extending.{CanEnd, CanFollow, CanPush, CanResume, IsHolding, IsPushed, IsResumed, IsStarted};
+ghost use Rattle.lfs_ctz.specs.Extending.{CanEndList, CanFollow, CanPush, CanResume, IsHolding, HasPushed, IsResumed, IsStarted};
 ghost use Rattle.lfs_ctz.specs.Finished.{IsEnd};
-ghost use Rattle.lfs_ctz.specs.Growing.{IsHeld, WaitsIn, blocks_of_list, content_of, end_of, needed_of, next_of, pending_of};
+ghost use Rattle.lfs_ctz.specs.Growing.{IsInBufferAlone, IsPendingIn, blocks_of_list, content_of, end_of, needed_of, next_of, pending_of};
 ghost use Rattle.lfs_device.specs.Calls.{ChangesBlock, ChangesOnly, ReadsOnly};
 ghost use Rattle.lfs_model.specs.Blocks.{block_in, overwritten};
 ghost use Rattle.lfs_model.specs.Writers.{written_into as with_bytes};
@@ -41,9 +41,9 @@ impl Model for Extender {
 
     ghost Value = { Growing };
 
-    ghost use Rattle.lfs_ctz.specs.Fields.{HasBlock, growing};
+    ghost use Rattle.lfs_ctz.specs.Fields.{HasBlock, growing_view};
 
-    ghost view = { growing };
+    ghost view = { growing_view };
 
     ghost invariant = { HasBlock };
 }
@@ -148,7 +148,7 @@ impl Extender {
 
     /// Returns the contents, which are all in memory and none in a block.
     pub fn held(&self) -> &[u8]
-        requires { IsHeld self.now }
+        requires { IsInBufferAlone self.now }
         ensures { result.now ≡ self.now.rest }
     {
         &self.buffer[..self.filled as usize]
@@ -159,7 +159,7 @@ impl Extender {
     ///
     /// The caller's condition is that there are fewer bytes than a block has afterwards.
     pub fn put(&mut self, at: u32, bytes: &[u8])
-        requires held { IsHeld self.old }
+        requires held { IsInBufferAlone self.old }
         requires room { at + length bytes.now < self.old.geometry.block_size }
         ensures { IsHolding self.old.geometry self.new (with_bytes self.old.rest at bytes.now) }
     {
@@ -174,7 +174,7 @@ impl Extender {
     ///
     /// The caller's condition is that there are at least so many.
     pub fn cut(&mut self, len: u32)
-        requires held { IsHeld self.old }
+        requires held { IsInBufferAlone self.old }
         requires within { len ≤ length self.old.rest }
         ensures { IsHolding self.old.geometry self.new (take len self.old.rest) }
     {
@@ -243,8 +243,8 @@ impl Extender {
             (content_of (D.blocks dev.old) self.old ++ take n bytes.now) (end_of self.old + n)
             (blocks_back (D.blocks dev.old) self.old.full self.old.head ++ block ∷ [])
             (blocks_back (D.blocks dev.old) self.old.full self.old.head ++ block ∷ [])) }
-        ensures waits { OnOk result (WaitsIn (block ∷ []) self.new) }
-        ensures writes { OnOk result (Writes self.old.full self.new.full (D.history dev.old) (D.history dev.new)) }
+        ensures waits { OnOk result (IsPendingIn (block ∷ []) self.new) }
+        ensures writes { OnOk result (WritesCount self.old.full self.new.full (D.history dev.old) (D.history dev.new)) }
         ensures device { ChangesBlock D.BlockDevice block dev.old dev.new }
         ensures io { ReportsIo D.BlockDevice dev.old dev.new result }
     {
@@ -284,9 +284,9 @@ impl Extender {
         blocks: &[u32],
     ) -> Result<(), Error>
         requires { CanPush D.BlockDevice dev.old self.old bytes.now blocks.now }
-        ensures pushed { OnOk result (IsPushed (D.blocks dev.old) self.old bytes.now blocks.now (D.blocks dev.new) self.new) }
+        ensures pushed { OnOk result (HasPushed (D.blocks dev.old) self.old bytes.now blocks.now (D.blocks dev.new) self.new) }
         // A block that fills is erased once and programmed once.
-        ensures writes { OnOk result (Writes self.old.full self.new.full (D.history dev.old) (D.history dev.new)) }
+        ensures writes { OnOk result (WritesCount self.old.full self.new.full (D.history dev.old) (D.history dev.new)) }
         ensures device { ChangesOnly D.BlockDevice (pending_of self.old ++ blocks.now) dev.old dev.new }
         ensures io { ReportsIo D.BlockDevice dev.old dev.new result }
     {
@@ -306,7 +306,7 @@ impl Extender {
         requires geometry { D.geometry dev.old ≡ self.old.geometry }
         ensures appended { OnOk result (IsAppended (D.blocks dev.old) (D.blocks dev.new) self.old.full self.old.head block) }
         ensures bytes { OnOk result (take (length self.old.rest) (drop (4 * pointers_of self.old.full) (block_in (D.blocks dev.new) block)) ≡ self.old.rest) }
-        ensures writes { OnOk result (Writes 0 1 (D.history dev.old) (D.history dev.new)) }
+        ensures writes { OnOk result (WritesCount 0 1 (D.history dev.old) (D.history dev.new)) }
         ensures device { ChangesBlock D.BlockDevice block dev.old dev.new }
         ensures io { ReportsIo D.BlockDevice dev.old dev.new result }
     {
@@ -326,11 +326,11 @@ impl Extender {
     ///
     /// Errors: `Io` where the device failed.
     pub fn finish<D: BlockDevice>(mut self, dev: &mut D) -> Result<(u32, u32), Error>
-        requires { CanEnd D.BlockDevice dev.old self }
+        requires { CanEndList D.BlockDevice dev.old self }
         ensures finished { IfOk result (λ r. IsEnd (D.blocks dev.new) self.geometry.block_size r.0 r.1 (content_of (D.blocks dev.old) self) (blocks_of_list (D.blocks dev.old) self)) }
         ensures size { IfOk result (λ r. r.1 ≡ end_of self) }
         ensures no_call { pending_of self ≡ [] → (D.history dev.new ≡ D.history dev.old) × (D.blocks dev.new ≡ D.blocks dev.old) }
-        ensures writes { OnOk result (Writes 0 (length (pending_of self)) (D.history dev.old) (D.history dev.new)) }
+        ensures writes { OnOk result (WritesCount 0 (length (pending_of self)) (D.history dev.old) (D.history dev.new)) }
         ensures device { ChangesOnly D.BlockDevice (pending_of self) dev.old dev.new }
         ensures io { ReportsIo D.BlockDevice dev.old dev.new result }
     {

@@ -3,7 +3,7 @@ ghost use Rattle.std.specs.List.{FoldsTo};
 ghost use Rattle.lfs_model.specs.Blocks.{block_in};
 ghost use Rattle.lfs_model.specs.SkipLists.{IsList, blocks_back, blocks_for, word_at};
 ghost use Rattle.lfs_ctz.specs.Calls.{ReadsList};
-ghost use Rattle.lfs_ctz.specs.Right.{IsNamed, IsNoted};
+ghost use Rattle.lfs_ctz.specs.Right.{IsNamedByPointers, WordsAreNoted};
 ghost use Rattle.lfs_ctz.specs.Way.{HasPointers, ReadsBeside};
 ghost use Rattle.lfs_model.specs.History.{reads};
 
@@ -15,8 +15,8 @@ use lfs_device::{BlockDevice, Error};
 fn is_named(words: &[u8], block: u32, index: u32, last: u32) -> bool
     requires order { index ≤ last }
     requires room { length words.now ≡ 128 }
-    ensures yes { result ≡ true → IsNamed words.now block index last }
-    ensures no { result ≡ false → ¬ IsNamed words.now block index last }
+    ensures yes { result ≡ true → IsNamedByPointers words.now block index last }
+    ensures no { result ≡ false → ¬ IsNamedByPointers words.now block index last }
 {
     if index == last {
         return true;
@@ -46,9 +46,9 @@ fn checked_before<D: BlockDevice>(
     requires room { length words.old ≡ 128 }
     requires way { HasPointers (D.blocks dev.old) last 0 way.now }
     ensures word { IfOk result (λ word. word ≡ word_at (block_in (D.blocks dev.old) block) 0) }
-    ensures noted { OnOk result (IsNoted (D.blocks dev.old) block index words.old words.new) }
-    ensures right { OnOk result ((block < (D.geometry dev.old).block_count) × IsNamed words.old block index last) }
-    ensures corrupt { IsErrOf result Error.Corrupt → block < (D.geometry dev.old).block_count → ¬ IsNamed words.old block index last }
+    ensures noted { OnOk result (WordsAreNoted (D.blocks dev.old) block index words.old words.new) }
+    ensures right { OnOk result ((block < (D.geometry dev.old).block_count) × IsNamedByPointers words.old block index last) }
+    ensures corrupt { IsErrOf result Error.Corrupt → block < (D.geometry dev.old).block_count → ¬ IsNamedByPointers words.old block index last }
     ensures reading { ReadsList D.BlockDevice dev.old dev.new result }
     ensures reads { ReadsBeside way.now last index block (D.history dev.old) (D.history dev.new) }
 {

@@ -6,7 +6,7 @@ ghost use Rattle.lfs_device.specs.Calls.{ReadsOnly, ReportsFaults};
 ghost use Rattle.lfs_model.specs.History.{reads};
 ghost use Rattle.lfs_model.specs.SkipLists.{AreListBlocks, blocks_back, word_at};
 ghost use Rattle.lfs_ctz.specs.Calls.{ReadsList};
-ghost use Rattle.lfs_ctz.specs.Right.{IsNoted};
+ghost use Rattle.lfs_ctz.specs.Right.{WordsAreNoted};
 ghost use Rattle.lfs_ctz.specs.Way.{HasPointers, IsOnWay, IsWay, ReadsBeside, on_way};
 
 use crate::read::{pointers, read_part};
@@ -99,7 +99,7 @@ pub(crate) fn note<D: BlockDevice>(
     requires in_device { block < (D.geometry dev.old).block_count }
     requires room { length words.old ≡ 128 }
     requires way { HasPointers (D.blocks dev.old) last 0 way.now }
-    ensures noted { OnOk result (IsNoted (D.blocks dev.old) block index words.old words.new) }
+    ensures noted { OnOk result (WordsAreNoted (D.blocks dev.old) block index words.old words.new) }
     ensures device { ReadsOnly D.BlockDevice dev.old dev.new }
     ensures faults { ReportsFaults D.BlockDevice dev.old dev.new result }
     ensures errors { IfErr result (λ e. e ≡ Error.Io) }

@@ -8,12 +8,12 @@ use Rattle.lfs_device.specs.declared.fault.Extent.TheVariants.{Nothing, FirstByt
 use Rattle.lfs_device.specs.declared.fault.Fault.{Fault}
 use Rattle.lfs_model.specs.Blocks.{Blocks}
 use Rattle.lfs_model.specs.History.{Call, Read, Program, Erase, Event, event, faults, unprogrammed, unprogrammed_after}
-use Rattle.lfs_device.specs.Fault.{counts, is_turn, has_stopped, is_due, due, due_failed, undue_faults}
+use Rattle.lfs_device.specs.Fault.{is_counted_by, is_turn, has_stopped, is_due, due, due_failed, undue_faults}
 use Rattle.lfs_device.specs.CallsBelow.{IsCallBelow}
 
 -- the two ways to say that a call is to fail
 is_due-is_some : (fault : Fault) (call : Call) (older : List Event) → is_due fault.which fault.nth fault.stops call older ≡ is_some (due fault call older)
-is_due-is_some fault call older = either (is_turn (counts fault.which call) fault.which fault.nth older) (has_stopped fault.which fault.nth fault.stops older)
+is_due-is_some fault call older = either (is_turn (is_counted_by fault.which call) fault.which fault.nth older) (has_stopped fault.which fault.nth fault.stops older)
   where
     either : (a b : Bool) → (a || b) ≡ is_some (cond a (Some fault.extent) (cond b (Some Nothing) None))
     either true b = refl

@@ -16,7 +16,7 @@ use Rattle.lfs_device.specs.declared.ram.Erased.{Erased}
 use Rattle.lfs_device.specs.declared.ram.Erased.TheVariants.{Fill, Keep}
 use Rattle.lfs_device.specs.CallsBelow.{IsCallBelow}
 use Rattle.lfs_device.specs.Erased.{FillsByByte, erased_block}
-use Rattle.lfs_device.specs.Fault.{counts, due, is_torn, is_turn, has_stopped}
+use Rattle.lfs_device.specs.Fault.{is_counted_by, due, is_torn, is_turn, has_stopped}
 use Rattle.lfs_device.specs.Premises.{AreReliable}
 
 -- ---- a history
@@ -50,7 +50,7 @@ tears None = false
 tears (Some extent) = is_torn extent
 
 tears_none : (fault : Fault) (call : Call) (older : List Event) → is_torn fault.extent ≡ false → tears (due fault call older) ≡ false
-tears_none fault call older untorn = either (is_turn (counts fault.which call) fault.which fault.nth older) (has_stopped fault.which fault.nth fault.stops older)
+tears_none fault call older untorn = either (is_turn (is_counted_by fault.which call) fault.which fault.nth older) (has_stopped fault.which fault.nth fault.stops older)
   where
     either : (a b : Bool) → tears (cond a (Some fault.extent) (cond b (Some Nothing) None)) ≡ false
     either true b = untorn

@@ -7,8 +7,8 @@ use Rattle.lfs_model.specs.History.{Call, event, faults}
 use Rattle.lfs_model.specs.History.Call.{Read, Program, Erase}
 
 -- the device below has this one call more, which failed or did not
-abbrev pub Passed : {D : Type 0} → Ghosts D → Call → Bool → D → D → Type 0
-Passed g call failed old new = g.history new ≡ event call (g.blocks old) (g.blocks new) failed ∷ g.history old
+abbrev pub PassesCallBelow : {D : Type 0} → Ghosts D → Call → Bool → D → D → Type 0
+PassesCallBelow g call failed old new = g.history new ≡ event call (g.blocks old) (g.blocks new) failed ∷ g.history old
 
 -- the device below had no fault
 abbrev pub NoFault : {D : Type 0} → Ghosts D → D → D → Type 0
@@ -23,10 +23,10 @@ first_bytes g (Erase b) old new = new ≡ old
 -- A call that isn't due to fail is passed on, and fails only as the device below does. A call that is due fails, after the given
 -- part of it was done.
 abbrev pub IsCallBelow : {D : Type 0} → Ghosts D → Option Extent → Call → Bool → D → D → Type 0
-IsCallBelow g None call failed old new = Passed g call failed old new
+IsCallBelow g None call failed old new = PassesCallBelow g call failed old new
 IsCallBelow g (Some Nothing) call failed old new = (failed ≡ true) × (new ≡ old)
 IsCallBelow g (Some (FirstBytes k)) call failed old new = (failed ≡ true) × first_bytes g call old new
-IsCallBelow g (Some Whole) call failed old new = (failed ≡ true) × (NoFault g old new → Passed g call false old new)
+IsCallBelow g (Some Whole) call failed old new = (failed ≡ true) × (NoFault g old new → PassesCallBelow g call false old new)
 
 -- the bytes of a program that are stored
 abbrev pub stored : Extent → List ℕ → List ℕ

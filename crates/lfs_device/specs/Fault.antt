@@ -14,12 +14,12 @@ calls_of Read history = reads history
 calls_of Program history = programs history
 calls_of Erase history = erases history
 
-abbrev pub counts : Which → Call → Bool
-counts Any call = true
-counts Read (Read' block off len) = true
-counts Program (Program' block off bytes) = true
-counts Erase (Erase' block) = true
-counts which call = false
+abbrev pub is_counted_by : Which → Call → Bool
+is_counted_by Any call = true
+is_counted_by Read (Read' block off len) = true
+is_counted_by Program (Program' block off bytes) = true
+is_counted_by Erase (Erase' block) = true
+is_counted_by which call = false
 
 -- a call that counts is the one at which the device fails
 abbrev pub is_turn : Bool → Which → ℕ → List Event → Bool
@@ -31,7 +31,7 @@ has_stopped which nth stops older = stops && nat_lt 0 nth && nat_le nth (calls_o
 
 -- the next call is to fail
 abbrev pub is_due : Which → ℕ → Bool → Call → List Event → Bool
-is_due which nth stops call older = is_turn (counts which call) which nth older || has_stopped which nth stops older
+is_due which nth stops call older = is_turn (is_counted_by which call) which nth older || has_stopped which nth stops older
 
 -- how much of the call is done; none where it isn't due to fail
 abbrev pub due_if : Fault → Bool → List Event → Option Extent
@@ -40,7 +40,7 @@ due_if fault counted older =
     (if has_stopped fault.which fault.nth fault.stops older then Some Nothing else None)
 
 abbrev pub due : Fault → Call → List Event → Option Extent
-due fault call older = due_if fault (counts fault.which call) older
+due fault call older = due_if fault (is_counted_by fault.which call) older
 
 -- of a program the first bytes alone are stored
 abbrev pub is_torn : Extent → Bool

@@ -205,7 +205,7 @@ impl<D: BlockDevice> FaultDevice<D> {
 }
 
 impl<D: BlockDevice> BlockDevice for FaultDevice<D> {
-    ghost use Rattle.lfs_device.specs.FaultDevice.{IsNoted, inner_of, fault_of, inner_blocks, history_of};
+    ghost use Rattle.lfs_device.specs.FaultDevice.{IsNewestCall, inner_of, fault_of, inner_blocks, history_of};
 
     ghost geometry = { λ d. D.geometry d.inner };
 
@@ -235,7 +235,7 @@ impl<D: BlockDevice> BlockDevice for FaultDevice<D> {
             → buf.new ≡ slice_range (block_in (inner_blocks self.old) block) off (off + length buf.old) }
         ensures bytes { OnOk result (buf.new ≡ slice_range (block_in (inner_blocks self.old) block) off (off + length buf.old)) }
         ensures same { inner_blocks self.new ≡ inner_blocks self.old }
-        ensures noted { IsNoted (Read block off (length buf.old)) self.old self.new result }
+        ensures noted { IsNewestCall (Read block off (length buf.old)) self.old self.new result }
     {
         let counts = matches!(self.fault.which, Which::Any | Which::Read);
         let due = self.due(counts);
@@ -260,7 +260,7 @@ impl<D: BlockDevice> BlockDevice for FaultDevice<D> {
         ensures ok { OnOk result (inner_blocks self.new ≡ programmed (inner_blocks self.old) block off bytes.now) }
         ensures err { OnErr result (SameOutside off (off + length bytes.now) (block_in (inner_blocks self.old) block) (block_in (inner_blocks self.new) block)) }
         ensures others { SameBut block (inner_blocks self.old) (inner_blocks self.new) }
-        ensures noted { IsNoted (Program block off bytes.now) self.old self.new result }
+        ensures noted { IsNewestCall (Program block off bytes.now) self.old self.new result }
     {
         let counts = matches!(self.fault.which, Which::Any | Which::Program);
         let due = self.due(counts);
@@ -276,7 +276,7 @@ impl<D: BlockDevice> BlockDevice for FaultDevice<D> {
         ensures carried { IsCallBelow ⟦<D as BlockDevice>⟧ (due (fault_of self.old) (Erase block) (history_of self.old))
             (Erase block) (is_err result) (inner_of self.old) (inner_of self.new) }
         ensures others { SameBut block (inner_blocks self.old) (inner_blocks self.new) }
-        ensures noted { IsNoted (Erase block) self.old self.new result }
+        ensures noted { IsNewestCall (Erase block) self.old self.new result }
     {
         let counts = matches!(self.fault.which, Which::Any | Which::Erase);
         let due = self.due(counts);

@@ -16,27 +16,27 @@ use Rattle.lfs_model.specs.Run.{IsSessionStep, only_asks, creates_nothing, fills
 use Rattle.lfs_model.proofs.StepsMade.{IsOver, idle_step, refused_step, completed_step, asked_step, failed_step}
 use Rattle.std.specs.Prelude.{◌⊎◌, ◌||◌, OnOk, OnErr, IfOk, IfErr, is_err, is_none, is_some, not, if◌then◌else◌}
 use Rattle.lfs_model.specs.Tree.{FileNode}
-use Rattle.lfs_model.specs.TreeEdits.{added as add_file, bytes_at, is_file}
+use Rattle.lfs_model.specs.TreeEdits.{tree_with_node as add_file, bytes_at, is_file}
 use Rattle.lfs_device.specs.declared.error.Error.{Error}
 use Rattle.lfs_device.specs.declared.error.Error.TheVariants.{Io, NoMemory}
 use Rattle.lfs_model.specs.Headline.{is_question}
 use Rattle.lfs_model.proofs.SessionSteps.{not_remount}
 use Rattle.lfs_lookup.specs.Refusals.{is_refusal, refusal_in}
 use Rattle.lfs_fs.specs.Replies.{reply_in}
-use Rattle.lfs_tree.specs.TreeState.{TreeState, tree_view, around_of, IsSound, IsAsked, IsBroken, IsError, IsAppliedOn}
+use Rattle.lfs_tree.specs.TreeState.{TreeState, tree_view, surroundings_of, IsSound, WasOnlyRead, IsFailedTree, IsError, IsAppliedOn}
 use Rattle.lfs_model.specs.BlockSets.{IsInFlight}
 use Rattle.lfs_model.proofs.BlockCounts.{few_flying, in_flight-freed}
 use Rattle.lfs_fs.specs.FileView.{OpenFiles, bytes_of, files_view, has_unsaved, reader_view, readers_in, writer_view, writers_in, written_paths}
 use Rattle.lfs_fs.specs.declared.files.OpenFile.TheVariants as file
 use Rattle.lfs_model.specs.Keeping.{takes_or_moves}
-use Rattle.lfs_fs.specs.Staying.{AreLeft, FilesStay, KeepsWriters, SparesFiles}
+use Rattle.lfs_fs.specs.OpenFilesStay.{FilesAreReady, FilesStay, KeepsWriters, SparesFiles}
 use Rattle.lfs_model.specs.Slots.{no_gstate}
 use Rattle.lfs_model.specs.Thread.{gstate_of}
 use Rattle.lfs_model.specs.Tree.{Path}
 use Rattle.lfs_fs.specs.declared.files.Writer.{Writer}
 use Rattle.lfs_fs.specs.declared.files.Unsaved.{Unsaved}
 use Rattle.std.specs.List.{AllByRecursion, list_any}
-use Rattle.lfs_fs.specs.Held.{Held, IsReady, IsUnsavedIn, IsWritten, held_of, held_with, session_of, system_state_of, refused_by, EndsChecks, Checks, FailsBy, Answers}
+use Rattle.lfs_fs.specs.SessionView.{SessionView, IsReady, IsUnsavedIn, IsUnderWriter, session_view_of, session_view_with, session_of, system_state_of, refused_by, EndsChecks, Checks, FailsBy, Answers}
 use Rattle.lfs_fs.proofs.Failing.{reads_write_nothing, nothing_written, failed_system, healthy_system, asking_fails, broken_fails, memory_fails}
 use Rattle.lfs_fs.proofs.Calls.{still_called}
 use Rattle.lfs_fs.proofs.OpenReaders.{none_read, read_carried}
@@ -45,11 +45,11 @@ use Rattle.lfs_fs.proofs.OpenReaders.{none_read, read_carried}
 later : TreeState → List Event → CachedBlocks → TreeState
 later t events cache = record t { history = events ++ t.history; cache = cache }
 
-asked_later : (old new : TreeState) (asked : IsAsked old new) → new ≡ later old asked.reads.events new.cache
+asked_later : (old new : TreeState) (asked : WasOnlyRead old new) → new ≡ later old asked.reads.events new.cache
 unfolding later
 asked_later old new asked = asked.same ∙ ap (λ history. record old { history = history; cache = new.cache }) asked.reads.extends
 
-pub is_over : (t : TreeState) (files : Files) → IsSound t → IsOver t.disk t.pairs (record { tree = tree_view t; files = files }) (around_of t)
+pub is_over : (t : TreeState) (files : Files) → IsSound t → IsOver t.disk t.pairs (record { tree = tree_view t; files = files }) (surroundings_of t)
 is_over t files sound = record {
   accepted = sound.accepted;
   surrounds = record { block_size = refl; page = refl; block_count = refl; used = refl; gstate = refl; writable = (sound.fits, sound.is_kept) };
@@ -58,88 +58,88 @@ is_over t files sound = record {
 
 -- ---- a refusal
 
-pub refused_answer : (old : Held) (op : Operation) (refusal : Refusal) (tree : TreeState) → (old.tree.failed ≡ false → IsSound old.tree) → is_remount op ≡ false →
-    IsAsked old.tree tree → refused_by old op ≡ Some refusal → IsSessionStep (system_state_of old) op (ops.Refused refusal) (system_state_of (held_with tree old.files))
+pub refused_answer : (old : SessionView) (op : Operation) (refusal : Refusal) (tree : TreeState) → (old.tree.failed ≡ false → IsSound old.tree) → is_remount op ≡ false →
+    WasOnlyRead old.tree tree → refused_by old op ≡ Some refusal → IsSessionStep (system_state_of old) op (ops.Refused refusal) (system_state_of (session_view_with tree old.files))
 unfolding later
 refused_answer old op refusal tree sound other asked e = go old.tree.failed refl
   where
-    go : (b : Bool) → old.tree.failed ≡ b → IsSessionStep (system_state_of old) op (ops.Refused refusal) (system_state_of (held_with tree old.files))
+    go : (b : Bool) → old.tree.failed ≡ b → IsSessionStep (system_state_of old) op (ops.Refused refusal) (system_state_of (session_view_with tree old.files))
     go true f =
-        let is : Failed ≡ refusal = same_Some Failed refusal (sym (ap (λ b. cond b (Some Failed) (refusal_of (around_of old.tree) (session_of old) op)) f) ∙ e) in
-        subst (λ z. IsSessionStep (system_state_of old) op (ops.Refused z) (system_state_of (held_with tree old.files))) is
-        (subst (λ t. IsSessionStep (system_state_of old) op (ops.Refused Failed) (system_state_of (held_with t old.files))) (sym (asked.failed f))
-        (subst (λ m. IsSessionStep m op (ops.Refused Failed) m) (sym (failed_system old f)) (failed_step old.tree.disk (around_of old.tree) op old.tree.history other)))
+        let is : Failed ≡ refusal = same_Some Failed refusal (sym (ap (λ b. cond b (Some Failed) (refusal_of (surroundings_of old.tree) (session_of old) op)) f) ∙ e) in
+        subst (λ z. IsSessionStep (system_state_of old) op (ops.Refused z) (system_state_of (session_view_with tree old.files))) is
+        (subst (λ t. IsSessionStep (system_state_of old) op (ops.Refused Failed) (system_state_of (session_view_with t old.files))) (sym (asked.failed f))
+        (subst (λ m. IsSessionStep m op (ops.Refused Failed) m) (sym (failed_system old f)) (failed_step old.tree.disk (surroundings_of old.tree) op old.tree.history other)))
     go false f =
-        let is : refusal_of (around_of old.tree) (session_of old) op ≡ Some refusal = sym (ap (λ b. cond b (Some Failed) (refusal_of (around_of old.tree) (session_of old) op)) f) ∙ e in
-        let new = held_with (later old.tree asked.reads.events tree.cache) old.files in
-        subst (λ t. IsSessionStep (system_state_of old) op (ops.Refused refusal) (system_state_of (held_with t old.files))) (sym (asked_later old.tree tree asked))
+        let is : refusal_of (surroundings_of old.tree) (session_of old) op ≡ Some refusal = sym (ap (λ b. cond b (Some Failed) (refusal_of (surroundings_of old.tree) (session_of old) op)) f) ∙ e in
+        let new = session_view_with (later old.tree asked.reads.events tree.cache) old.files in
+        subst (λ t. IsSessionStep (system_state_of old) op (ops.Refused refusal) (system_state_of (session_view_with t old.files))) (sym (asked_later old.tree tree asked))
         (subst (λ m. IsSessionStep m op (ops.Refused refusal) (system_state_of new)) (sym (healthy_system old f))
         (subst (λ m. IsSessionStep (record { disk = old.tree.disk; calls = old.tree.history; state = Healthy (session_of old) }) op (ops.Refused refusal) m) (sym (healthy_system new f))
-        (refused_step old.tree.disk old.tree.pairs (session_of old) (around_of old.tree) op refusal asked.reads.events old.tree.history (is_over old.tree old.files (sound f)) other is (reads_write_nothing old.tree.disk.blocks asked.reads.events asked.reads.each))))
+        (refused_step old.tree.disk old.tree.pairs (session_of old) (surroundings_of old.tree) op refusal asked.reads.events old.tree.history (is_over old.tree old.files (sound f)) other is (reads_write_nothing old.tree.disk.blocks asked.reads.events asked.reads.each))))
 
 -- ---- an accepted operation
 
-pub not_failed : (h : Held) (op : Operation) → refused_by h op ≡ None → h.tree.failed ≡ false
+pub not_failed : (h : SessionView) (op : Operation) → refused_by h op ≡ None → h.tree.failed ≡ false
 not_failed h op e = go h.tree.failed refl
   where
     go : (b : Bool) → h.tree.failed ≡ b → h.tree.failed ≡ false
     go false f = f
-    go true f = absurd (let k : Some Failed ≡ None = sym (ap (λ b. cond b (Some Failed) (refusal_of (around_of h.tree) (session_of h) op)) f) ∙ e in cc)
+    go true f = absurd (let k : Some Failed ≡ None = sym (ap (λ b. cond b (Some Failed) (refusal_of (surroundings_of h.tree) (session_of h) op)) f) ∙ e in cc)
 
-pub not_refused : (h : Held) (op : Operation) → refused_by h op ≡ None → refusal_of (around_of h.tree) (session_of h) op ≡ None
-not_refused h op e = sym (ap (λ b. cond b (Some Failed) (refusal_of (around_of h.tree) (session_of h) op)) (not_failed h op e)) ∙ e
+pub not_refused : (h : SessionView) (op : Operation) → refused_by h op ≡ None → refusal_of (surroundings_of h.tree) (session_of h) op ≡ None
+not_refused h op e = sym (ap (λ b. cond b (Some Failed) (refusal_of (surroundings_of h.tree) (session_of h) op)) (not_failed h op e)) ∙ e
 
 -- by reads alone, where there is nothing to do
-pub idle_answer : (old : Held) (op : Operation) (tree : TreeState) (files : Files) → (old.tree.failed ≡ false → IsSound old.tree) → (asked : IsAsked old.tree tree) → refused_by old op ≡ None →
-    is_remount op ≡ false → (effect_of (around_of old.tree) (session_of old) op).1 ≡ record { tree = tree_view old.tree; files = files } →
+pub idle_answer : (old : SessionView) (op : Operation) (tree : TreeState) (files : Files) → (old.tree.failed ≡ false → IsSound old.tree) → (asked : WasOnlyRead old.tree tree) → refused_by old op ≡ None →
+    is_remount op ≡ false → (effect_of (surroundings_of old.tree) (session_of old) op).1 ≡ record { tree = tree_view old.tree; files = files } →
     recovers op ≡ false → lays_out (session_of old) op ≡ false → (needs_no_call (session_of old) op ≡ true → asked.reads.events ≡ []) →
-    IsSessionStep (system_state_of old) op (effect_of (around_of old.tree) (session_of old) op).0 (system_state_of (held_with tree files))
+    IsSessionStep (system_state_of old) op (effect_of (surroundings_of old.tree) (session_of old) op).0 (system_state_of (session_view_with tree files))
 unfolding later
 idle_answer old op tree files sound asked e other same none still silent =
     let works = not_failed old op e in
     let events = asked.reads.events in
-    let to = healthy_system (held_with (later old.tree events tree.cache) files) works
+    let to = healthy_system (session_view_with (later old.tree events tree.cache) files) works
     ∙ ap (λ (s : Session). record { disk = old.tree.disk; calls = events ++ old.tree.history; state = Healthy s }) (sym same) in
-    subst (λ t. IsSessionStep (system_state_of old) op (effect_of (around_of old.tree) (session_of old) op).0 (system_state_of (held_with t files))) (sym (asked_later old.tree tree asked))
-    (subst (λ m. IsSessionStep m op (effect_of (around_of old.tree) (session_of old) op).0 (system_state_of (held_with (later old.tree events tree.cache) files))) (sym (healthy_system old works))
-    (subst (λ m. IsSessionStep (record { disk = old.tree.disk; calls = old.tree.history; state = Healthy (session_of old) }) op (effect_of (around_of old.tree) (session_of old) op).0 m) (sym to)
-    (idle_step old.tree.disk old.tree.pairs (session_of old) (around_of old.tree) op events old.tree.history (is_over old.tree old.files (sound works)) (not_refused old op e) other
+    subst (λ t. IsSessionStep (system_state_of old) op (effect_of (surroundings_of old.tree) (session_of old) op).0 (system_state_of (session_view_with t files))) (sym (asked_later old.tree tree asked))
+    (subst (λ m. IsSessionStep m op (effect_of (surroundings_of old.tree) (session_of old) op).0 (system_state_of (session_view_with (later old.tree events tree.cache) files))) (sym (healthy_system old works))
+    (subst (λ m. IsSessionStep (record { disk = old.tree.disk; calls = old.tree.history; state = Healthy (session_of old) }) op (effect_of (surroundings_of old.tree) (session_of old) op).0 m) (sym to)
+    (idle_step old.tree.disk old.tree.pairs (session_of old) (surroundings_of old.tree) op events old.tree.history (is_over old.tree old.files (sound works)) (not_refused old op e) other
     (ap (λ (s : Session). s.tree) same) none still (reads_write_nothing old.tree.disk.blocks events asked.reads.each) silent)))
 
 -- by reads alone
-pub asked_answer : (old : Held) (op : Operation) (tree : TreeState) (files : Files) → (old.tree.failed ≡ false → IsSound old.tree) → (asked : IsAsked old.tree tree) → refused_by old op ≡ None →
-    is_remount op ≡ false → only_asks (session_of old) op ≡ true → (effect_of (around_of old.tree) (session_of old) op).1 ≡ record { tree = tree_view old.tree; files = files } →
+pub asked_answer : (old : SessionView) (op : Operation) (tree : TreeState) (files : Files) → (old.tree.failed ≡ false → IsSound old.tree) → (asked : WasOnlyRead old.tree tree) → refused_by old op ≡ None →
+    is_remount op ≡ false → only_asks (session_of old) op ≡ true → (effect_of (surroundings_of old.tree) (session_of old) op).1 ≡ record { tree = tree_view old.tree; files = files } →
     recovers op ≡ false → lays_out (session_of old) op ≡ false → (needs_no_call (session_of old) op ≡ true → asked.reads.events ≡ []) →
-    IsSessionStep (system_state_of old) op (effect_of (around_of old.tree) (session_of old) op).0 (system_state_of (held_with tree files))
+    IsSessionStep (system_state_of old) op (effect_of (surroundings_of old.tree) (session_of old) op).0 (system_state_of (session_view_with tree files))
 unfolding later
 asked_answer old op tree files sound asked e other asks same none still silent =
     let works = not_failed old op e in
     let events = asked.reads.events in
-    let to = healthy_system (held_with (later old.tree events tree.cache) files) works
+    let to = healthy_system (session_view_with (later old.tree events tree.cache) files) works
     ∙ ap (λ (s : Session). record { disk = old.tree.disk; calls = events ++ old.tree.history; state = Healthy s }) (sym same) in
-    subst (λ t. IsSessionStep (system_state_of old) op (effect_of (around_of old.tree) (session_of old) op).0 (system_state_of (held_with t files))) (sym (asked_later old.tree tree asked))
-    (subst (λ m. IsSessionStep m op (effect_of (around_of old.tree) (session_of old) op).0 (system_state_of (held_with (later old.tree events tree.cache) files))) (sym (healthy_system old works))
-    (subst (λ m. IsSessionStep (record { disk = old.tree.disk; calls = old.tree.history; state = Healthy (session_of old) }) op (effect_of (around_of old.tree) (session_of old) op).0 m) (sym to)
-    (asked_step old.tree.disk old.tree.pairs (session_of old) (around_of old.tree) op events old.tree.history (is_over old.tree old.files (sound works)) (not_refused old op e) other asks
+    subst (λ t. IsSessionStep (system_state_of old) op (effect_of (surroundings_of old.tree) (session_of old) op).0 (system_state_of (session_view_with t files))) (sym (asked_later old.tree tree asked))
+    (subst (λ m. IsSessionStep m op (effect_of (surroundings_of old.tree) (session_of old) op).0 (system_state_of (session_view_with (later old.tree events tree.cache) files))) (sym (healthy_system old works))
+    (subst (λ m. IsSessionStep (record { disk = old.tree.disk; calls = old.tree.history; state = Healthy (session_of old) }) op (effect_of (surroundings_of old.tree) (session_of old) op).0 m) (sym to)
+    (asked_step old.tree.disk old.tree.pairs (session_of old) (surroundings_of old.tree) op events old.tree.history (is_over old.tree old.files (sound works)) (not_refused old op e) other asks
     (ap (λ (s : Session). s.tree) same) none still (reads_write_nothing old.tree.disk.blocks events asked.reads.each) silent)))
 
 -- the tree carries it out
-pub carried_answer : (old : Held) (op : Operation) (mid new : TreeState) (files : Files) → (old.tree.failed ≡ false → IsSound old.tree) → IsAsked old.tree mid → refused_by old op ≡ None →
+pub carried_answer : (old : SessionView) (op : Operation) (mid new : TreeState) (files : Files) → (old.tree.failed ≡ false → IsSound old.tree) → WasOnlyRead old.tree mid → refused_by old op ≡ None →
     IsAppliedOn mid op new → is_remount op ≡ false → only_asks (session_of old) op ≡ false → fills op ≡ false → creates_nothing (session_of old) op ≡ false → needs_no_call (session_of old) op ≡ false →
-    (effect_of (around_of old.tree) (session_of old) op).1.files ≡ files →
-    IsSessionStep (system_state_of old) op (effect_of (around_of old.tree) (session_of old) op).0 (system_state_of (held_with new files))
+    (effect_of (surroundings_of old.tree) (session_of old) op).1.files ≡ files →
+    IsSessionStep (system_state_of old) op (effect_of (surroundings_of old.tree) (session_of old) op).0 (system_state_of (session_view_with new files))
 unfolding later
 carried_answer old op mid new files sound asked e carried other asks fill creates silent opened =
     let works = not_failed old op e in
     let events = asked.reads.events in
     let c = subst (λ t. IsAppliedOn t op new) (asked_later old.tree mid asked) carried in
-    let is : record { tree = tree_view new; files = files } ≡ (effect_of (around_of old.tree) (session_of old) op).1 = ap₂ (λ t f. record { tree = t; files = f }) (c.shows (around_of old.tree) old.files) (sym opened) in
-    let to = healthy_system (held_with new files) c.works
+    let is : record { tree = tree_view new; files = files } ≡ (effect_of (surroundings_of old.tree) (session_of old) op).1 = ap₂ (λ t f. record { tree = t; files = f }) (c.shows (surroundings_of old.tree) old.files) (sym opened) in
+    let to = healthy_system (session_view_with new files) c.works
     ∙ ap₂ (λ (calls : List Event) (s : Session). record { disk = new.disk; calls = calls; state = Healthy s }) (c.called ∙ sym (append_assoc c.calls events old.tree.history)) is in
     let writes = reads_write_nothing old.tree.disk.blocks events asked.reads.each in
-    subst (λ m. IsSessionStep m op (effect_of (around_of old.tree) (session_of old) op).0 (system_state_of (held_with new files))) (sym (healthy_system old works))
-    (subst (λ m. IsSessionStep (record { disk = old.tree.disk; calls = old.tree.history; state = Healthy (session_of old) }) op (effect_of (around_of old.tree) (session_of old) op).0 m) (sym to)
-    (completed_step old.tree.disk old.tree.pairs (session_of old) (around_of old.tree) op new.disk new.pairs (c.calls ++ events) old.tree.history (is_over old.tree old.files (sound works)) (not_refused old op e)
+    subst (λ m. IsSessionStep m op (effect_of (surroundings_of old.tree) (session_of old) op).0 (system_state_of (session_view_with new files))) (sym (healthy_system old works))
+    (subst (λ m. IsSessionStep (record { disk = old.tree.disk; calls = old.tree.history; state = Healthy (session_of old) }) op (effect_of (surroundings_of old.tree) (session_of old) op).0 m) (sym to)
+    (completed_step old.tree.disk old.tree.pairs (session_of old) (surroundings_of old.tree) op new.disk new.pairs (c.calls ++ events) old.tree.history (is_over old.tree old.files (sound works)) (not_refused old op e)
     (record {
       geometry = c.geometry;
       other = other;
@@ -155,20 +155,20 @@ carried_answer old op mid new files sound asked e carried other asks fill create
 -- ---- calls
 
 -- checks that ended in an error
-pub ended : (old : Held) (op : Operation) (e : Error) (tree : TreeState) → (old.tree.failed ≡ false → IsSound old.tree) → is_remount op ≡ false → EndsChecks (is_refusal e) old op e tree →
-    Answers old op (cond (is_refusal e) (Ok (ops.Refused (refusal_in e))) (Err e)) (held_with tree old.files)
+pub ended : (old : SessionView) (op : Operation) (e : Error) (tree : TreeState) → (old.tree.failed ≡ false → IsSound old.tree) → is_remount op ≡ false → EndsChecks (is_refusal e) old op e tree →
+    Answers old op (cond (is_refusal e) (Ok (ops.Refused (refusal_in e))) (Err e)) (session_view_with tree old.files)
 ended old op e tree sound other h = go (is_refusal e) h
   where
-    go : (b : Bool) → EndsChecks b old op e tree → Answers old op (cond b (Ok (ops.Refused (refusal_in e))) (Err e)) (held_with tree old.files)
+    go : (b : Bool) → EndsChecks b old op e tree → Answers old op (cond b (Ok (ops.Refused (refusal_in e))) (Err e)) (session_view_with tree old.files)
     go true k = refused_answer old op (refusal_in e) tree sound other k.0 k.1
     go false k = asking_fails e old op tree old.files k.1 k.0 k.2
 
 -- the same of a call that gives the error on
-pub ended_call : {B : Type 0} (old now : Held) (op : Operation) (reply : B → Reply) (e : Error) (tree : TreeState) (r : Result B Error) → old ≡ now → (old.tree.failed ≡ false → IsSound old.tree) →
-    is_remount op ≡ false → EndsChecks (is_refusal e) old op e tree → r ≡ Err e → Answers now op (reply_in reply r) (held_with tree old.files)
+pub ended_call : {B : Type 0} (old now : SessionView) (op : Operation) (reply : B → Reply) (e : Error) (tree : TreeState) (r : Result B Error) → old ≡ now → (old.tree.failed ≡ false → IsSound old.tree) →
+    is_remount op ≡ false → EndsChecks (is_refusal e) old op e tree → r ≡ Err e → Answers now op (reply_in reply r) (session_view_with tree old.files)
 ended_call old now op reply e tree r same sound other h is =
-    subst (λ z. Answers z op (reply_in reply r) (held_with tree old.files)) same
-    (subst (λ z. Answers old op (reply_in reply z) (held_with tree old.files)) (sym is) (ended old op e tree sound other h))
+    subst (λ z. Answers z op (reply_in reply r) (session_view_with tree old.files)) same
+    (subst (λ z. Answers old op (reply_in reply z) (session_view_with tree old.files)) (sym is) (ended old op e tree sound other h))
 
 -- ---- questions
 
@@ -209,15 +209,15 @@ question_lays_nothing s ops.UsedCount e = refl
 question_lays_nothing s _ e = absurd (cc)
 
 -- a question that reads alone answer
-pub question_answers : {A : Type 0} (old : Held) (op : Operation) (reply : A → Reply) (P : A → Type 0) (checked : Result A Error) (tree : TreeState) → (old.tree.failed ≡ false → IsSound old.tree) →
-    is_question op ≡ true → needs_no_call (session_of old) op ≡ false → ((x : A) → P x → reply x ≡ (effect_of (around_of old.tree) (session_of old) op).0) →
-    Checks old op P checked tree → Answers old op (reply_in reply checked) (held_with tree old.files)
+pub question_answers : {A : Type 0} (old : SessionView) (op : Operation) (reply : A → Reply) (P : A → Type 0) (checked : Result A Error) (tree : TreeState) → (old.tree.failed ≡ false → IsSound old.tree) →
+    is_question op ≡ true → needs_no_call (session_of old) op ≡ false → ((x : A) → P x → reply x ≡ (effect_of (surroundings_of old.tree) (session_of old) op).0) →
+    Checks old op P checked tree → Answers old op (reply_in reply checked) (session_view_with tree old.files)
 question_answers old op reply P (Err e) tree sound asks silent answer h = ended old op e tree sound (not_remount op asks) h
 question_answers old op reply P (Ok x) tree sound asks silent answer h =
-    subst (λ r. IsSessionStep (system_state_of old) op r (system_state_of (held_with tree old.files))) (sym (answer x h.2))
-    (asked_answer old op tree old.files sound h.0 h.1 (not_remount op asks) (question_only_asks (session_of old) op asks) (question_keeps (around_of old.tree) (session_of old) op asks) (question_recovers_nothing op asks) (question_lays_nothing (session_of old) op asks) (λ k. absurd (let l = sym silent ∙ k in cc)))
+    subst (λ r. IsSessionStep (system_state_of old) op r (system_state_of (session_view_with tree old.files))) (sym (answer x h.2))
+    (asked_answer old op tree old.files sound h.0 h.1 (not_remount op asks) (question_only_asks (session_of old) op asks) (question_keeps (surroundings_of old.tree) (session_of old) op asks) (question_recovers_nothing op asks) (question_lays_nothing (session_of old) op asks) (λ k. absurd (let l = sym silent ∙ k in cc)))
 
-pub sound_later : (old new : TreeState) → IsSound old → IsAsked old new → IsSound new
+pub sound_later : (old new : TreeState) → IsSound old → WasOnlyRead old new → IsSound new
 sound_later old new h asked =
     subst IsSound (sym asked.same) (again h)
   where
@@ -237,7 +237,7 @@ unsaved_later t history cache w (Some u) h = record {
   room = h.room;
 }
 
-written_later : (t : TreeState) (history : List Event) (cache : CachedBlocks) (ws : List Writer) → AllByRecursion (IsWritten t) ws → AllByRecursion (IsWritten (record t { history = history; cache = cache })) ws
+written_later : (t : TreeState) (history : List Event) (cache : CachedBlocks) (ws : List Writer) → AllByRecursion (IsUnderWriter t) ws → AllByRecursion (IsUnderWriter (record t { history = history; cache = cache })) ws
 written_later t history cache [] h = h
 written_later t history cache (w ∷ ws) h = (record { writable = h.0.writable; settled = h.0.settled; there = h.0.there; size = same w.unsaved (h.0.size); changed = unsaved_later t history cache w w.unsaved h.0.changed }, written_later t history cache ws h.1)
   where
@@ -245,7 +245,7 @@ written_later t history cache (w ∷ ws) h = (record { writable = h.0.writable; 
     same None e = e
     same (Some u) e = e
 
-pub ready_later : (old new : TreeState) (files : OpenFiles) → IsReady old files → IsAsked old new → IsReady new files
+pub ready_later : (old new : TreeState) (files : OpenFiles) → IsReady old files → WasOnlyRead old new → IsReady new files
 ready_later old new files h asked =
     subst (λ t. IsReady t files) (sym asked.same) (again h)
   where
@@ -259,44 +259,44 @@ ready_later old new files h asked =
       read = h.read;
     }
 
-pub asked_ready : (old new : TreeState) (files : OpenFiles) → (old.failed ≡ false → IsReady old files) → IsAsked old new → new.failed ≡ false → IsReady new files
+pub asked_ready : (old new : TreeState) (files : OpenFiles) → (old.failed ≡ false → IsReady old files) → WasOnlyRead old new → new.failed ≡ false → IsReady new files
 asked_ready old new files ready asked f = ready_later old new files (ready (sym (ap (λ (t : TreeState). t.failed) asked.same) ∙ f)) asked
 
 pub sound_by : (t : TreeState) (files : OpenFiles) → (t.failed ≡ false → IsReady t files) → t.failed ≡ false → IsSound t
 sound_by t files ready f = (ready f).sound
 
 -- the checks leave a tree that is ready, or a broken one
-pub checked_ready : {A : Type 0} (t : TreeState) (files : OpenFiles) (op : Operation) (P : A → Type 0) (r : Result A Error) (tree : TreeState) → (t.failed ≡ false → IsReady t files) → Checks (held_of t files) op P r tree →
+pub checked_ready : {A : Type 0} (t : TreeState) (files : OpenFiles) (op : Operation) (P : A → Type 0) (r : Result A Error) (tree : TreeState) → (t.failed ≡ false → IsReady t files) → Checks (session_view_of t files) op P r tree →
     tree.failed ≡ false → IsReady tree files
 checked_ready t files op P (Ok x) tree ready h f = asked_ready t tree files ready h.0 f
 checked_ready t files op P (Err e) tree ready h f = go (is_refusal e) h
   where
-    go : (b : Bool) → EndsChecks b (held_of t files) op e tree → IsReady tree files
+    go : (b : Bool) → EndsChecks b (session_view_of t files) op e tree → IsReady tree files
     go true k = asked_ready t tree files ready k.0 f
     go false k = absurd (let l = sym k.0.failed ∙ f in cc)
 
 -- ---- the open files over a tree that was only asked
 
 -- a session that failed has no files
-pub with_files : (old : Held) (op : Operation) (r : Result Reply Error) (tree : TreeState) (f g : Files) → (tree.failed ≡ false → f ≡ g) → Answers old op r (held_with tree f) → Answers old op r (held_with tree g)
+pub with_files : (old : SessionView) (op : Operation) (r : Result Reply Error) (tree : TreeState) (f g : Files) → (tree.failed ≡ false → f ≡ g) → Answers old op r (session_view_with tree f) → Answers old op r (session_view_with tree g)
 with_files old op r tree f g same h = go tree.failed refl
   where
-    moved : (r : Result Reply Error) → system_state_of (held_with tree f) ≡ system_state_of (held_with tree g) → Answers old op r (held_with tree f) → Answers old op r (held_with tree g)
+    moved : (r : Result Reply Error) → system_state_of (session_view_with tree f) ≡ system_state_of (session_view_with tree g) → Answers old op r (session_view_with tree f) → Answers old op r (session_view_with tree g)
     moved (Ok reply) e k = subst (λ m. IsSessionStep (system_state_of old) op reply m) e k
     moved (Err x) e k = subst (λ m. FailsBy x (system_state_of old) op m) e k
 
-    go : (b : Bool) → tree.failed ≡ b → Answers old op r (held_with tree g)
-    go false e = subst (λ z. Answers old op r (held_with tree z)) (same e) h
-    go true e = moved r (failed_system (held_with tree f) e ∙ sym (failed_system (held_with tree g) e)) h
+    go : (b : Bool) → tree.failed ≡ b → Answers old op r (session_view_with tree g)
+    go false e = subst (λ z. Answers old op r (session_view_with tree z)) (same e) h
+    go true e = moved r (failed_system (session_view_with tree f) e ∙ sym (failed_system (session_view_with tree g) e)) h
 
-pub files_asked : (old : Held) (op : Operation) (r : Result Reply Error) (t tree : TreeState) (files : OpenFiles) → (tree.failed ≡ false → IsAsked t tree) → Answers old op r (held_with tree (files_view t files)) → Answers old op r (held_of tree files)
+pub files_asked : (old : SessionView) (op : Operation) (r : Result Reply Error) (t tree : TreeState) (files : OpenFiles) → (tree.failed ≡ false → WasOnlyRead t tree) → Answers old op r (session_view_with tree (files_view t files)) → Answers old op r (session_view_of tree files)
 files_asked old op r t tree files asked h = with_files old op r tree (files_view t files) (files_view tree files) (λ e. sym (ap (λ z. files_view z files) (asked e).same)) h
 
-pub asked_by_checks : {A : Type 0} (t : TreeState) (files : OpenFiles) (op : Operation) (P : A → Type 0) (r : Result A Error) (tree : TreeState) → Checks (held_of t files) op P r tree → tree.failed ≡ false → IsAsked t tree
+pub asked_by_checks : {A : Type 0} (t : TreeState) (files : OpenFiles) (op : Operation) (P : A → Type 0) (r : Result A Error) (tree : TreeState) → Checks (session_view_of t files) op P r tree → tree.failed ≡ false → WasOnlyRead t tree
 asked_by_checks t files op P (Ok x) tree h f = h.0
 asked_by_checks t files op P (Err e) tree h f = go (is_refusal e) h
   where
-    go : (b : Bool) → EndsChecks b (held_of t files) op e tree → IsAsked t tree
+    go : (b : Bool) → EndsChecks b (session_view_of t files) op e tree → WasOnlyRead t tree
     go true k = k.0
     go false k = absurd (let l = sym k.0.failed ∙ f in cc)
 
@@ -305,45 +305,45 @@ no_refusal_io e (inl h) = ap is_refusal h
 no_refusal_io e (inr h) = ap is_refusal h
 
 -- an error that is no refusal
-pub error_answers : (old : Held) (op : Operation) (e : Error) (new : Held) (reply : Reply) → (e ≡ Io) ⊎ (e ≡ NoMemory) → FailsBy e (system_state_of old) op (system_state_of new) →
+pub error_answers : (old : SessionView) (op : Operation) (e : Error) (new : SessionView) (reply : Reply) → (e ≡ Io) ⊎ (e ≡ NoMemory) → FailsBy e (system_state_of old) op (system_state_of new) →
     Answers old op (cond (is_refusal e) (Ok reply) (Err e)) new
 error_answers old op e new reply is fails = subst (λ b. Answers old op (cond b (Ok reply) (Err e)) new) (sym (no_refusal_io e is)) fails
 
 -- an operation that the tree carries out once no check refuses it
-pub done_answers : (K : Type 0) (old now : Held) (op : Operation) (mid new : TreeState) (r : Result (Unit {0}) Error) → old ≡ now → (old.tree.failed ≡ false → IsSound old.tree) → IsAsked old.tree mid → refused_by old op ≡ None →
+pub done_answers : (K : Type 0) (old now : SessionView) (op : Operation) (mid new : TreeState) (r : Result (Unit {0}) Error) → old ≡ now → (old.tree.failed ≡ false → IsSound old.tree) → WasOnlyRead old.tree mid → refused_by old op ≡ None →
     is_remount op ≡ false → only_asks (session_of old) op ≡ false → fills op ≡ false → creates_nothing (session_of old) op ≡ false → needs_no_call (session_of old) op ≡ false →
-    (effect_of (around_of old.tree) (session_of old) op).0 ≡ ops.Done → (effect_of (around_of old.tree) (session_of old) op).1.files ≡ old.files → renames_to_itself op ≡ false → old.tree.writable ≡ true →
-    OnOk r K → (K → IsAppliedOn mid op new) → OnErr r (IsBroken mid new) → IfErr r (IsError mid new) → Answers now op (reply_in (λ u. ops.Done) r) (held_with new old.files)
+    (effect_of (surroundings_of old.tree) (session_of old) op).0 ≡ ops.Done → (effect_of (surroundings_of old.tree) (session_of old) op).1.files ≡ old.files → renames_to_itself op ≡ false → old.tree.writable ≡ true →
+    OnOk r K → (K → IsAppliedOn mid op new) → OnErr r (IsFailedTree mid new) → IfErr r (IsError mid new) → Answers now op (reply_in (λ u. ops.Done) r) (session_view_with new old.files)
 done_answers K old now op mid new r is sound asked e other asks fill creates silent done files itself writable carried from broken errors =
-    subst (λ h. Answers h op (reply_in (λ u. ops.Done) r) (held_with new old.files)) is (go r carried broken errors)
+    subst (λ h. Answers h op (reply_in (λ u. ops.Done) r) (session_view_with new old.files)) is (go r carried broken errors)
   where
-    go : (r : Result (Unit {0}) Error) → OnOk r K → OnErr r (IsBroken mid new) → IfErr r (IsError mid new) → Answers old op (reply_in (λ u. ops.Done) r) (held_with new old.files)
+    go : (r : Result (Unit {0}) Error) → OnOk r K → OnErr r (IsFailedTree mid new) → IfErr r (IsError mid new) → Answers old op (reply_in (λ u. ops.Done) r) (session_view_with new old.files)
     go (Ok u) k broken errors =
-        subst (λ r. IsSessionStep (system_state_of old) op r (system_state_of (held_with new old.files))) done (carried_answer old op mid new old.files sound asked e (from k) other asks fill creates silent files)
+        subst (λ r. IsSessionStep (system_state_of old) op r (system_state_of (session_view_with new old.files))) done (carried_answer old op mid new old.files sound asked e (from k) other asks fill creates silent files)
     go (Err error) k broken errors =
         error_answers old op error _ (ops.Refused (refusal_in error)) errors.errors (broken_fails error old op mid new old.files (not_failed old op e) other asks itself (sound (not_failed old op e)) writable asked broken errors)
 
 -- a question's call
-pub question_call : {A : Type 0} (old now : Held) (op : Operation) (reply : A → Reply) (P : A → Type 0) (checked : Result A Error) (tree : TreeState) → old ≡ now →
-    (old.tree.failed ≡ false → IsSound old.tree) → is_question op ≡ true → needs_no_call (session_of old) op ≡ false → ((x : A) → P x → reply x ≡ (effect_of (around_of old.tree) (session_of old) op).0) →
-    Checks old op P checked tree → Answers now op (reply_in reply checked) (held_with tree old.files)
+pub question_call : {A : Type 0} (old now : SessionView) (op : Operation) (reply : A → Reply) (P : A → Type 0) (checked : Result A Error) (tree : TreeState) → old ≡ now →
+    (old.tree.failed ≡ false → IsSound old.tree) → is_question op ≡ true → needs_no_call (session_of old) op ≡ false → ((x : A) → P x → reply x ≡ (effect_of (surroundings_of old.tree) (session_of old) op).0) →
+    Checks old op P checked tree → Answers now op (reply_in reply checked) (session_view_with tree old.files)
 question_call old now op reply P checked tree same sound asks silent answer h =
-    subst (λ z. Answers z op (reply_in reply checked) (held_with tree old.files)) same (question_answers old op reply P checked tree sound asks silent answer h)
+    subst (λ z. Answers z op (reply_in reply checked) (session_view_with tree old.files)) same (question_answers old op reply P checked tree sound asks silent answer h)
 
 -- an operation by reads alone that changes the open files
-pub files_answers : (old now : Held) (op : Operation) (tree : TreeState) (files : Files) (reply : Reply) → old ≡ now → (old.tree.failed ≡ false → IsSound old.tree) → IsAsked old.tree tree → refused_by old op ≡ None →
+pub files_answers : (old now : SessionView) (op : Operation) (tree : TreeState) (files : Files) (reply : Reply) → old ≡ now → (old.tree.failed ≡ false → IsSound old.tree) → WasOnlyRead old.tree tree → refused_by old op ≡ None →
     is_remount op ≡ false → only_asks (session_of old) op ≡ true → recovers op ≡ false → lays_out (session_of old) op ≡ false → needs_no_call (session_of old) op ≡ false →
-    effect_of (around_of old.tree) (session_of old) op ≡ (reply, record { tree = tree_view old.tree; files = files }) → Answers now op (Ok reply) (held_with tree files)
+    effect_of (surroundings_of old.tree) (session_of old) op ≡ (reply, record { tree = tree_view old.tree; files = files }) → Answers now op (Ok reply) (session_view_with tree files)
 files_answers old now op tree files reply same sound asked e other asks none still silent is =
-    subst (λ z. Answers z op (Ok reply) (held_with tree files)) same
-    (subst (λ r. IsSessionStep (system_state_of old) op r (system_state_of (held_with tree files))) (ap (λ (z : Reply × Session). z.0) is)
+    subst (λ z. Answers z op (Ok reply) (session_view_with tree files)) same
+    (subst (λ r. IsSessionStep (system_state_of old) op r (system_state_of (session_view_with tree files))) (ap (λ (z : Reply × Session). z.0) is)
     (asked_answer old op tree files sound asked e other asks (ap (λ (z : Reply × Session). z.1) is) none still (λ k. absurd (let l = sym silent ∙ k in cc))))
 
-abbrev pub nothing_asked : (t : TreeState) → IsAsked t t
+abbrev pub nothing_asked : (t : TreeState) → WasOnlyRead t t
 nothing_asked t = record { same = refl; failed = λ e. refl; reads = record { events = []; extends = refl; each = tt }; no_fault = refl }
 
 -- a refusal without a call
-pub ended_kept : {B : Type 0} (old now : Held) (op : Operation) (reply : B → Reply) (e : Error) (r : Result B Error) → old ≡ now → (old.tree.failed ≡ false → IsSound old.tree) →
+pub ended_kept : {B : Type 0} (old now : SessionView) (op : Operation) (reply : B → Reply) (e : Error) (r : Result B Error) → old ≡ now → (old.tree.failed ≡ false → IsSound old.tree) →
     is_remount op ≡ false → (is_refusal e ≡ true) × (refused_by old op ≡ Some (refusal_in e)) → r ≡ Err e → Answers now op (reply_in reply r) now
 ended_kept old now op reply e r same sound other h is =
     subst (λ z. Answers z op (reply_in reply r) z) same
@@ -351,16 +351,16 @@ ended_kept old now op reply e r same sound other h is =
     (ended old op e old.tree sound other (subst (λ b. EndsChecks b old op e old.tree) (sym h.0) (nothing_asked old.tree, h.1, λ k. refl))))
 
 -- an operation without a call that changes the open files
-pub files_kept : (old now : Held) (op : Operation) (files : Files) (reply : Reply) → old ≡ now → (old.tree.failed ≡ false → IsSound old.tree) → refused_by old op ≡ None →
+pub files_kept : (old now : SessionView) (op : Operation) (files : Files) (reply : Reply) → old ≡ now → (old.tree.failed ≡ false → IsSound old.tree) → refused_by old op ≡ None →
     is_remount op ≡ false → only_asks (session_of old) op ≡ true → recovers op ≡ false → lays_out (session_of old) op ≡ false → needs_no_call (session_of old) op ≡ false →
-    effect_of (around_of old.tree) (session_of old) op ≡ (reply, record { tree = tree_view old.tree; files = files }) → Answers now op (Ok reply) (held_with old.tree files)
+    effect_of (surroundings_of old.tree) (session_of old) op ≡ (reply, record { tree = tree_view old.tree; files = files }) → Answers now op (Ok reply) (session_view_with old.tree files)
 files_kept old now op files reply same sound e = files_answers old now op old.tree files reply same sound (nothing_asked old.tree) e
 
 -- a file opened for reading
-pub reader_answers : (old now : Held) (bytes : List ℕ) (flags : Flags) (tree : TreeState) (files : Files) (r : Result ℕ Error) → old ≡ now → (old.tree.failed ≡ false → IsSound old.tree) → flags.write ≡ false →
-    IsAsked old.tree tree → refused_by old (ops.Open bytes flags) ≡ None → is_none (tree_view old.tree (as_path bytes)) ≡ false →
+pub reader_answers : (old now : SessionView) (bytes : List ℕ) (flags : Flags) (tree : TreeState) (files : Files) (r : Result ℕ Error) → old ≡ now → (old.tree.failed ≡ false → IsSound old.tree) → flags.write ≡ false →
+    WasOnlyRead old.tree tree → refused_by old (ops.Open bytes flags) ≡ None → is_none (tree_view old.tree (as_path bytes)) ≡ false →
     false ≡ is_err r → IfOk r (λ fd. fd ≡ free_number old.files) → OnOk r (files ≡ put_file old.files (free_number old.files) (Some (Reading (record { path = as_path bytes; position = 0 })))) →
-    Answers now (ops.Open bytes flags) (reply_in ops.Opened r) (held_with tree files)
+    Answers now (ops.Open bytes flags) (reply_in ops.Opened r) (session_view_with tree files)
 reader_answers old now bytes flags tree files (Err e) same sound write asked e' there ok number added = absurd (cc)
 reader_answers old now bytes flags tree files (Ok fd) same sound write asked e there ok number added =
     files_answers old now (ops.Open bytes flags) tree files (ops.Opened fd) same sound asked e refl (ap not write) write write refl
@@ -374,31 +374,31 @@ reader_answers old now bytes flags tree files (Ok fd) same sound write asked e t
         ∙ ap (λ b. put_file old.files (free_number old.files) (Some (if b then Writing (opened_writer (as_path bytes) flags (bytes_at (tree_view old.tree (as_path bytes)))) else Reading (record { path = as_path bytes; position = 0 })))) (sym write)
 
 -- no memory is found for it
-pub reader_fails : (old now : Held) (bytes : List ℕ) (flags : Flags) (tree left : TreeState) (files : Files) (r : Result ℕ Error) → old ≡ now → IsAsked old.tree tree → refused_by old (ops.Open bytes flags) ≡ None →
-    true ≡ is_err r → IfErr r (λ e. e ≡ NoMemory) → left ≡ record tree { failed = true } → Answers now (ops.Open bytes flags) (reply_in ops.Opened r) (held_with left files)
+pub reader_fails : (old now : SessionView) (bytes : List ℕ) (flags : Flags) (tree left : TreeState) (files : Files) (r : Result ℕ Error) → old ≡ now → WasOnlyRead old.tree tree → refused_by old (ops.Open bytes flags) ≡ None →
+    true ≡ is_err r → IfErr r (λ e. e ≡ NoMemory) → left ≡ record tree { failed = true } → Answers now (ops.Open bytes flags) (reply_in ops.Opened r) (session_view_with left files)
 reader_fails old now bytes flags tree left files (Ok fd) same asked e ok error is = absurd (cc)
 reader_fails old now bytes flags tree left files (Err x) same asked e ok error is =
-    subst (λ z. Answers z (ops.Open bytes flags) (cond (is_refusal x) (Ok (ops.Refused (refusal_in x))) (Err x)) (held_with left files)) same
-    (subst (λ z. Answers old (ops.Open bytes flags) (cond (is_refusal z) (Ok (ops.Refused (refusal_in z))) (Err z)) (held_with left files)) (sym error)
-    (subst (λ t. FailsBy NoMemory (system_state_of old) (ops.Open bytes flags) (system_state_of (held_with t files))) (sym is)
+    subst (λ z. Answers z (ops.Open bytes flags) (cond (is_refusal x) (Ok (ops.Refused (refusal_in x))) (Err x)) (session_view_with left files)) same
+    (subst (λ z. Answers old (ops.Open bytes flags) (cond (is_refusal z) (Ok (ops.Refused (refusal_in z))) (Err z)) (session_view_with left files)) (sym error)
+    (subst (λ t. FailsBy NoMemory (system_state_of old) (ops.Open bytes flags) (system_state_of (session_view_with t files))) (sym is)
     (memory_fails old (ops.Open bytes flags) tree files (not_failed old (ops.Open bytes flags) e) asked)))
 
 pub few_readers : (n : ℕ) → nat_le 16 n ≡ false → n < 16
 few_readers n e = grind (arith, nat_tests)
 
 -- an operation that makes no call and leaves the tree
-pub kept_answer : (old now : Held) (op : Operation) (files : Files) (reply : Reply) → old ≡ now → (old.tree.failed ≡ false → IsSound old.tree) → refused_by old op ≡ None →
+pub kept_answer : (old now : SessionView) (op : Operation) (files : Files) (reply : Reply) → old ≡ now → (old.tree.failed ≡ false → IsSound old.tree) → refused_by old op ≡ None →
     is_remount op ≡ false → recovers op ≡ false → lays_out (session_of old) op ≡ false →
-    effect_of (around_of old.tree) (session_of old) op ≡ (reply, record { tree = tree_view old.tree; files = files }) → Answers now op (Ok reply) (held_with old.tree files)
+    effect_of (surroundings_of old.tree) (session_of old) op ≡ (reply, record { tree = tree_view old.tree; files = files }) → Answers now op (Ok reply) (session_view_with old.tree files)
 kept_answer old now op files reply same sound e other none still is =
     let works = not_failed old op e in
-    let to = healthy_system (held_with old.tree files) works
+    let to = healthy_system (session_view_with old.tree files) works
     ∙ ap (λ (s : Session). record { disk = old.tree.disk; calls = old.tree.history; state = Healthy s }) (sym (ap (λ (z : Reply × Session). z.1) is)) in
-    subst (λ z. Answers z op (Ok reply) (held_with old.tree files)) same
-    (subst (λ r. IsSessionStep (system_state_of old) op r (system_state_of (held_with old.tree files))) (ap (λ (z : Reply × Session). z.0) is)
-    (subst (λ m. IsSessionStep m op (effect_of (around_of old.tree) (session_of old) op).0 (system_state_of (held_with old.tree files))) (sym (healthy_system old works))
-    (subst (λ m. IsSessionStep (record { disk = old.tree.disk; calls = old.tree.history; state = Healthy (session_of old) }) op (effect_of (around_of old.tree) (session_of old) op).0 m) (sym to)
-    (idle_step old.tree.disk old.tree.pairs (session_of old) (around_of old.tree) op [] old.tree.history (is_over old.tree old.files (sound works)) (not_refused old op e) other
+    subst (λ z. Answers z op (Ok reply) (session_view_with old.tree files)) same
+    (subst (λ r. IsSessionStep (system_state_of old) op r (system_state_of (session_view_with old.tree files))) (ap (λ (z : Reply × Session). z.0) is)
+    (subst (λ m. IsSessionStep m op (effect_of (surroundings_of old.tree) (session_of old) op).0 (system_state_of (session_view_with old.tree files))) (sym (healthy_system old works))
+    (subst (λ m. IsSessionStep (record { disk = old.tree.disk; calls = old.tree.history; state = Healthy (session_of old) }) op (effect_of (surroundings_of old.tree) (session_of old) op).0 m) (sym to)
+    (idle_step old.tree.disk old.tree.pairs (session_of old) (surroundings_of old.tree) op [] old.tree.history (is_over old.tree old.files (sound works)) (not_refused old op e) other
     (ap (λ (z : Reply × Session). z.1.tree) is) none still (refl, refl) (λ k. refl)))))
 
 -- ---- files while the tree changes
@@ -411,7 +411,7 @@ unsaved_none : (u : Option Unsaved) (b : Bool) → (is_some u || b) ≡ false �
 unsaved_none None b e = (refl, e)
 unsaved_none (Some u) b e = absurd (cc)
 
-pub keeps_writers : (t s : TreeState) (ws : List Writer) → KeepsFiles t s → AllByRecursion (IsWritten t) ws → KeepsWriters t s ws
+pub keeps_writers : (t s : TreeState) (ws : List Writer) → KeepsFiles t s → AllByRecursion (IsUnderWriter t) ws → KeepsWriters t s ws
 keeps_writers t s [] keeps h = tt
 keeps_writers t s (w ∷ ws) keeps h = (keeps w.path h.0.there, keeps_writers t s ws keeps h.1)
 
@@ -427,7 +427,7 @@ kept_files t s (Some (file.Writing w) ∷ fs) e k =
     one u n = rw n (ap (λ (bytes : List ℕ). record { path = w.path; contents = bytes; position = w.position; append = w.appends; dirty = false; turned = false; last_end = None }) (sym k.0.1))
 
 written_still : (t s : TreeState) (ws : List Writer) → list_any (λ w. is_some w.unsaved) ws ≡ false → s.writable ≡ true → gstate_of s.pairs ≡ no_gstate → KeepsWriters t s ws →
-    AllByRecursion (IsWritten t) ws → AllByRecursion (IsWritten s) ws
+    AllByRecursion (IsUnderWriter t) ws → AllByRecursion (IsUnderWriter s) ws
 written_still t s [] e writable settled k h = tt
 written_still t s (w ∷ ws) e writable settled k h =
     let u = unsaved_none w.unsaved (list_any (λ w. is_some w.unsaved) ws) e in
@@ -451,7 +451,7 @@ carried_ready old new files op off ready e keeps carried = record {
     never b h = let k = in_flight-freed old.map b h in let none = ready.idle e in absurd (omega (arith, k, none))
 
 -- what an operation spares, it does later
-spares_later : (old new : TreeState) (op : Operation) (files : OpenFiles) → IsAsked old new → SparesFiles old op files → SparesFiles new op files
+spares_later : (old new : TreeState) (op : Operation) (files : OpenFiles) → WasOnlyRead old new → SparesFiles old op files → SparesFiles new op files
 spares_later old new op files asked h =
     subst (λ t. SparesFiles t op files) (sym asked.same) (again h)
   where
@@ -459,10 +459,10 @@ spares_later old new op files asked h =
     again h = record { apart = h.apart; unread = h.unread; room = h.room }
 
 -- what an operation leaves once no check refuses it
-pub done_left : (K : Type 0) (old mid new : TreeState) (files : OpenFiles) (op : Operation) (r : Result (Unit {0}) Error) → FilesStay → (old.failed ≡ false → IsReady old files) → IsAsked old mid → refused_by (held_of old files) op ≡ None →
-    (IsReady old files → SparesFiles old op files) → (IsReady mid files → IsAppliedOn mid op new → KeepsWriters mid new (writers_in files)) → OnOk r K → (K → IsAppliedOn mid op new) → OnErr r (IsBroken mid new) → new.failed ≡ false → AreLeft old new files
+pub done_left : (K : Type 0) (old mid new : TreeState) (files : OpenFiles) (op : Operation) (r : Result (Unit {0}) Error) → FilesStay → (old.failed ≡ false → IsReady old files) → WasOnlyRead old mid → refused_by (session_view_of old files) op ≡ None →
+    (IsReady old files → SparesFiles old op files) → (IsReady mid files → IsAppliedOn mid op new → KeepsWriters mid new (writers_in files)) → OnOk r K → (K → IsAppliedOn mid op new) → OnErr r (IsFailedTree mid new) → new.failed ≡ false → FilesAreReady old new files
 done_left K old mid new files op (Ok u) stay ready asked e spares keeps k carried broken works =
-    let was = ready (not_failed (held_of old files) op e) in
+    let was = ready (not_failed (session_view_of old files) op e) in
     let now = ready_later old mid files was asked in
     let left = stay mid new op files now (spares_later old mid op files asked (spares was)) (keeps now (carried k)) (carried k) in
     record { ready = left.ready; same = sym (ap (λ z. files_view z files) asked.same) ∙ left.same }

@@ -9,26 +9,26 @@ use Rattle.lfs_model.specs.Slots.{no_gstate}
 use Rattle.lfs_model.specs.Thread.{gstate_of}
 use Rattle.lfs_model.specs.Session as session
 use Rattle.lfs_model.specs.Writers.{opened_writer}
-use Rattle.lfs_model.specs.Effects.{size_of}
+use Rattle.lfs_model.specs.Effects.{node_size}
 use Rattle.lfs_model.specs.Tree.{Node, FileNode, DirectoryNode, Path}
-use Rattle.lfs_tree.specs.OpenContents.{IsOver, IsSettleable, bytes_held, kept_of}
-use Rattle.lfs_tree.specs.TreeState.{IsAppliedOn, TreeState, around_of, tree_view}
+use Rattle.lfs_tree.specs.OpenContents.{IsOver, FitsInlineLimit, bytes_held, kept_of}
+use Rattle.lfs_tree.specs.TreeState.{IsAppliedOn, TreeState, surroundings_of, tree_view}
 use Rattle.lfs_writer.specs.Contents.{form_of}
 use Rattle.lfs_writer.specs.Form as shape_of
 use Rattle.lfs_writer.specs.Form.{IsWriterForm}
 use Rattle.lfs_writer.specs.declared.contents.Contents.{Contents}
-use Rattle.lfs_fs.specs.Changing.{CanBegin, IsBegunAs}
+use Rattle.lfs_fs.specs.WriterChanges.{CanOpenWriter, IsOpenedAs}
 use Rattle.lfs_fs.specs.FileView.{held_for}
 use Rattle.lfs_fs.specs.declared.files.Writer.{Writer}
 use Rattle.lfs_model.proofs.Paths.{path_itself}
-use Rattle.lfs_model.specs.TreeEdits.{added, change_at, last_name, parent_of, with_name, with_names}
+use Rattle.lfs_model.specs.TreeEdits.{tree_with_node, change_at, last_name, parent_of, with_name, with_names}
 use Rattle.lfs_model.specs.Operations as ops
 use Rattle.lfs_model.specs.Refusals.{as_path}
 use Rattle.lfs_model.specs.Tree.{Tree}
-use Rattle.lfs_tree.specs.Allowed.{CanCreate}
+use Rattle.lfs_tree.specs.Permissions.{CanCreate}
 use Rattle.std.specs.Prelude.{is_none, is_some, if◌then◌else◌}
 
-file_there : (n : Option Node) (size : ℕ) → size_of n ≡ Some size → (is_file n ≡ true) × (length (bytes_at n) ≡ size)
+file_there : (n : Option Node) (size : ℕ) → node_size n ≡ Some size → (is_file n ≡ true) × (length (bytes_at n) ≡ size)
 file_there None size e = absurd (cc)
 file_there (Some (FileNode attributes bytes)) size e = (refl, ap or_else e)
   where
@@ -37,22 +37,22 @@ file_there (Some (FileNode attributes bytes)) size e = (refl, ap or_else e)
     or_else (Some z) = z
 file_there (Some (DirectoryNode attributes names)) size e = absurd (cc)
 
-pub is_file_there : (t : TreeState) (path : Path) (size : ℕ) (truncates : Bool) → CanBegin t path size truncates → is_file (tree_view t path) ≡ true
+pub is_file_there : (t : TreeState) (path : Path) (size : ℕ) (truncates : Bool) → CanOpenWriter t path size truncates → is_file (tree_view t path) ≡ true
 is_file_there t path size truncates can = (file_there (tree_view t path) size can.there).0
 
 -- The file is there in an image of which nothing is to be recovered, with room for two blocks where it is to be written anew.
 pub record IsAtRest (t : TreeState) (path : Path) (size : ℕ) (truncates : Bool) : Type 0 where
   pub writable : t.writable ≡ true
   pub settled : gstate_of t.pairs ≡ no_gstate
-  pub there : size_of (tree_view t path) ≡ Some size
-  pub room : truncates ≡ true → 1 ≤ size → length (around_of t).used + 2 ≤ block_count t.disk
+  pub there : node_size (tree_view t path) ≡ Some size
+  pub room : truncates ≡ true → 1 ≤ size → length (surroundings_of t).used + 2 ≤ block_count t.disk
 
 -- so it is once the image is recovered, which takes no block
-pub at_rest : (t new : TreeState) (path : Path) (size : ℕ) (truncates : Bool) → CanBegin t path size truncates → IsAppliedOn t ops.Recover new → length (around_of new).used ≤ length (around_of t).used + 0 → IsAtRest new path size truncates
+pub at_rest : (t new : TreeState) (path : Path) (size : ℕ) (truncates : Bool) → CanOpenWriter t path size truncates → IsAppliedOn t ops.Recover new → length (surroundings_of new).used ≤ length (surroundings_of t).used + 0 → IsAtRest new path size truncates
 at_rest t new path size truncates can carried few = record {
   writable = carried.writable;
   settled = carried.recovered.gstate;
-  there = ap (λ (z : Tree). size_of (z path)) (carried.shows (around_of t) []) ∙ can.there;
+  there = ap (λ (z : Tree). node_size (z path)) (carried.shows (surroundings_of t) []) ∙ can.there;
   room = λ e some. let k = can.room e some in let g = carried.geometry.count in omega (arith, k, few, g);
 }
 
@@ -62,7 +62,7 @@ no_elements (x ∷ xs) e = absurd (let k = sym (lt-ltb 0 (length (x ∷ xs)) (om
 
 -- one with the bytes of the file
 pub begun_clean : (t : TreeState) (path : Path) (size : ℕ) (flags : Flags) → IsAtRest t path size flags.truncate → (flags.truncate && nat_lt 0 size) ≡ false →
-    IsBegunAs t (opened_writer path flags (bytes_at (tree_view t path))) (record { path = path; position = 0; size = size; appends = flags.append; unsaved = None })
+    IsOpenedAs t (opened_writer path flags (bytes_at (tree_view t path))) (record { path = path; position = 0; size = size; appends = flags.append; unsaved = None })
 begun_clean t path size flags can none = record {
   seen = seen flags.truncate none;
   written = record { writable = can.writable; settled = can.settled; there = file.0; size = file.1; changed = tt };
@@ -82,7 +82,7 @@ begun_clean t path size flags can none = record {
 
 -- one without bytes, where the file has some
 pub begun_anew : (t : TreeState) (path : Path) (size : ℕ) (flags : Flags) (c : Contents) → IsAtRest t path size flags.truncate → flags.truncate ≡ true → 1 ≤ size → IsOver t path c → bytes_held (kept_of t) c ≡ [] → form_of c ≡ shape_of.InMemory 0 →
-    IsBegunAs t (opened_writer path flags (bytes_at (tree_view t path))) (record { path = path; position = 0; size = 0; appends = flags.append; unsaved = Some (record { contents = c; has_turned = false; last_end = None }) })
+    IsOpenedAs t (opened_writer path flags (bytes_at (tree_view t path))) (record { path = path; position = 0; size = 0; appends = flags.append; unsaved = Some (record { contents = c; has_turned = false; last_end = None }) })
 begun_anew t path size flags c can truncates some over none shape = record {
   seen = seen;
   written = record {
@@ -93,8 +93,8 @@ begun_anew t path size flags c can truncates some over none shape = record {
     changed = record {
       over = over;
       kept = subst (λ f. IsWriterForm t.disk.block_size f (made (bytes_held (kept_of t) c) true)) (sym shape) kept;
-      form = subst (IsSettleable (inline_limit t.disk.block_size)) (sym shape) (omega arith);
-      room = subst (λ n. length (around_of t).used + n ≤ block_count t.disk) (sym two) (can.room truncates some);
+      form = subst (FitsInlineLimit (inline_limit t.disk.block_size)) (sym shape) (omega arith);
+      room = subst (λ n. length (surroundings_of t).used + n ≤ block_count t.disk) (sym two) (can.room truncates some);
     };
   };
 }
@@ -122,20 +122,20 @@ begun_anew t path size flags c can truncates some over none shape = record {
 
 -- ---- once the image is recovered
 
-pub begun_as_is : (t new : TreeState) (path : Path) (size : ℕ) (flags : Flags) (appends : Bool) → CanBegin t path size flags.truncate → IsAppliedOn t ops.Recover new → length (around_of new).used ≤ length (around_of t).used + 0 →
+pub begun_as_is : (t new : TreeState) (path : Path) (size : ℕ) (flags : Flags) (appends : Bool) → CanOpenWriter t path size flags.truncate → IsAppliedOn t ops.Recover new → length (surroundings_of new).used ≤ length (surroundings_of t).used + 0 →
     (flags.truncate && nat_lt 0 size) ≡ false → appends ≡ flags.append →
-    IsBegunAs new (opened_writer path flags (bytes_at (tree_view t path))) (record { path = path; position = 0; size = size; appends = appends; unsaved = None })
+    IsOpenedAs new (opened_writer path flags (bytes_at (tree_view t path))) (record { path = path; position = 0; size = size; appends = appends; unsaved = None })
 begun_as_is t new path size flags appends can carried few none are =
-    subst (λ (z : Tree). IsBegunAs new (opened_writer path flags (bytes_at (z path))) (record { path = path; position = 0; size = size; appends = appends; unsaved = None })) (carried.shows (around_of t) [])
-    (subst (λ b. IsBegunAs new (opened_writer path flags (bytes_at (tree_view new path))) (record { path = path; position = 0; size = size; appends = b; unsaved = None })) (sym are)
+    subst (λ (z : Tree). IsOpenedAs new (opened_writer path flags (bytes_at (z path))) (record { path = path; position = 0; size = size; appends = appends; unsaved = None })) (carried.shows (surroundings_of t) [])
+    (subst (λ b. IsOpenedAs new (opened_writer path flags (bytes_at (tree_view new path))) (record { path = path; position = 0; size = size; appends = b; unsaved = None })) (sym are)
     (begun_clean new path size flags (at_rest t new path size flags.truncate can carried few) none))
 
-pub begun_empty : (t new : TreeState) (path : Path) (size : ℕ) (flags : Flags) (appends : Bool) (c : Contents) → CanBegin t path size flags.truncate → IsAppliedOn t ops.Recover new → length (around_of new).used ≤ length (around_of t).used + 0 →
+pub begun_empty : (t new : TreeState) (path : Path) (size : ℕ) (flags : Flags) (appends : Bool) (c : Contents) → CanOpenWriter t path size flags.truncate → IsAppliedOn t ops.Recover new → length (surroundings_of new).used ≤ length (surroundings_of t).used + 0 →
     flags.truncate ≡ true → 1 ≤ size → appends ≡ flags.append → IsOver new path c → bytes_held (kept_of new) c ≡ bytes_held (kept_of t) c → bytes_held (kept_of t) c ≡ [] → form_of c ≡ shape_of.InMemory 0 →
-    IsBegunAs new (opened_writer path flags (bytes_at (tree_view t path))) (record { path = path; position = 0; size = 0; appends = appends; unsaved = Some (record { contents = c; has_turned = false; last_end = None }) })
+    IsOpenedAs new (opened_writer path flags (bytes_at (tree_view t path))) (record { path = path; position = 0; size = 0; appends = appends; unsaved = Some (record { contents = c; has_turned = false; last_end = None }) })
 begun_empty t new path size flags appends c can carried few truncates some are over same none shape =
-    subst (λ (z : Tree). IsBegunAs new (opened_writer path flags (bytes_at (z path))) (begun appends)) (carried.shows (around_of t) [])
-    (subst (λ b. IsBegunAs new (opened_writer path flags (bytes_at (tree_view new path))) (begun b)) (sym are)
+    subst (λ (z : Tree). IsOpenedAs new (opened_writer path flags (bytes_at (z path))) (begun appends)) (carried.shows (surroundings_of t) [])
+    (subst (λ b. IsOpenedAs new (opened_writer path flags (bytes_at (tree_view new path))) (begun b)) (sym are)
     (begun_anew new path size flags c (at_rest t new path size flags.truncate can carried few) truncates some over (same ∙ none) shape))
   where
     begun : Bool → Writer
@@ -144,8 +144,8 @@ begun_empty t new path size flags appends c can carried few truncates some are o
 -- a file that is made is empty
 made_node : (t new : TreeState) (bytes : List ℕ) (flags : Flags) (path : Path) → as_path bytes ≡ path → CanCreate t path → IsAppliedOn t (ops.Open bytes flags) new → tree_view new path ≡ Some (FileNode [] [])
 made_node t new bytes flags path is can carried =
-    ap (λ (z : Tree). z path) (carried.shows (around_of t) [] ∙ ap (λ p. if is_none (tree_view t p) then added p (FileNode [] []) (tree_view t) else tree_view t) is)
-    ∙ ap (λ b. (if b then added path (FileNode [] []) (tree_view t) else tree_view t) path) (nothing (tree_view t path) can.nothing)
+    ap (λ (z : Tree). z path) (carried.shows (surroundings_of t) [] ∙ ap (λ p. if is_none (tree_view t p) then tree_with_node p (FileNode [] []) (tree_view t) else tree_view t) is)
+    ∙ ap (λ b. (if b then tree_with_node path (FileNode [] []) (tree_view t) else tree_view t) path) (nothing (tree_view t path) can.nothing)
     ∙ ap (λ b. if b then Some (FileNode [] []) else change_at (parent_of path) (with_names (with_name (last_name path))) (tree_view t) path) (path_itself path)
   where
     nothing : (n : Option Node) → is_some n ≡ false → is_none n ≡ true
@@ -161,7 +161,7 @@ no_bytes true xs e = e
 no_bytes false xs e = e
 
 pub begun_made : (t new : TreeState) (bytes : List ℕ) (given : Flags) (path : Path) (flags : Flags) (appends : Bool) → as_path bytes ≡ path → CanCreate t path → IsAppliedOn t (ops.Open bytes given) new → appends ≡ flags.append →
-    IsBegunAs new (opened_writer path flags []) (record { path = path; position = 0; size = 0; appends = appends; unsaved = None })
+    IsOpenedAs new (opened_writer path flags []) (record { path = path; position = 0; size = 0; appends = appends; unsaved = None })
 begun_made t new bytes given path flags appends is can carried appends_is = record {
   seen = ap₂ (λ xs b. made xs b false) (ap bytes_at node) appends_is ∙ ap₂ (λ xs d. made xs flags.append d) (no_bytes flags.truncate [] refl) (none_dirty flags.truncate);
   written = record {

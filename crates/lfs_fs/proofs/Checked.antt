@@ -9,20 +9,20 @@ use Rattle.lfs_model.specs.Tree.{Path}
 use Rattle.lfs_model.specs.TreeEdits.{is_file, last_name, same_path}
 use Rattle.lfs_model.specs.Operations as ops
 use Rattle.lfs_model.specs.Operations.{Operation, Refusal, Flags, path_of}
-use Rattle.lfs_model.specs.Session.{is_allowed, is_long, parent_fault, readers, writers, first_of, refuse_if, is_overcharged, lacks, held}
+use Rattle.lfs_model.specs.Session.{is_allowed, is_long, parent_fault, readers, writers, first_of, refuse_if, is_overcharged, lacks, blocks_held_by_all}
 use Rattle.lfs_model.specs.Refusals.{as_path, refusal_of}
-use Rattle.lfs_model.specs.Effects.{size_of}
+use Rattle.lfs_model.specs.Effects.{node_size}
 use Rattle.lfs_device.specs.declared.error.Error.{Error}
 use Rattle.lfs_lookup.specs.Refusals.{error_for, refusal_in}
-use Rattle.lfs_fs.specs.Replies.{passed_with}
-use Rattle.lfs_tree.specs.TreeState.{TreeState, tree_view, around_of, IsAsked, IsBrokenAsking, IsError}
-use Rattle.lfs_tree.specs.Allowed.{CanMake}
+use Rattle.lfs_fs.specs.Replies.{value_unless_refused}
+use Rattle.lfs_tree.specs.TreeState.{TreeState, tree_view, surroundings_of, WasOnlyRead, FailsInRead, IsError}
+use Rattle.lfs_tree.specs.Permissions.{CanMakeDirectory}
 use Rattle.lfs_model.specs.BlockSets.{in_flight_count}
 use Rattle.lfs_lookup.specs.FileContents.{AreContentsAt}
 use Rattle.lfs_lookup.specs.Finds.{Finds, is_absent, is_directory_node, is_file_node, size_in}
-use Rattle.lfs_fs.specs.Held.{Held, session_of, IsReadableAs, refused_by, ComesLate, EndsChecks, Checks}
+use Rattle.lfs_fs.specs.SessionView.{SessionView, session_of, IsReadableAs, refused_by, PassesFirstChecks, EndsChecks, Checks}
 use Rattle.lfs_lookup.specs.declared.file_contents.FileContents.{FileContents}
-use Rattle.lfs_lookup.specs.declared.found_entries.Finding.{Finding}
+use Rattle.lfs_lookup.specs.declared.found_entries.FoundNode.{FoundNode}
 use Rattle.lfs_lookup.specs.declared.found_entries.Node.{Node}
 use Rattle.lfs_lookup.specs.declared.found_entries.Node.TheVariants as node
 use Rattle.lfs_fs.proofs.Answered.{not_failed, not_refused, no_refusal_io}
@@ -30,15 +30,15 @@ use Rattle.lfs_fs.proofs.Errors.{error_refuses, refusal_again}
 use Rattle.lfs_fs.proofs.Late.{mkdir_late, reader_late, stat_late}
 
 -- a call failed on the way
-pub lookup_failed : {A : Type 0} (h : Held) (op : Operation) (P : A → Type 0) (e : Error) (tree : TreeState) (r : Result A Error) → false ≡ h.tree.failed → IsBrokenAsking h.tree tree → IsError h.tree tree e →
-    ComesLate h op → r ≡ Err e → Checks h op P r tree
+pub lookup_failed : {A : Type 0} (h : SessionView) (op : Operation) (P : A → Type 0) (e : Error) (tree : TreeState) (r : Result A Error) → false ≡ h.tree.failed → FailsInRead h.tree tree → IsError h.tree tree e →
+    PassesFirstChecks h op → r ≡ Err e → Checks h op P r tree
 lookup_failed h op P e tree r works broken error late is =
     subst (λ z. Checks h op P z tree) (sym is)
     (subst (λ b. EndsChecks b h op e tree) (sym (no_refusal_io e error.errors)) (broken, sym works, error, late))
 
 -- the last checks decide
-pub decided : {A : Type 0} (h : Held) (op : Operation) (P : A → Type 0) (x : A) (first : Option Refusal) (tree : TreeState) (r : Result A Error) → IsAsked h.tree tree → ComesLate h op → refused_by h op ≡ first → (first ≡ None → P x) →
-    r ≡ passed_with first x → Checks h op P r tree
+pub decided : {A : Type 0} (h : SessionView) (op : Operation) (P : A → Type 0) (x : A) (first : Option Refusal) (tree : TreeState) (r : Result A Error) → WasOnlyRead h.tree tree → PassesFirstChecks h op → refused_by h op ≡ first → (first ≡ None → P x) →
+    r ≡ value_unless_refused first x → Checks h op P r tree
 decided h op P x None tree r asked late e p is = subst (λ z. Checks h op P z tree) (sym is) (asked, e, p refl)
 decided h op P x (Some refusal) tree r asked late e p is =
     subst (λ z. Checks h op P z tree) (sym is)
@@ -57,44 +57,44 @@ pub there : {A : Type 0} → (o : Option A) → is_some o ≡ not (is_none o)
 there None = refl
 there (Some x) = refl
 
-stat_refused : (h : Held) (bytes : List ℕ) (p : Path) (found : Finding) → h.tree.failed ≡ false → path_of bytes ≡ Some p → Finds (tree_view h.tree) p found →
+stat_refused : (h : SessionView) (bytes : List ℕ) (p : Path) (found : FoundNode) → h.tree.failed ≡ false → path_of bytes ≡ Some p → Finds (tree_view h.tree) p found →
     refused_by h (ops.Stat bytes) ≡ first_of (found.fault ∷ refuse_if (is_absent found.node) ops.NoEnt ∷ [])
 stat_refused h bytes p found works is f = rw (works, is, f.parents, f.nothing) refl
 
-size_found : (h : Held) (bytes : List ℕ) (p : Path) (found : Finding) → path_of bytes ≡ Some p → Finds (tree_view h.tree) p found → size_of (tree_view h.tree (as_path bytes)) ≡ size_in found.node
-size_found h bytes p found is f = ap (λ z. size_of (tree_view h.tree (unwrap_or z []))) is ∙ f.sizes
+size_found : (h : SessionView) (bytes : List ℕ) (p : Path) (found : FoundNode) → path_of bytes ≡ Some p → Finds (tree_view h.tree) p found → node_size (tree_view h.tree (as_path bytes)) ≡ size_in found.node
+size_found h bytes p found is f = ap (λ z. node_size (tree_view h.tree (unwrap_or z []))) is ∙ f.sizes
 
-pub stat_checked : {A : Type 0} (view : A → Option ℕ) (h : Held) (bytes : List ℕ) (p : Path) (found : Finding) (tree : TreeState) (absent : Bool) (a : Option Refusal) (x : A) (r : Result A Error) →
-    false ≡ h.tree.failed → Some p ≡ path_of bytes → IsAsked h.tree tree → Finds (tree_view h.tree) p found →
-    absent ≡ is_absent found.node → a ≡ refuse_if absent ops.NoEnt → view x ≡ size_in found.node → r ≡ passed_with (first_of (found.fault ∷ a ∷ [])) x →
-    Checks h (ops.Stat bytes) (λ z. size_of (tree_view h.tree (as_path bytes)) ≡ view z) r tree
+pub stat_checked : {A : Type 0} (view : A → Option ℕ) (h : SessionView) (bytes : List ℕ) (p : Path) (found : FoundNode) (tree : TreeState) (absent : Bool) (a : Option Refusal) (x : A) (r : Result A Error) →
+    false ≡ h.tree.failed → Some p ≡ path_of bytes → WasOnlyRead h.tree tree → Finds (tree_view h.tree) p found →
+    absent ≡ is_absent found.node → a ≡ refuse_if absent ops.NoEnt → view x ≡ size_in found.node → r ≡ value_unless_refused (first_of (found.fault ∷ a ∷ [])) x →
+    Checks h (ops.Stat bytes) (λ z. node_size (tree_view h.tree (as_path bytes)) ≡ view z) r tree
 stat_checked view h bytes p found tree absent a x r works is asked f absent_is a_is size_is r_is =
-    decided h (ops.Stat bytes) (λ z. size_of (tree_view h.tree (as_path bytes)) ≡ view z) x _ tree r asked (stat_late h bytes p works is)
+    decided h (ops.Stat bytes) (λ z. node_size (tree_view h.tree (as_path bytes)) ≡ view z) x _ tree r asked (stat_late h bytes p works is)
     (stat_refused h bytes p found (sym works) (sym is) f ∙ ap (λ z. first_of (found.fault ∷ z ∷ [])) (sym (a_is ∙ ap (λ b. refuse_if b ops.NoEnt) absent_is)))
     (λ none. size_found h bytes p found (sym is) f ∙ sym size_is) r_is
 
-mkdir_refused : (h : Held) (bytes : List ℕ) (p : Path) (found : Finding) → h.tree.failed ≡ false → h.tree.writable ≡ true → path_of bytes ≡ Some p → Finds (tree_view h.tree) p found →
+mkdir_refused : (h : SessionView) (bytes : List ℕ) (p : Path) (found : FoundNode) → h.tree.failed ≡ false → h.tree.writable ≡ true → path_of bytes ≡ Some p → Finds (tree_view h.tree) p found →
     refused_by h (ops.Mkdir bytes) ≡ first_of (found.fault ∷ refuse_if (nat_lt 255 (length (last_name p))) ops.NameTooLong ∷ refuse_if (not (is_absent found.node)) ops.Exist
-    ∷ refuse_if (is_overcharged (around_of h.tree) (last_name p) []) ops.EntryFull ∷ refuse_if (lacks (around_of h.tree) h.files 4) ops.NoSpace ∷ [])
+    ∷ refuse_if (is_overcharged (surroundings_of h.tree) (last_name p) []) ops.EntryFull ∷ refuse_if (lacks (surroundings_of h.tree) h.files 4) ops.NoSpace ∷ [])
 mkdir_refused h bytes p found works writable is f = rw (works, writable, is, f.parents, there (tree_view h.tree p), f.nothing) refl
 
-pub mkdir_checked : (h : Held) (bytes : List ℕ) (p : Path) (found : Finding) (tree : TreeState) (len other : ℕ) (absent over lack : Bool) (a b d e : Option Refusal) (r : Result Path Error) →
-    false ≡ h.tree.failed → true ≡ h.tree.writable → Some p ≡ path_of bytes → IsAsked h.tree tree → Finds (tree_view h.tree) p found →
+pub mkdir_checked : (h : SessionView) (bytes : List ℕ) (p : Path) (found : FoundNode) (tree : TreeState) (len other : ℕ) (absent over lack : Bool) (a b d e : Option Refusal) (r : Result Path Error) →
+    false ≡ h.tree.failed → true ≡ h.tree.writable → Some p ≡ path_of bytes → WasOnlyRead h.tree tree → Finds (tree_view h.tree) p found →
     len ≡ length (last_name p) → a ≡ refuse_if (nat_lt 255 len) ops.NameTooLong →
     absent ≡ is_absent found.node → b ≡ refuse_if (not absent) ops.Exist →
-    other ≡ length (last_name p) → ((name : List ℕ) → length name ≡ other → over ≡ is_overcharged (around_of tree) name []) → d ≡ refuse_if over ops.EntryFull →
-    lack ≡ lacks (around_of tree) h.files 4 → e ≡ refuse_if lack ops.NoSpace →
-    r ≡ passed_with (first_of (found.fault ∷ a ∷ b ∷ d ∷ e ∷ [])) p → Checks h (ops.Mkdir bytes) (λ path. path ≡ as_path bytes) r tree
+    other ≡ length (last_name p) → ((name : List ℕ) → length name ≡ other → over ≡ is_overcharged (surroundings_of tree) name []) → d ≡ refuse_if over ops.EntryFull →
+    lack ≡ lacks (surroundings_of tree) h.files 4 → e ≡ refuse_if lack ops.NoSpace →
+    r ≡ value_unless_refused (first_of (found.fault ∷ a ∷ b ∷ d ∷ e ∷ [])) p → Checks h (ops.Mkdir bytes) (λ path. path ≡ as_path bytes) r tree
 mkdir_checked h bytes p found tree len other absent over lack a b d e r works writable is asked f len_is a_is absent_is b_is other_is over_is d_is lack_is e_is r_is =
     decided h (ops.Mkdir bytes) (λ path. path ≡ as_path bytes) p _ tree r asked (mkdir_late h bytes p works writable is)
     (mkdir_refused h bytes p found (sym works) (sym writable) (sym is) f ∙ ap first_of (sym lists))
     (λ none. ap (λ z. unwrap_or z []) is) r_is
   where
-    same : around_of tree ≡ around_of h.tree
-    same = ap around_of asked.same
+    same : surroundings_of tree ≡ surroundings_of h.tree
+    same = ap surroundings_of asked.same
 
     lists : (found.fault ∷ a ∷ b ∷ d ∷ e ∷ []) ≡ (found.fault ∷ refuse_if (nat_lt 255 (length (last_name p))) ops.NameTooLong ∷ refuse_if (not (is_absent found.node)) ops.Exist
-        ∷ refuse_if (is_overcharged (around_of h.tree) (last_name p) []) ops.EntryFull ∷ refuse_if (lacks (around_of h.tree) h.files 4) ops.NoSpace ∷ [])
+        ∷ refuse_if (is_overcharged (surroundings_of h.tree) (last_name p) []) ops.EntryFull ∷ refuse_if (lacks (surroundings_of h.tree) h.files 4) ops.NoSpace ∷ [])
     lists = both refl (both (when ops.NameTooLong a_is (ap (nat_lt 255) len_is)) (both (when ops.Exist b_is (ap not absent_is))
         (both (when ops.EntryFull d_is (over_is (last_name p) (sym other_is) ∙ ap (λ around. is_overcharged around (last_name p) []) same))
         (both (when ops.NoSpace e_is (lack_is ∙ ap (λ around. lacks around h.files 4) same)) refl))))
@@ -114,25 +114,25 @@ negated true e = refl
 negated false e = absurd (cc)
 
 -- an operation that checks first whether the image may be written
-pub passed_writable : (h : Held) (op : Operation) (rest : Option Refusal) → refusal_of (around_of h.tree) (session_of h) op ≡ option_or (refuse_if (not h.tree.writable) ops.ReadOnly) rest → refused_by h op ≡ None → h.tree.writable ≡ true
+pub passed_writable : (h : SessionView) (op : Operation) (rest : Option Refusal) → refusal_of (surroundings_of h.tree) (session_of h) op ≡ option_or (refuse_if (not h.tree.writable) ops.ReadOnly) rest → refused_by h op ≡ None → h.tree.writable ≡ true
 passed_writable h op rest is e = negated h.tree.writable (unrefused (not h.tree.writable) ops.ReadOnly (neither _ rest (sym is ∙ not_refused h op e)).0)
 
 pub room_left : (n m k f l : ℕ) → f ≤ k → nat_lt n (m + k + l) ≡ false → m + f + l ≤ n
 room_left n m k f l few e = grind (arith, nat_tests)
 
 -- there is room beside what is held back
-pub mkdir_space : (h : Held) (bytes : List ℕ) → refused_by h (ops.Mkdir bytes) ≡ None → lacks (around_of h.tree) h.files 4 ≡ false
+pub mkdir_space : (h : SessionView) (bytes : List ℕ) → refused_by h (ops.Mkdir bytes) ≡ None → lacks (surroundings_of h.tree) h.files 4 ≡ false
 mkdir_space h bytes e =
     let a = neither (refuse_if (not h.tree.writable) ops.ReadOnly) _ (not_refused h (ops.Mkdir bytes) e) in
     let b = neither (refuse_if (is_none (path_of bytes)) ops.Invalid) _ a.1 in
     let c = neither (parent_fault (tree_view h.tree) [] (as_path bytes)) _ b.1 in
     let d = neither (refuse_if (is_long (as_path bytes)) ops.NameTooLong) _ c.1 in
     let i = neither (refuse_if (is_some (tree_view h.tree (as_path bytes))) ops.Exist) _ d.1 in
-    let j = neither (refuse_if (is_overcharged (around_of h.tree) (last_name (as_path bytes)) []) ops.EntryFull) _ i.1 in
-    let k = neither (refuse_if (lacks (around_of h.tree) h.files 4) ops.NoSpace) None j.1 in
-    unrefused (lacks (around_of h.tree) h.files 4) ops.NoSpace k.0
+    let j = neither (refuse_if (is_overcharged (surroundings_of h.tree) (last_name (as_path bytes)) []) ops.EntryFull) _ i.1 in
+    let k = neither (refuse_if (lacks (surroundings_of h.tree) h.files 4) ops.NoSpace) None j.1 in
+    unrefused (lacks (surroundings_of h.tree) h.files 4) ops.NoSpace k.0
 
-mkdir_passed : (h : Held) (bytes : List ℕ) → in_flight_count h.tree.map ≤ held h.tree.disk.block_size h.files → refused_by h (ops.Mkdir bytes) ≡ None → CanMake h.tree (as_path bytes)
+mkdir_passed : (h : SessionView) (bytes : List ℕ) → in_flight_count h.tree.map ≤ blocks_held_by_all h.tree.disk.block_size h.files → refused_by h (ops.Mkdir bytes) ≡ None → CanMakeDirectory h.tree (as_path bytes)
 mkdir_passed h bytes flight e =
     let a = neither _ _ (not_refused h (ops.Mkdir bytes) e) in
     let b = neither _ _ a.1 in
@@ -147,14 +147,14 @@ mkdir_passed h bytes flight e =
       name = unrefused _ _ d.0;
       nothing = unrefused _ _ i.0;
       fits = unrefused _ _ j.0;
-      room = room_left (block_count h.tree.disk) (length (around_of h.tree).used) (held h.tree.disk.block_size h.files) (in_flight_count h.tree.map) 4 flight (mkdir_space h bytes e);
+      room = room_left (block_count h.tree.disk) (length (surroundings_of h.tree).used) (blocks_held_by_all h.tree.disk.block_size h.files) (in_flight_count h.tree.map) 4 flight (mkdir_space h bytes e);
     }
 
 -- the directory can be made at the path that the checks let pass
-pub mkdir_can : (h : Held) (bytes : List ℕ) (path : Path) (tree : TreeState) → (h.tree.failed ≡ false → in_flight_count h.tree.map ≤ held h.tree.disk.block_size h.files) → Checks h (ops.Mkdir bytes) (λ p. p ≡ as_path bytes) (Ok path) tree → CanMake tree path
+pub mkdir_can : (h : SessionView) (bytes : List ℕ) (path : Path) (tree : TreeState) → (h.tree.failed ≡ false → in_flight_count h.tree.map ≤ blocks_held_by_all h.tree.disk.block_size h.files) → Checks h (ops.Mkdir bytes) (λ p. p ≡ as_path bytes) (Ok path) tree → CanMakeDirectory tree path
 mkdir_can h bytes path tree ready c =
     let can = mkdir_passed h bytes (ready (not_failed h (ops.Mkdir bytes) c.1)) c.1 in
-    subst (λ t. CanMake t path) (sym c.0.same) (subst (λ z. CanMake (record h.tree { history = tree.history; cache = tree.cache }) z) (sym c.2)
+    subst (λ t. CanMakeDirectory t path) (sym c.0.same) (subst (λ z. CanMakeDirectory (record h.tree { history = tree.history; cache = tree.cache }) z) (sym c.2)
     (record { works = can.works; writable = can.writable; parents = can.parents; name = can.name; nothing = can.nothing; fits = can.fits; room = can.room }))
 
 -- ---- an open for reading
@@ -171,10 +171,10 @@ no_writing f = go f.unknown f.write f.read f.create f.exclusive f.truncate f.app
     go false false true false false true a h k = absurd (cc)
     go false false true false false false a h k = (refl, refl, refl)
 
-abbrev is_busy : Held → Path → Bool
+abbrev is_busy : SessionView → Path → Bool
 is_busy h p = list_any (λ w. same_path p w.path) (writers h.files) || nat_le 16 (length (readers h.files))
 
-open_refused : (h : Held) (bytes : List ℕ) (p : Path) (flags : Flags) (found : Finding) → h.tree.failed ≡ false → path_of bytes ≡ Some p → flags.write ≡ false → is_allowed flags ≡ true → Finds (tree_view h.tree) p found →
+open_refused : (h : SessionView) (bytes : List ℕ) (p : Path) (flags : Flags) (found : FoundNode) → h.tree.failed ≡ false → path_of bytes ≡ Some p → flags.write ≡ false → is_allowed flags ≡ true → Finds (tree_view h.tree) p found →
     refused_by h (ops.Open bytes flags) ≡ first_of (found.fault ∷ refuse_if (is_absent found.node) ops.NoEnt ∷ refuse_if (is_directory_node found.node) ops.IsDir ∷ refuse_if (is_busy h p) ops.Busy ∷ [])
 open_refused h bytes p flags found works is write allowed f = go (is_none (tree_view h.tree p)) refl
   where
@@ -186,10 +186,10 @@ open_refused h bytes p flags found works is write allowed f = go (is_none (tree_
     go true e = rw (works, allowed, write, is, f.parents, e, sym f.nothing ∙ e, plain.0) refl
     go false e = rw (works, allowed, write, is, f.parents, e, sym f.nothing ∙ e, there (tree_view h.tree p) ∙ ap not e, plain.1, plain.2, f.directories) refl
 
-pub open_checked : (h : Held) (bytes : List ℕ) (p : Path) (flags : Flags) (found : Finding) (tree : TreeState) (absent directory busy : Bool) (a b d : Option Refusal) (x : FileContents) (r : Result FileContents Error) →
-    (is_file (tree_view h.tree p) ≡ true → AreContentsAt h.tree.pairs p x) → false ≡ h.tree.failed → Some p ≡ path_of bytes → flags.write ≡ false → true ≡ is_allowed flags → IsAsked h.tree tree → Finds (tree_view h.tree) p found →
+pub open_checked : (h : SessionView) (bytes : List ℕ) (p : Path) (flags : Flags) (found : FoundNode) (tree : TreeState) (absent directory busy : Bool) (a b d : Option Refusal) (x : FileContents) (r : Result FileContents Error) →
+    (is_file (tree_view h.tree p) ≡ true → AreContentsAt h.tree.pairs p x) → false ≡ h.tree.failed → Some p ≡ path_of bytes → flags.write ≡ false → true ≡ is_allowed flags → WasOnlyRead h.tree tree → Finds (tree_view h.tree) p found →
     absent ≡ is_absent found.node → a ≡ refuse_if absent ops.NoEnt → directory ≡ is_directory_node found.node → b ≡ refuse_if directory ops.IsDir → busy ≡ is_busy h p → d ≡ refuse_if busy ops.Busy →
-    r ≡ passed_with (first_of (found.fault ∷ a ∷ b ∷ d ∷ [])) x →
+    r ≡ value_unless_refused (first_of (found.fault ∷ a ∷ b ∷ d ∷ [])) x →
     Checks h (ops.Open bytes flags) (IsReadableAs h.tree h.files bytes) r tree
 open_checked h bytes p flags found tree absent directory busy a b d x r has works is write allowed asked f absent_is a_is directory_is b_is busy_is d_is r_is =
     decided h (ops.Open bytes flags) (IsReadableAs h.tree h.files bytes) x _ tree r asked (reader_late h bytes p flags works is write allowed)

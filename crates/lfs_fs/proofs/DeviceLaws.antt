@@ -8,9 +8,9 @@ use Rattle.lfs_model.specs.History.{Event, EachEvent, IsNewest, IsReadOf, OnlyRe
 use Rattle.lfs_model.specs.Conformance.{AllConform, Conforms}
 use Rattle.lfs_model.specs.Operations.{Operation}
 use Rattle.lfs_model.proofs.Conformance.{conforms_next}
-use Rattle.lfs_tree.specs.TreeState.{IsAsked, TreeState}
+use Rattle.lfs_tree.specs.TreeState.{WasOnlyRead, TreeState}
 use Rattle.lfs_fs.specs.FileView.{OpenFiles}
-use Rattle.lfs_fs.specs.Held.{Checks, held_of}
+use Rattle.lfs_fs.specs.SessionView.{Checks, session_view_of}
 use Rattle.lfs_fs.proofs.Answered.{asked_by_checks, checked_ready}
 use Rattle.lfs_fs.specs.DeviceLaws.{IsBetweenCalls, MeetsDeviceLaws}
 
@@ -49,11 +49,11 @@ reported_later t new reported reads same = record {
     conforming_on [] each = reported.conforms
     conforming_on (e ∷ events) each = conforms_next refl (conforming_reads t.disk.blocks e each.0) (conforming_on events each.1)
 
-pub reported_asked : (t new : TreeState) → (t.failed ≡ false → MeetsDeviceLaws t) → IsAsked t new → new.failed ≡ false → MeetsDeviceLaws new
+pub reported_asked : (t new : TreeState) → (t.failed ≡ false → MeetsDeviceLaws t) → WasOnlyRead t new → new.failed ≡ false → MeetsDeviceLaws new
 reported_asked t new reported asked works = reported_later t new (reported (sym (ap (λ (s : TreeState). s.failed) asked.same) ∙ works)) asked.reads (ap (λ (s : TreeState). s.disk) asked.same)
 
 -- behind checks
-pub between_checked : {A : Type 0} (t : TreeState) (files : OpenFiles) (op : Operation) (P : A → Type 0) (r : Result A Error) (tree : TreeState) → IsBetweenCalls t files → Checks (held_of t files) op P r tree → IsBetweenCalls tree files
+pub between_checked : {A : Type 0} (t : TreeState) (files : OpenFiles) (op : Operation) (P : A → Type 0) (r : Result A Error) (tree : TreeState) → IsBetweenCalls t files → Checks (session_view_of t files) op P r tree → IsBetweenCalls tree files
 between_checked t files op P r tree between h = record {
   ready = checked_ready t files op P r tree between.ready h;
   reported = λ works. reported_asked t tree between.reported (asked_by_checks t files op P r tree h works) works;

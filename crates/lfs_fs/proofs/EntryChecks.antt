@@ -13,13 +13,13 @@ use Rattle.lfs_model.specs.Operations.{Operation, Refusal, path_of}
 use Rattle.lfs_model.specs.Session.{first_of, refuse_if}
 use Rattle.lfs_model.specs.Refusals.{as_path, bad_entry, is_root}
 use Rattle.lfs_model.specs.Tree.{Path}
-use Rattle.lfs_tree.specs.Allowed.{CanRemoveAttr}
+use Rattle.lfs_tree.specs.Permissions.{CanRemoveAttr}
 use Rattle.lfs_lookup.specs.Finds.{Finds, is_absent, is_file_node}
-use Rattle.lfs_tree.specs.TreeState.{TreeState, tree_view, IsAsked}
-use Rattle.lfs_lookup.specs.declared.found_entries.Finding.{Finding}
+use Rattle.lfs_tree.specs.TreeState.{TreeState, tree_view, WasOnlyRead}
+use Rattle.lfs_lookup.specs.declared.found_entries.FoundNode.{FoundNode}
 use Rattle.lfs_fs.specs.EntryPaths.{entry_path}
-use Rattle.lfs_fs.specs.Replies.{passed_with}
-use Rattle.lfs_fs.specs.Held.{Held, refused_by, Checks}
+use Rattle.lfs_fs.specs.Replies.{value_unless_refused}
+use Rattle.lfs_fs.specs.SessionView.{SessionView, refused_by, Checks}
 use Rattle.lfs_fs.proofs.Answered.{not_failed, not_refused}
 use Rattle.lfs_fs.proofs.EntryPaths.{is_entry, root_false}
 use Rattle.lfs_fs.proofs.Late.{get_late, list_late, remove_attr_late}
@@ -57,14 +57,14 @@ other_entry (b ∷ c ∷ bytes) h = path_is ∙ go (b == slash) (list_all is_com
 
 -- ---- a list
 
-list_refused : (h : Held) (bytes : List ℕ) (p : Path) (found : Finding) → h.tree.failed ≡ false → path_of bytes ≡ Some p → Finds (tree_view h.tree) p found →
+list_refused : (h : SessionView) (bytes : List ℕ) (p : Path) (found : FoundNode) → h.tree.failed ≡ false → path_of bytes ≡ Some p → Finds (tree_view h.tree) p found →
     refused_by h (ops.ListAll bytes) ≡ first_of (found.fault ∷ refuse_if (is_absent found.node) ops.NoEnt ∷ refuse_if (is_file_node found.node) ops.NotDir ∷ [])
 list_refused h bytes p found works is f = rw (works, is, f.parents, f.nothing, f.files) refl
 
-pub list_checked : {A : Type 0} (items : A → List ops.Item) (h : Held) (bytes : List ℕ) (p : Path) (found : Finding) (tree : TreeState) (absent file : Bool) (a b : Option Refusal) (x : A) (r : Result A Error) →
-    false ≡ h.tree.failed → Some p ≡ path_of bytes → IsAsked h.tree tree → Finds (tree_view h.tree) p found → items x ≡ items_in (tree_view h.tree) p →
+pub list_checked : {A : Type 0} (items : A → List ops.Item) (h : SessionView) (bytes : List ℕ) (p : Path) (found : FoundNode) (tree : TreeState) (absent file : Bool) (a b : Option Refusal) (x : A) (r : Result A Error) →
+    false ≡ h.tree.failed → Some p ≡ path_of bytes → WasOnlyRead h.tree tree → Finds (tree_view h.tree) p found → items x ≡ items_in (tree_view h.tree) p →
     absent ≡ is_absent found.node → a ≡ refuse_if absent ops.NoEnt → file ≡ is_file_node found.node → b ≡ refuse_if file ops.NotDir →
-    r ≡ passed_with (first_of (found.fault ∷ a ∷ b ∷ [])) x →
+    r ≡ value_unless_refused (first_of (found.fault ∷ a ∷ b ∷ [])) x →
     Checks h (ops.ListAll bytes) (λ z. items_in (tree_view h.tree) (as_path bytes) ≡ items z) r tree
 list_checked items h bytes p found tree absent file a b x r works is asked f are absent_is a_is file_is b_is r_is =
     decided h (ops.ListAll bytes) (λ z. items_in (tree_view h.tree) (as_path bytes) ≡ items z) x _ tree r asked (list_late h bytes p works is)
@@ -80,7 +80,7 @@ missing : {A : Type 0} (f : A → List ℕ) (x : Option A) (y : Option (List ℕ
 missing f None y b e is = is ∙ ap is_none e
 missing f (Some x) y b e is = is ∙ ap is_none e
 
-get_refused : (h : Held) (bytes : List ℕ) (kind : ℕ) (p : Path) (found : Finding) → h.tree.failed ≡ false → path_of bytes ≡ Some p → is_root p ≡ false → Finds (tree_view h.tree) p found →
+get_refused : (h : SessionView) (bytes : List ℕ) (kind : ℕ) (p : Path) (found : FoundNode) → h.tree.failed ≡ false → path_of bytes ≡ Some p → is_root p ≡ false → Finds (tree_view h.tree) p found →
     refused_by h (ops.GetAttr bytes kind) ≡ first_of (found.fault ∷ refuse_if (is_absent found.node) ops.NoEnt ∷ refuse_if (is_none (attribute_of kind (attributes_of (tree_view h.tree p)))) ops.NoAttr ∷ [])
 get_refused h bytes kind p found works is entry f = rw (works, is, entry, f.parents, f.nothing) refl
 
@@ -88,11 +88,11 @@ pub got : {A : Type 0} (f : A → List ℕ) (o : Option A) (y : Option (List ℕ
 got f None y none x e empty is = ap (λ z. unwrap_or z []) (sym e) ∙ sym empty ∙ ap f (sym is)
 got f (Some v) y none x e empty is = ap (λ z. unwrap_or z []) (sym e) ∙ ap f (sym is)
 
-pub get_checked : {A : Type 0} (items : A → List ℕ) (h : Held) (bytes : List ℕ) (kind : ℕ) (p : Path) (found : Finding) (tree : TreeState) (attribute : Option A) (absent none : Bool) (a b : Option Refusal) (x : A) (r : Result A Error) →
-    false ≡ h.tree.failed → Some p ≡ entry_path bytes → IsAsked h.tree tree → Finds (tree_view h.tree) p found →
+pub get_checked : {A : Type 0} (items : A → List ℕ) (h : SessionView) (bytes : List ℕ) (kind : ℕ) (p : Path) (found : FoundNode) (tree : TreeState) (attribute : Option A) (absent none : Bool) (a b : Option Refusal) (x : A) (r : Result A Error) →
+    false ≡ h.tree.failed → Some p ≡ entry_path bytes → WasOnlyRead h.tree tree → Finds (tree_view h.tree) p found →
     option_map items attribute ≡ attribute_of kind (attributes_of (tree_view h.tree p)) → unwrap_or (attribute_of kind (attributes_of (tree_view h.tree p))) [] ≡ items x →
     absent ≡ is_absent found.node → a ≡ refuse_if absent ops.NoEnt → none ≡ is_none attribute → b ≡ refuse_if none ops.NoAttr →
-    r ≡ passed_with (first_of (found.fault ∷ a ∷ b ∷ [])) x → Checks h (ops.GetAttr bytes kind) (λ v. unwrap_or (attribute_of kind (attributes_of (tree_view h.tree (as_path bytes)))) [] ≡ items v) r tree
+    r ≡ value_unless_refused (first_of (found.fault ∷ a ∷ b ∷ [])) x → Checks h (ops.GetAttr bytes kind) (λ v. unwrap_or (attribute_of kind (attributes_of (tree_view h.tree (as_path bytes)))) [] ≡ items v) r tree
 get_checked items h bytes kind p found tree attribute absent none a b x r works is asked f attr given absent_is a_is none_is b_is r_is =
     decided h (ops.GetAttr bytes kind) (λ v. unwrap_or (attribute_of kind (attributes_of (tree_view h.tree (as_path bytes)))) [] ≡ items v) x _ tree r asked (get_late h bytes kind p works is)
     (get_refused h bytes kind p found (sym works) (is_entry bytes p is).0 (root_false bytes p is) f ∙ ap first_of (sym lists))
@@ -101,15 +101,15 @@ get_checked items h bytes kind p found tree attribute absent none a b x r works 
     lists : (found.fault ∷ a ∷ b ∷ []) ≡ (found.fault ∷ refuse_if (is_absent found.node) ops.NoEnt ∷ refuse_if (is_none (attribute_of kind (attributes_of (tree_view h.tree p)))) ops.NoAttr ∷ [])
     lists = both refl (both (when ops.NoEnt a_is absent_is) (both (when ops.NoAttr b_is (missing items attribute _ none attr none_is)) refl))
 
-remove_attr_refused : (h : Held) (bytes : List ℕ) (kind : ℕ) (p : Path) (found : Finding) → h.tree.failed ≡ false → h.tree.writable ≡ true → path_of bytes ≡ Some p → is_root p ≡ false → Finds (tree_view h.tree) p found →
+remove_attr_refused : (h : SessionView) (bytes : List ℕ) (kind : ℕ) (p : Path) (found : FoundNode) → h.tree.failed ≡ false → h.tree.writable ≡ true → path_of bytes ≡ Some p → is_root p ≡ false → Finds (tree_view h.tree) p found →
     refused_by h (ops.RemoveAttr bytes kind) ≡ first_of (found.fault ∷ refuse_if (is_absent found.node) ops.NoEnt ∷ refuse_if (is_none (attribute_of kind (attributes_of (tree_view h.tree p)))) ops.NoAttr ∷ [])
 remove_attr_refused h bytes kind p found works writable is entry f = rw (works, writable, is, entry, f.parents, f.nothing) refl
 
-pub remove_attr_checked : {A : Type 0} (items : A → List ℕ) (h : Held) (bytes : List ℕ) (kind : ℕ) (p : Path) (found : Finding) (tree : TreeState) (attribute : Option A) (absent none : Bool) (a b : Option Refusal) (r : Result Path Error) →
-    false ≡ h.tree.failed → true ≡ h.tree.writable → Some p ≡ entry_path bytes → IsAsked h.tree tree → Finds (tree_view h.tree) p found →
+pub remove_attr_checked : {A : Type 0} (items : A → List ℕ) (h : SessionView) (bytes : List ℕ) (kind : ℕ) (p : Path) (found : FoundNode) (tree : TreeState) (attribute : Option A) (absent none : Bool) (a b : Option Refusal) (r : Result Path Error) →
+    false ≡ h.tree.failed → true ≡ h.tree.writable → Some p ≡ entry_path bytes → WasOnlyRead h.tree tree → Finds (tree_view h.tree) p found →
     option_map items attribute ≡ attribute_of kind (attributes_of (tree_view h.tree p)) →
     absent ≡ is_absent found.node → a ≡ refuse_if absent ops.NoEnt → none ≡ is_none attribute → b ≡ refuse_if none ops.NoAttr →
-    r ≡ passed_with (first_of (found.fault ∷ a ∷ b ∷ [])) p → Checks h (ops.RemoveAttr bytes kind) (λ path. path ≡ as_path bytes) r tree
+    r ≡ value_unless_refused (first_of (found.fault ∷ a ∷ b ∷ [])) p → Checks h (ops.RemoveAttr bytes kind) (λ path. path ≡ as_path bytes) r tree
 remove_attr_checked items h bytes kind p found tree attribute absent none a b r works writable is asked f attr absent_is a_is none_is b_is r_is =
     decided h (ops.RemoveAttr bytes kind) (λ path. path ≡ as_path bytes) p _ tree r asked (remove_attr_late h bytes kind p works writable is)
     (remove_attr_refused h bytes kind p found (sym works) (sym writable) (is_entry bytes p is).0 (root_false bytes p is) f ∙ ap first_of (sym lists))
@@ -122,7 +122,7 @@ pub good_root : (o : Option Path) → bad_entry o ≡ false → is_root (unwrap_
 good_root None e = absurd (cc)
 good_root (Some p) e = e
 
-pub remove_attr_can : (h : Held) (bytes : List ℕ) (kind : ℕ) (path : Path) (tree : TreeState) → Checks h (ops.RemoveAttr bytes kind) (λ p. p ≡ as_path bytes) (Ok path) tree → CanRemoveAttr tree path kind
+pub remove_attr_can : (h : SessionView) (bytes : List ℕ) (kind : ℕ) (path : Path) (tree : TreeState) → Checks h (ops.RemoveAttr bytes kind) (λ p. p ≡ as_path bytes) (Ok path) tree → CanRemoveAttr tree path kind
 remove_attr_can h bytes kind path tree c =
     let e = c.1 in
     let a = neither _ _ (not_refused h (ops.RemoveAttr bytes kind) e) in

@@ -10,8 +10,8 @@ use Rattle.lfs_model.specs.Operations.{Operation}
 use Rattle.lfs_model.specs.Session.{Files, Session}
 use Rattle.lfs_model.specs.State.{State, HasFailed, Healthy, is_remount}
 use Rattle.lfs_model.specs.Run.{SystemState, NoWrites, only_asks, renames_to_itself}
-use Rattle.lfs_tree.specs.TreeState.{TreeState, IsSound, IsAsked, IsBroken, IsBrokenAsking, IsError}
-use Rattle.lfs_fs.specs.Held.{Held, held_with, session_of, system_state_of, FailsBy}
+use Rattle.lfs_tree.specs.TreeState.{TreeState, IsSound, WasOnlyRead, IsFailedTree, FailsInRead, IsError}
+use Rattle.lfs_fs.specs.SessionView.{SessionView, session_view_with, session_of, system_state_of, FailsBy}
 
 -- ---- calls
 
@@ -41,16 +41,16 @@ nothing_written (e ∷ new) old h k =
 
 -- ---- moments
 
-state_of : Held → Bool → State
+state_of : SessionView → Bool → State
 state_of h b = cond b HasFailed (Healthy (session_of h))
 
-pub failed_system : (h : Held) → h.tree.failed ≡ true → system_state_of h ≡ record { disk = h.tree.disk; calls = h.tree.history; state = HasFailed }
+pub failed_system : (h : SessionView) → h.tree.failed ≡ true → system_state_of h ≡ record { disk = h.tree.disk; calls = h.tree.history; state = HasFailed }
 failed_system h e = ap (λ b. record { disk = h.tree.disk; calls = h.tree.history; state = cond b HasFailed (Healthy (session_of h)) }) e
 
-pub healthy_system : (h : Held) → h.tree.failed ≡ false → system_state_of h ≡ record { disk = h.tree.disk; calls = h.tree.history; state = Healthy (session_of h) }
+pub healthy_system : (h : SessionView) → h.tree.failed ≡ false → system_state_of h ≡ record { disk = h.tree.disk; calls = h.tree.history; state = Healthy (session_of h) }
 healthy_system h e = ap (λ b. record { disk = h.tree.disk; calls = h.tree.history; state = cond b HasFailed (Healthy (session_of h)) }) e
 
-works_not_failed : (h : Held) → h.tree.failed ≡ false → (system_state_of h).state ≡ HasFailed → ⊥
+works_not_failed : (h : SessionView) → h.tree.failed ≡ false → (system_state_of h).state ≡ HasFailed → ⊥
 works_not_failed h works f = let k : Healthy (session_of h) ≡ HasFailed = sym (ap (λ (m : SystemState). m.state) (healthy_system h works)) ∙ f in absurd (cc)
 
 same_session : (s t : Session) → Healthy s ≡ Healthy t → s ≡ t
@@ -67,11 +67,11 @@ widened e (inl h) = inl h
 widened e (inr h) = inr (inl h)
 
 -- a call failed that only reads, and with it any operation
-pub asking_fails : (e : Error) (old : Held) (op : Operation) (tree : TreeState) (files : Files) → old.tree.failed ≡ false → IsBrokenAsking old.tree tree → IsError old.tree tree e →
-    FailsBy e (system_state_of old) op (system_state_of (held_with tree files))
+pub asking_fails : (e : Error) (old : SessionView) (op : Operation) (tree : TreeState) (files : Files) → old.tree.failed ≡ false → FailsInRead old.tree tree → IsError old.tree tree e →
+    FailsBy e (system_state_of old) op (system_state_of (session_view_with tree files))
 asking_fails e old op tree files works broken error = record {
   fails = record {
-    failed = ap (λ (m : SystemState). m.state) (failed_system (held_with tree files) broken.failed);
+    failed = ap (λ (m : SystemState). m.state) (failed_system (session_view_with tree files) broken.failed);
     geometry = subst (λ d. SameGeometry old.tree.disk d) (sym broken.disk) (record { block_size = refl; page = refl; order = refl; count = refl });
     calls = broken.reads.events;
     called = broken.reads.extends;
@@ -90,11 +90,11 @@ asking_fails e old op tree files works broken error = record {
     writes = reads_write_nothing old.tree.disk.blocks broken.reads.events broken.reads.each
 
 -- a call failed that changes the disk, which may be written
-pub broken_fails : (e : Error) (old : Held) (op : Operation) (mid new : TreeState) (files : Files) → old.tree.failed ≡ false → is_remount op ≡ false → only_asks (session_of old) op ≡ false →
-    renames_to_itself op ≡ false → IsSound old.tree → old.tree.writable ≡ true → IsAsked old.tree mid → IsBroken mid new → IsError mid new e → FailsBy e (system_state_of old) op (system_state_of (held_with new files))
+pub broken_fails : (e : Error) (old : SessionView) (op : Operation) (mid new : TreeState) (files : Files) → old.tree.failed ≡ false → is_remount op ≡ false → only_asks (session_of old) op ≡ false →
+    renames_to_itself op ≡ false → IsSound old.tree → old.tree.writable ≡ true → WasOnlyRead old.tree mid → IsFailedTree mid new → IsError mid new e → FailsBy e (system_state_of old) op (system_state_of (session_view_with new files))
 broken_fails e old op mid new files works other asks itself sound writable asked broken error = record {
   fails = record {
-    failed = ap (λ (m : SystemState). m.state) (failed_system (held_with new files) broken.failed);
+    failed = ap (λ (m : SystemState). m.state) (failed_system (session_view_with new files) broken.failed);
     geometry = subst (λ (t : TreeState). SameGeometry t.disk new.disk) asked.same broken.geometry;
     calls = broken.calls ++ asked.reads.events;
     called = broken.called ∙ ap (λ z. broken.calls ++ z) asked.reads.extends ∙ sym (append_assoc broken.calls asked.reads.events old.tree.history);
@@ -110,22 +110,22 @@ broken_fails e old op mid new files works other asks itself sound writable asked
 }
 
 -- no memory is found for what the session keeps
-pub memory_error : (old mid : TreeState) → IsAsked old mid → IsError old (record mid { failed = true }) NoMemory
+pub memory_error : (old mid : TreeState) → WasOnlyRead old mid → IsError old (record mid { failed = true }) NoMemory
 memory_error old mid asked = record { errors = inr refl; fault = λ h. absurd (cc); no_fault = λ h. asked.no_fault }
 
-pub memory_broken : (old mid : TreeState) → IsAsked old mid → IsBrokenAsking old (record mid { failed = true })
+pub memory_broken : (old mid : TreeState) → WasOnlyRead old mid → FailsInRead old (record mid { failed = true })
 memory_broken old mid asked = record {
   failed = refl;
   disk = ap (λ (t : TreeState). t.disk) asked.same;
   reads = asked.reads;
 }
 
-pub memory_fails : (old : Held) (op : Operation) (mid : TreeState) (files : Files) → old.tree.failed ≡ false → IsAsked old.tree mid →
-    FailsBy NoMemory (system_state_of old) op (system_state_of (held_with (record mid { failed = true }) files))
+pub memory_fails : (old : SessionView) (op : Operation) (mid : TreeState) (files : Files) → old.tree.failed ≡ false → WasOnlyRead old.tree mid →
+    FailsBy NoMemory (system_state_of old) op (system_state_of (session_view_with (record mid { failed = true }) files))
 memory_fails old op mid files works asked = asking_fails NoMemory old op (record mid { failed = true }) files works (memory_broken old.tree mid asked) (memory_error old.tree mid asked)
 
 -- the same before any call, whether or not the session had failed
-pub memory_fails_at_once : (old : Held) (op : Operation) → FailsBy NoMemory (system_state_of old) op (system_state_of (held_with (record old.tree { failed = true }) old.files))
+pub memory_fails_at_once : (old : SessionView) (op : Operation) → FailsBy NoMemory (system_state_of old) op (system_state_of (session_view_with (record old.tree { failed = true }) old.files))
 memory_fails_at_once old op = record {
   fails = record {
     failed = refl;
@@ -143,5 +143,5 @@ memory_fails_at_once old op = record {
   no_fault = λ h. refl;
 }
 
-pub memory_fails_now : (old new : Held) (op : Operation) → new ≡ record old { tree = record old.tree { failed = true } } → FailsBy NoMemory (system_state_of old) op (system_state_of new)
+pub memory_fails_now : (old new : SessionView) (op : Operation) → new ≡ record old { tree = record old.tree { failed = true } } → FailsBy NoMemory (system_state_of old) op (system_state_of new)
 memory_fails_now old new op is = subst (λ z. FailsBy NoMemory (system_state_of old) op (system_state_of z)) (sym is) (memory_fails_at_once old op)

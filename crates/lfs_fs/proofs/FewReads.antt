@@ -7,7 +7,7 @@ use Rattle.lfs_model.specs.Operations.{Operation, path_of}
 use Rattle.lfs_model.specs.Refusals.{as_path}
 use Rattle.lfs_model.specs.Tree.{Path}
 use Rattle.lfs_tree.specs.TreeState.{TreeState}
-use Rattle.lfs_fs.specs.LookUps.{AddsFew}
+use Rattle.lfs_fs.specs.LookUps.{AddsFewReads}
 
 -- a bound by the path of bytes
 pub few_given : (old new : TreeState) (f : Path → List Path) (bytes : List ℕ) (p : Path) → Some p ≡ path_of bytes → reads new.history ≤ reads old.history + sum_by (pairs_of_path old.pairs) (f p)
@@ -21,7 +21,7 @@ reads_over [] older = omega arith
 reads_over (e ∷ calls) older = let k = reads_over calls older in omega (arith, k)
 
 -- by the calls that came
-pub reads_few : (old new : TreeState) (op : Operation) → AddsFew old op new → (calls : List Event) → new.history ≡ calls ++ old.history → ReadsFew old.pairs op calls
+pub reads_few : (old new : TreeState) (op : Operation) → AddsFewReads old op new → (calls : List Event) → new.history ≡ calls ++ old.history → ReadsFew old.pairs op calls
 reads_few old new op few calls is looks =
     let e = ap reads is in
     let k = reads_over calls old.history in

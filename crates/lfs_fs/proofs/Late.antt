@@ -13,9 +13,9 @@ use Rattle.lfs_model.specs.Session.{directory_fault, first_of, is_allowed, is_lo
 use Rattle.lfs_model.specs.Tree.{Node, FileNode, DirectoryNode, Path, Tree}
 use Rattle.lfs_model.specs.TreeEdits.{attributes_of, bytes_at, is_beneath, is_directory, is_file, last_name, names_of, rest_after, same_path}
 use Rattle.lfs_model.specs.Writers.{opened_writer}
-use Rattle.lfs_tree.specs.TreeState.{around_of, tree_view}
+use Rattle.lfs_tree.specs.TreeState.{surroundings_of, tree_view}
 use Rattle.lfs_fs.specs.EntryPaths.{entry_path}
-use Rattle.lfs_fs.specs.Held.{ComesLate, Held, refused_by}
+use Rattle.lfs_fs.specs.SessionView.{PassesFirstChecks, SessionView, refused_by}
 use Rattle.lfs_fs.proofs.EntryPaths.{is_entry, root_false}
 
 -- refusals, those of them that are any, that don't come at once
@@ -48,26 +48,26 @@ parents op t above (name ∷ next ∷ rest) h = go (t (above ++ name ∷ [])) (p
     go (Some (FileNode attributes bytes)) k = h
     go (Some (DirectoryNode attributes names)) k = k
 
-told_late : (h : Held) (op : Operation) (rs : List (Option Refusal)) → refused_by h op ≡ first_of rs → AreLate op rs → ComesLate h op
+told_late : (h : SessionView) (op : Operation) (rs : List (Option Refusal)) → refused_by h op ≡ first_of rs → AreLate op rs → PassesFirstChecks h op
 told_late h op rs are late r e = subst (IsLate op) (sym are ∙ e) (first_late op rs late)
 
 -- ---- questions
 
-pub stat_late : (h : Held) (bytes : List ℕ) (p : Path) → false ≡ h.tree.failed → Some p ≡ path_of bytes → ComesLate h (ops.Stat bytes)
+pub stat_late : (h : SessionView) (bytes : List ℕ) (p : Path) → false ≡ h.tree.failed → Some p ≡ path_of bytes → PassesFirstChecks h (ops.Stat bytes)
 stat_late h bytes p works is = let op = ops.Stat bytes in
     told_late h op
     (parent_fault (tree_view h.tree) [] p ∷ refuse_if (is_none (tree_view h.tree p)) ops.NoEnt ∷ [])
     (rw (sym works, sym is) refl)
     (parents op (tree_view h.tree) [] p refl, (late op _ _ refl, tt))
 
-pub list_late : (h : Held) (bytes : List ℕ) (p : Path) → false ≡ h.tree.failed → Some p ≡ path_of bytes → ComesLate h (ops.ListAll bytes)
+pub list_late : (h : SessionView) (bytes : List ℕ) (p : Path) → false ≡ h.tree.failed → Some p ≡ path_of bytes → PassesFirstChecks h (ops.ListAll bytes)
 list_late h bytes p works is = let op = ops.ListAll bytes in
     told_late h op
     (parent_fault (tree_view h.tree) [] p ∷ refuse_if (is_none (tree_view h.tree p)) ops.NoEnt ∷ refuse_if (is_file (tree_view h.tree p)) ops.NotDir ∷ [])
     (rw (sym works, sym is) refl)
     (parents op (tree_view h.tree) [] p refl, (late op _ _ refl, (late op _ _ refl, tt)))
 
-pub get_late : (h : Held) (bytes : List ℕ) (kind : ℕ) (p : Path) → false ≡ h.tree.failed → Some p ≡ entry_path bytes → ComesLate h (ops.GetAttr bytes kind)
+pub get_late : (h : SessionView) (bytes : List ℕ) (kind : ℕ) (p : Path) → false ≡ h.tree.failed → Some p ≡ entry_path bytes → PassesFirstChecks h (ops.GetAttr bytes kind)
 get_late h bytes kind p works is = let op = ops.GetAttr bytes kind in
     told_late h op
     (parent_fault (tree_view h.tree) [] p ∷ refuse_if (is_none (tree_view h.tree p)) ops.NoEnt ∷ refuse_if (is_none (attribute_of kind (attributes_of (tree_view h.tree p)))) ops.NoAttr ∷ [])
@@ -76,53 +76,53 @@ get_late h bytes kind p works is = let op = ops.GetAttr bytes kind in
 
 -- ---- changes
 
-pub mkdir_late : (h : Held) (bytes : List ℕ) (p : Path) → false ≡ h.tree.failed → true ≡ h.tree.writable → Some p ≡ path_of bytes → ComesLate h (ops.Mkdir bytes)
+pub mkdir_late : (h : SessionView) (bytes : List ℕ) (p : Path) → false ≡ h.tree.failed → true ≡ h.tree.writable → Some p ≡ path_of bytes → PassesFirstChecks h (ops.Mkdir bytes)
 mkdir_late h bytes p works writable is = let op = ops.Mkdir bytes in
     told_late h op
-    (parent_fault (tree_view h.tree) [] p ∷ refuse_if (is_long p) ops.NameTooLong ∷ refuse_if (is_some (tree_view h.tree p)) ops.Exist ∷ refuse_if (is_overcharged (around_of h.tree) (last_name p) []) ops.EntryFull ∷ refuse_if (lacks (around_of h.tree) h.files 4) ops.NoSpace ∷ [])
+    (parent_fault (tree_view h.tree) [] p ∷ refuse_if (is_long p) ops.NameTooLong ∷ refuse_if (is_some (tree_view h.tree p)) ops.Exist ∷ refuse_if (is_overcharged (surroundings_of h.tree) (last_name p) []) ops.EntryFull ∷ refuse_if (lacks (surroundings_of h.tree) h.files 4) ops.NoSpace ∷ [])
     (rw (sym works, sym writable, sym is) refl)
     (parents op (tree_view h.tree) [] p refl, (late op _ _ refl, (late op _ _ refl, (late op _ _ refl, (late op _ _ refl, tt)))))
 
-pub remove_late : (h : Held) (bytes : List ℕ) (p : Path) → false ≡ h.tree.failed → true ≡ h.tree.writable → Some p ≡ entry_path bytes → ComesLate h (ops.Remove bytes)
+pub remove_late : (h : SessionView) (bytes : List ℕ) (p : Path) → false ≡ h.tree.failed → true ≡ h.tree.writable → Some p ≡ entry_path bytes → PassesFirstChecks h (ops.Remove bytes)
 remove_late h bytes p works writable is = let op = ops.Remove bytes in
     told_late h op
     (parent_fault (tree_view h.tree) [] p ∷ refuse_if (is_none (tree_view h.tree p)) ops.NoEnt ∷ refuse_if (nat_lt 0 (length (names_of (tree_view h.tree p)))) ops.NotEmpty ∷ refuse_if (is_open_at (same_path p) h.files) ops.Busy ∷ [])
     (rw (sym works, sym writable, (is_entry bytes p is).0, root_false bytes p is) refl)
     (parents op (tree_view h.tree) [] p refl, (late op _ _ refl, (late op _ _ refl, (late op _ _ refl, tt))))
 
-pub set_late : (h : Held) (bytes : List ℕ) (kind : ℕ) (value : List ℕ) (p : Path) → false ≡ h.tree.failed → true ≡ h.tree.writable → Some p ≡ entry_path bytes → ComesLate h (ops.SetAttr bytes kind value)
+pub set_late : (h : SessionView) (bytes : List ℕ) (kind : ℕ) (value : List ℕ) (p : Path) → false ≡ h.tree.failed → true ≡ h.tree.writable → Some p ≡ entry_path bytes → PassesFirstChecks h (ops.SetAttr bytes kind value)
 set_late h bytes kind value p works writable is = let op = ops.SetAttr bytes kind value in
     told_late h op
-    (parent_fault (tree_view h.tree) [] p ∷ refuse_if (is_none (tree_view h.tree p)) ops.NoEnt ∷ refuse_if (nat_lt attribute_limit (length value)) ops.TooBig ∷ refuse_if (is_overcharged (around_of h.tree) (last_name p) (put_attribute kind value (attributes_of (tree_view h.tree p)))) ops.EntryFull ∷ refuse_if (lacks (around_of h.tree) h.files 2) ops.NoSpace ∷ [])
+    (parent_fault (tree_view h.tree) [] p ∷ refuse_if (is_none (tree_view h.tree p)) ops.NoEnt ∷ refuse_if (nat_lt attribute_limit (length value)) ops.TooBig ∷ refuse_if (is_overcharged (surroundings_of h.tree) (last_name p) (put_attribute kind value (attributes_of (tree_view h.tree p)))) ops.EntryFull ∷ refuse_if (lacks (surroundings_of h.tree) h.files 2) ops.NoSpace ∷ [])
     (rw (sym works, sym writable, (is_entry bytes p is).0, root_false bytes p is) refl)
     (parents op (tree_view h.tree) [] p refl, (late op _ _ refl, (late op _ _ refl, (late op _ _ refl, (late op _ _ refl, tt)))))
 
-pub remove_attr_late : (h : Held) (bytes : List ℕ) (kind : ℕ) (p : Path) → false ≡ h.tree.failed → true ≡ h.tree.writable → Some p ≡ entry_path bytes → ComesLate h (ops.RemoveAttr bytes kind)
+pub remove_attr_late : (h : SessionView) (bytes : List ℕ) (kind : ℕ) (p : Path) → false ≡ h.tree.failed → true ≡ h.tree.writable → Some p ≡ entry_path bytes → PassesFirstChecks h (ops.RemoveAttr bytes kind)
 remove_attr_late h bytes kind p works writable is = let op = ops.RemoveAttr bytes kind in
     told_late h op
     (parent_fault (tree_view h.tree) [] p ∷ refuse_if (is_none (tree_view h.tree p)) ops.NoEnt ∷ refuse_if (is_none (attribute_of kind (attributes_of (tree_view h.tree p)))) ops.NoAttr ∷ [])
     (rw (sym works, sym writable, (is_entry bytes p is).0, root_false bytes p is) refl)
     (parents op (tree_view h.tree) [] p refl, (late op _ _ refl, (late op _ _ refl, tt)))
 
-pub rename_late : (h : Held) (old new : List ℕ) (p q : Path) → false ≡ h.tree.failed → true ≡ h.tree.writable → Some p ≡ entry_path old → Some q ≡ entry_path new → is_beneath (as_path old) (as_path new) ≡ false → ComesLate h (ops.Rename old new)
+pub rename_late : (h : SessionView) (old new : List ℕ) (p q : Path) → false ≡ h.tree.failed → true ≡ h.tree.writable → Some p ≡ entry_path old → Some q ≡ entry_path new → is_beneath (as_path old) (as_path new) ≡ false → PassesFirstChecks h (ops.Rename old new)
 rename_late h old new p q works writable from to apart = let op = ops.Rename old new in
     told_late h op
-    (parent_fault (tree_view h.tree) [] (as_path old) ∷ parent_fault (tree_view h.tree) [] (as_path new) ∷ refuse_if (is_long (as_path new)) ops.NameTooLong ∷ refuse_if (is_none (tree_view h.tree (as_path old))) ops.NoEnt ∷ refuse_if (not (same_path (as_path old) (as_path new)) && is_directory (tree_view h.tree (as_path old)) && is_file (tree_view h.tree (as_path new))) ops.NotDir ∷ refuse_if (not (same_path (as_path old) (as_path new)) && is_file (tree_view h.tree (as_path old)) && is_directory (tree_view h.tree (as_path new))) ops.IsDir ∷ refuse_if (not (same_path (as_path old) (as_path new)) && nat_lt 0 (length (names_of (tree_view h.tree (as_path new))))) ops.NotEmpty ∷ refuse_if (is_open_at (λ x. is_some (rest_after (as_path old) x) || same_path (as_path new) x) h.files) ops.Busy ∷ refuse_if (not (same_path (as_path old) (as_path new)) && is_overcharged (around_of h.tree) (last_name (as_path new)) (attributes_of (tree_view h.tree (as_path old)))) ops.EntryFull ∷ refuse_if (lacks (around_of h.tree) h.files 2) ops.NoSpace ∷ [])
+    (parent_fault (tree_view h.tree) [] (as_path old) ∷ parent_fault (tree_view h.tree) [] (as_path new) ∷ refuse_if (is_long (as_path new)) ops.NameTooLong ∷ refuse_if (is_none (tree_view h.tree (as_path old))) ops.NoEnt ∷ refuse_if (not (same_path (as_path old) (as_path new)) && is_directory (tree_view h.tree (as_path old)) && is_file (tree_view h.tree (as_path new))) ops.NotDir ∷ refuse_if (not (same_path (as_path old) (as_path new)) && is_file (tree_view h.tree (as_path old)) && is_directory (tree_view h.tree (as_path new))) ops.IsDir ∷ refuse_if (not (same_path (as_path old) (as_path new)) && nat_lt 0 (length (names_of (tree_view h.tree (as_path new))))) ops.NotEmpty ∷ refuse_if (is_open_at (λ x. is_some (rest_after (as_path old) x) || same_path (as_path new) x) h.files) ops.Busy ∷ refuse_if (not (same_path (as_path old) (as_path new)) && is_overcharged (surroundings_of h.tree) (last_name (as_path new)) (attributes_of (tree_view h.tree (as_path old)))) ops.EntryFull ∷ refuse_if (lacks (surroundings_of h.tree) h.files 2) ops.NoSpace ∷ [])
     (rw (sym works, sym writable, (is_entry old p from).1, (is_entry new q to).1, apart) refl)
     (parents op (tree_view h.tree) [] (as_path old) refl, (parents op (tree_view h.tree) [] (as_path new) refl, (late op _ _ refl, (late op _ _ refl, (late op _ _ refl, (late op _ _ refl, (late op _ _ refl, (late op _ _ refl, (late op _ _ refl, (late op _ _ refl, tt))))))))))
 
 -- ---- opens
 
-pub reader_late : (h : Held) (bytes : List ℕ) (p : Path) (flags : Flags) → false ≡ h.tree.failed → Some p ≡ path_of bytes → flags.write ≡ false → true ≡ is_allowed flags → ComesLate h (ops.Open bytes flags)
+pub reader_late : (h : SessionView) (bytes : List ℕ) (p : Path) (flags : Flags) → false ≡ h.tree.failed → Some p ≡ path_of bytes → flags.write ≡ false → true ≡ is_allowed flags → PassesFirstChecks h (ops.Open bytes flags)
 reader_late h bytes p flags works is write allowed = let op = ops.Open bytes flags in
     told_late h op
-    (parent_fault (tree_view h.tree) [] p ∷ refuse_if (is_none (tree_view h.tree p) && flags.create && is_long p) ops.NameTooLong ∷ refuse_if (is_none (tree_view h.tree p) && not flags.create) ops.NoEnt ∷ refuse_if (is_some (tree_view h.tree p) && flags.exclusive) ops.Exist ∷ refuse_if (is_directory (tree_view h.tree p)) ops.IsDir ∷ refuse_if (list_any (λ w. same_path p w.path) (writers h.files) || nat_le 16 (length (readers h.files))) ops.Busy ∷ refuse_if (is_none (tree_view h.tree p) && is_overcharged (around_of h.tree) (last_name p) []) ops.EntryFull ∷ refuse_if (is_none (tree_view h.tree p) && lacks (around_of h.tree) h.files 2) ops.NoSpace ∷ refuse_if (flags.truncate && overfills (around_of h.tree) (opened_writer p flags (bytes_at (tree_view h.tree p)))) ops.NoSpace ∷ [])
+    (parent_fault (tree_view h.tree) [] p ∷ refuse_if (is_none (tree_view h.tree p) && flags.create && is_long p) ops.NameTooLong ∷ refuse_if (is_none (tree_view h.tree p) && not flags.create) ops.NoEnt ∷ refuse_if (is_some (tree_view h.tree p) && flags.exclusive) ops.Exist ∷ refuse_if (is_directory (tree_view h.tree p)) ops.IsDir ∷ refuse_if (list_any (λ w. same_path p w.path) (writers h.files) || nat_le 16 (length (readers h.files))) ops.Busy ∷ refuse_if (is_none (tree_view h.tree p) && is_overcharged (surroundings_of h.tree) (last_name p) []) ops.EntryFull ∷ refuse_if (is_none (tree_view h.tree p) && lacks (surroundings_of h.tree) h.files 2) ops.NoSpace ∷ refuse_if (flags.truncate && overfills (surroundings_of h.tree) (opened_writer p flags (bytes_at (tree_view h.tree p)))) ops.NoSpace ∷ [])
     (rw (sym works, sym is, sym allowed, write) refl)
     (parents op (tree_view h.tree) [] p refl, (late op _ _ refl, (late op _ _ refl, (late op _ _ refl, (late op _ _ refl, (late op _ _ refl, (late op _ _ refl, (late op _ _ refl, (late op _ _ refl, tt)))))))))
 
-pub writer_late : (h : Held) (bytes : List ℕ) (p : Path) (flags : Flags) → false ≡ h.tree.failed → true ≡ h.tree.writable → Some p ≡ path_of bytes → flags.write ≡ true → true ≡ is_allowed flags → ComesLate h (ops.Open bytes flags)
+pub writer_late : (h : SessionView) (bytes : List ℕ) (p : Path) (flags : Flags) → false ≡ h.tree.failed → true ≡ h.tree.writable → Some p ≡ path_of bytes → flags.write ≡ true → true ≡ is_allowed flags → PassesFirstChecks h (ops.Open bytes flags)
 writer_late h bytes p flags works writable is write allowed = let op = ops.Open bytes flags in
     told_late h op
-    (parent_fault (tree_view h.tree) [] p ∷ refuse_if (is_none (tree_view h.tree p) && flags.create && is_long p) ops.NameTooLong ∷ refuse_if (is_none (tree_view h.tree p) && not flags.create) ops.NoEnt ∷ refuse_if (is_some (tree_view h.tree p) && flags.exclusive) ops.Exist ∷ refuse_if (is_directory (tree_view h.tree p)) ops.IsDir ∷ refuse_if (nat_lt 0 (length (writers h.files)) || is_open_at (same_path p) h.files) ops.Busy ∷ refuse_if (is_none (tree_view h.tree p) && is_overcharged (around_of h.tree) (last_name p) []) ops.EntryFull ∷ refuse_if (is_none (tree_view h.tree p) && lacks (around_of h.tree) h.files 2) ops.NoSpace ∷ refuse_if (flags.truncate && overfills (around_of h.tree) (opened_writer p flags (bytes_at (tree_view h.tree p)))) ops.NoSpace ∷ [])
+    (parent_fault (tree_view h.tree) [] p ∷ refuse_if (is_none (tree_view h.tree p) && flags.create && is_long p) ops.NameTooLong ∷ refuse_if (is_none (tree_view h.tree p) && not flags.create) ops.NoEnt ∷ refuse_if (is_some (tree_view h.tree p) && flags.exclusive) ops.Exist ∷ refuse_if (is_directory (tree_view h.tree p)) ops.IsDir ∷ refuse_if (nat_lt 0 (length (writers h.files)) || is_open_at (same_path p) h.files) ops.Busy ∷ refuse_if (is_none (tree_view h.tree p) && is_overcharged (surroundings_of h.tree) (last_name p) []) ops.EntryFull ∷ refuse_if (is_none (tree_view h.tree p) && lacks (surroundings_of h.tree) h.files 2) ops.NoSpace ∷ refuse_if (flags.truncate && overfills (surroundings_of h.tree) (opened_writer p flags (bytes_at (tree_view h.tree p)))) ops.NoSpace ∷ [])
     (rw (sym works, sym writable, sym is, sym allowed, write) refl)
     (parents op (tree_view h.tree) [] p refl, (late op _ _ refl, (late op _ _ refl, (late op _ _ refl, (late op _ _ refl, (late op _ _ refl, (late op _ _ refl, (late op _ _ refl, (late op _ _ refl, tt)))))))))

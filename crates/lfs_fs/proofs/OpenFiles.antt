@@ -15,15 +15,15 @@ use Rattle.std.proofs.lemmas.Option.{slice_get-map}
 use Rattle.lfs_model.specs.TreeEdits.{same_path}
 use Rattle.lfs_model.specs.Tree.{Path}
 use Rattle.lfs_model.specs.Session as session
-use Rattle.lfs_model.specs.Session.{is_open_at, Files, Reading, file_of, free_number, held, held_by, put_file, reader_of, readers, writers, ctz_blocks}
+use Rattle.lfs_model.specs.Session.{is_open_at, Files, Reading, file_of, free_number, blocks_held_by_all, blocks_held_by, put_file, reader_of, readers, writers, ctz_blocks}
 use Rattle.lfs_model.specs.Refusals.{as_path}
 use Rattle.lfs_model.specs.Effects.{moved_to}
 use Rattle.lfs_model.specs.Operations.{path_of}
 use Rattle.lfs_model.specs.Disk.{block_count}
 use Rattle.lfs_model.specs.Session.{lacks}
-use Rattle.lfs_tree.specs.TreeState.{TreeState, IsAsked, around_of}
-use Rattle.lfs_fs.specs.FileView.{OpenFiles, before, picked, bytes_of, entry_of, file_view, files_view, free_entry, has_unsaved, is_entry_at, is_unsaved_entry, held_by_all, held_by_size, held_for, moved_entry, put_entry, reader_in, reader_view, readers_in, turned_in, writer_in, writer_view, writers_in, written_paths}
-use Rattle.lfs_fs.specs.Held.{IsRead, IsReady, IsUnsavedIn, IsWritten}
+use Rattle.lfs_tree.specs.TreeState.{TreeState, WasOnlyRead, surroundings_of}
+use Rattle.lfs_fs.specs.FileView.{OpenFiles, with_first, entries_picked, bytes_of, open_file_at, file_view, files_view, free_entry, has_unsaved, is_entry_at, is_unsaved_entry, held_by_all, held_by_size, held_for, moved_entry, put_entry, reader_in, reader_view, readers_in, turned_in, writer_in, writer_view, writers_in, written_paths}
+use Rattle.lfs_fs.specs.SessionView.{IsReaderOf, IsReady, IsUnsavedIn, IsUnderWriter}
 use Rattle.lfs_fs.specs.declared.files.OpenFile.{OpenFile}
 use Rattle.lfs_fs.specs.declared.files.OpenFile.TheVariants as file
 use Rattle.lfs_fs.specs.declared.files.Reader.{Reader}
@@ -33,7 +33,7 @@ use Rattle.lfs_fs.proofs.OpenReaders.{any_path, read_closed, read_moved, read_pu
 
 -- ---- one file
 
-pub file_is : (t : TreeState) (fs : OpenFiles) (fd : ℕ) → file_of (files_view t fs) fd ≡ option_map (file_view t) (entry_of fs fd)
+pub file_is : (t : TreeState) (fs : OpenFiles) (fd : ℕ) → file_of (files_view t fs) fd ≡ option_map (file_view t) (open_file_at fs fd)
 file_is t fs fd = ap option_flatten (slice_get-map (option_map (file_view t)) fs fd) ∙ flat (slice_get fs fd)
   where
     flat : (o : Option (Option OpenFile)) → option_flatten (option_map (option_map (file_view t)) o) ≡ option_map (file_view t) (option_flatten o)
@@ -56,7 +56,7 @@ writer_is t (Some (file.Writing w)) = refl
 
 -- ---- all of them
 
-pub same_files : (t s : TreeState) (fs : OpenFiles) → IsAsked t s → files_view t fs ≡ files_view s fs
+pub same_files : (t s : TreeState) (fs : OpenFiles) → WasOnlyRead t s → files_view t fs ≡ files_view s fs
 same_files t s fs asked = sym (ap (λ z. files_view z fs) asked.same)
 
 pub writers_are : (t : TreeState) (fs : OpenFiles) → writers (files_view t fs) ≡ map (writer_view t) (writers_in fs)
@@ -91,22 +91,22 @@ busy t fs p = ap₂ (λ b n. b || nat_le 16 n) (sym (ap (list_any (λ w. same_pa
 
 -- ---- space
 
-pub held_one : (block_size : ℕ) (t : TreeState) (w : Writer) → length (bytes_of t w.path w.unsaved) ≡ w.size → held_by_size block_size w ≡ held_by block_size (writer_view t w)
+pub held_one : (block_size : ℕ) (t : TreeState) (w : Writer) → length (bytes_of t w.path w.unsaved) ≡ w.size → held_by_size block_size w ≡ blocks_held_by block_size (writer_view t w)
 held_one block_size t w e = sizes w.unsaved w.size ∙ ap (λ n. cond (not (is_some w.unsaved)) 0 (held_for block_size (turned_in w.unsaved) n)) (sym e)
   where
     sizes : (u : Option Unsaved) (n : ℕ) → cond (is_none u) 0 (held_for block_size (turned_in u) n) ≡ cond (not (is_some u)) 0 (held_for block_size (turned_in u) n)
     sizes None n = refl
     sizes (Some u) n = refl
 
-held_each : (block_size a : ℕ) (t : TreeState) (ws : List Writer) → AllByRecursion (IsWritten t) ws →
-    fold (λ a x. a + held_by_size block_size x) a ws ≡ fold (λ a x. a + held_by block_size x) a (map (writer_view t) ws)
+held_each : (block_size a : ℕ) (t : TreeState) (ws : List Writer) → AllByRecursion (IsUnderWriter t) ws →
+    fold (λ a x. a + held_by_size block_size x) a ws ≡ fold (λ a x. a + blocks_held_by block_size x) a (map (writer_view t) ws)
 held_each block_size a t [] h = refl
 held_each block_size a t (w ∷ ws) h =
     held_each block_size (a + held_by_size block_size w) t ws h.1
-    ∙ ap (λ n. fold (λ a x. a + held_by block_size x) (a + n) (map (writer_view t) ws)) (held_one block_size t w h.0.size)
+    ∙ ap (λ n. fold (λ a x. a + blocks_held_by block_size x) (a + n) (map (writer_view t) ws)) (held_one block_size t w h.0.size)
 
-pub held_is : (block_size : ℕ) (t : TreeState) (fs : OpenFiles) → IsReady t fs → held_by_all block_size fs ≡ held block_size (files_view t fs)
-held_is block_size t fs ready = held_each block_size 0 t (writers_in fs) ready.written ∙ sym (ap (sum_by (held_by block_size)) (writers_are t fs))
+pub held_is : (block_size : ℕ) (t : TreeState) (fs : OpenFiles) → IsReady t fs → held_by_all block_size fs ≡ blocks_held_by_all block_size (files_view t fs)
+held_is block_size t fs ready = held_each block_size 0 t (writers_in fs) ready.written ∙ sym (ap (sum_by (blocks_held_by block_size)) (writers_are t fs))
 
 -- ---- numbers
 
@@ -144,19 +144,19 @@ put_is t fs fd entry = go (nat_lt fd (length fs)) refl
 one_further : (n m : ℕ) → nat_lt n m ≡ true → nat_lt (suc n) (suc m) ≡ true
 one_further n m e = grind (arith, nat_tests)
 
-pub inside : (fs : OpenFiles) (fd : ℕ) → is_some (entry_of fs fd) ≡ true → nat_lt fd (length fs) ≡ true
+pub inside : (fs : OpenFiles) (fd : ℕ) → is_some (open_file_at fs fd) ≡ true → nat_lt fd (length fs) ≡ true
 inside [] fd e = absurd (cc)
 inside (f ∷ fs) zero e = lt-ltb 0 (length (f ∷ fs)) (omega arith)
 inside (f ∷ fs) (suc fd) e = one_further fd (length fs) (inside fs fd e)
 
-pub set_is : (t : TreeState) (fs : OpenFiles) (fd : ℕ) (entry : Option OpenFile) → is_some (entry_of fs fd) ≡ true → files_view t (set fs fd entry) ≡ put_file (files_view t fs) fd (option_map (file_view t) entry)
+pub set_is : (t : TreeState) (fs : OpenFiles) (fd : ℕ) (entry : Option OpenFile) → is_some (open_file_at fs fd) ≡ true → files_view t (set fs fd entry) ≡ put_file (files_view t fs) fd (option_map (file_view t) entry)
 set_is t fs fd entry e = sym (ap (λ b. files_view t (cond b (set fs fd entry) (fs ++ entry ∷ []))) (inside fs fd e)) ∙ put_is t fs fd entry
 
-pub moved_is : (t : TreeState) (fs : OpenFiles) (fd position : ℕ) → is_some (entry_of fs fd) ≡ true →
-    files_view t (set fs fd (option_map (moved_entry position) (entry_of fs fd))) ≡ put_file (files_view t fs) fd (option_map (moved_to position) (file_of (files_view t fs) fd))
+pub moved_is : (t : TreeState) (fs : OpenFiles) (fd position : ℕ) → is_some (open_file_at fs fd) ≡ true →
+    files_view t (set fs fd (option_map (moved_entry position) (open_file_at fs fd))) ≡ put_file (files_view t fs) fd (option_map (moved_to position) (file_of (files_view t fs) fd))
 moved_is t fs fd position e =
-    set_is t fs fd (option_map (moved_entry position) (entry_of fs fd)) e
-    ∙ ap (put_file (files_view t fs) fd) (moved (entry_of fs fd) ∙ sym (ap (option_map (moved_to position)) (file_is t fs fd)))
+    set_is t fs fd (option_map (moved_entry position) (open_file_at fs fd)) e
+    ∙ ap (put_file (files_view t fs) fd) (moved (open_file_at fs fd) ∙ sym (ap (option_map (moved_to position)) (file_is t fs fd)))
   where
     moved : (o : Option OpenFile) → option_map (file_view t) (option_map (moved_entry position) o) ≡ option_map (moved_to position) (option_map (file_view t) o)
     moved None = refl
@@ -199,7 +199,7 @@ unsaved_moved_in : (t : TreeState) (w : Writer) (place : ℕ) (u : Option Unsave
 unsaved_moved_in t w place None h = tt
 unsaved_moved_in t w place (Some u) h = record { over = h.over; kept = kept_moved t.disk.block_size place (form_of u.contents) (writer_view t w) h.kept; form = h.form; room = h.room }
 
-written_moved : (t : TreeState) (fs : OpenFiles) (fd position : ℕ) → AllByRecursion (IsWritten t) (writers_in fs) → AllByRecursion (IsWritten t) (writers_in (set fs fd (option_map (moved_entry position) (entry_of fs fd))))
+written_moved : (t : TreeState) (fs : OpenFiles) (fd position : ℕ) → AllByRecursion (IsUnderWriter t) (writers_in fs) → AllByRecursion (IsUnderWriter t) (writers_in (set fs fd (option_map (moved_entry position) (open_file_at fs fd))))
 written_moved t [] fd position h = h
 written_moved t (None ∷ fs) zero position h = h
 written_moved t (Some (file.Reading r) ∷ fs) zero position h = h
@@ -208,7 +208,7 @@ written_moved t (None ∷ fs) (suc fd) position h = written_moved t fs fd positi
 written_moved t (Some (file.Reading r) ∷ fs) (suc fd) position h = written_moved t fs fd position h
 written_moved t (Some (file.Writing w) ∷ fs) (suc fd) position h = (h.0, written_moved t fs fd position h.1)
 
-pub unsaved_moved : (fs : OpenFiles) (fd position : ℕ) → has_unsaved (set fs fd (option_map (moved_entry position) (entry_of fs fd))) ≡ has_unsaved fs
+pub unsaved_moved : (fs : OpenFiles) (fd position : ℕ) → has_unsaved (set fs fd (option_map (moved_entry position) (open_file_at fs fd))) ≡ has_unsaved fs
 unsaved_moved [] fd position = refl
 unsaved_moved (None ∷ fs) zero position = refl
 unsaved_moved (Some (file.Reading r) ∷ fs) zero position = refl
@@ -217,7 +217,7 @@ unsaved_moved (None ∷ fs) (suc fd) position = unsaved_moved fs fd position
 unsaved_moved (Some (file.Reading r) ∷ fs) (suc fd) position = unsaved_moved fs fd position
 unsaved_moved (Some (file.Writing w) ∷ fs) (suc fd) position = ap (λ b. is_some w.unsaved || b) (unsaved_moved fs fd position)
 
-written_closed : (t : TreeState) (fs : OpenFiles) (fd : ℕ) → AllByRecursion (IsWritten t) (writers_in fs) → AllByRecursion (IsWritten t) (writers_in (set fs fd None))
+written_closed : (t : TreeState) (fs : OpenFiles) (fd : ℕ) → AllByRecursion (IsUnderWriter t) (writers_in fs) → AllByRecursion (IsUnderWriter t) (writers_in (set fs fd None))
 written_closed t [] fd h = h
 written_closed t (None ∷ fs) zero h = h
 written_closed t (Some (file.Reading r) ∷ fs) zero h = h
@@ -249,7 +249,7 @@ saved_first : (u : Option Unsaved) (b : Bool) → is_none u ≡ true → (is_som
 saved_first None b e = refl
 saved_first (Some u) b e = absurd (cc)
 
-pub unsaved_closed : (fs : OpenFiles) (fd : ℕ) → is_saved (entry_of fs fd) ≡ true → has_unsaved (set fs fd None) ≡ has_unsaved fs
+pub unsaved_closed : (fs : OpenFiles) (fd : ℕ) → is_saved (open_file_at fs fd) ≡ true → has_unsaved (set fs fd None) ≡ has_unsaved fs
 unsaved_closed [] fd e = refl
 unsaved_closed (None ∷ fs) zero e = refl
 unsaved_closed (Some (file.Reading r) ∷ fs) zero e = refl
@@ -264,28 +264,28 @@ abbrev pub one_of : {A : Type 0} → Option A → ℕ
 one_of None = 0
 one_of (Some x) = 1
 
-before_length : {A : Type 0} (o : Option A) (xs : List A) → length (before o xs) ≡ one_of o + length xs
+before_length : {A : Type 0} (o : Option A) (xs : List A) → length (with_first o xs) ≡ one_of o + length xs
 before_length None xs = omega arith
 before_length (Some x) xs = omega arith
 
 pub count_set : {A : Type 0} (kind : Option OpenFile → Option A) (fs : OpenFiles) (fd : ℕ) (entry : Option OpenFile) → fd < length fs →
-    length (picked kind (set fs fd entry)) + one_of (kind (entry_of fs fd)) ≡ length (picked kind fs) + one_of (kind entry)
+    length (entries_picked kind (set fs fd entry)) + one_of (kind (open_file_at fs fd)) ≡ length (entries_picked kind fs) + one_of (kind entry)
 count_set kind [] fd entry lt = absurd (omega (arith, lt))
-count_set kind (f ∷ fs) zero entry lt = omega (arith, before_length (kind entry) (picked kind fs), before_length (kind f) (picked kind fs))
+count_set kind (f ∷ fs) zero entry lt = omega (arith, before_length (kind entry) (entries_picked kind fs), before_length (kind f) (entries_picked kind fs))
 count_set kind (f ∷ fs) (suc fd) entry lt =
     let k = count_set kind fs fd entry (omega (arith, lt)) in
-    omega (arith, k, before_length (kind f) (picked kind (set fs fd entry)), before_length (kind f) (picked kind fs))
+    omega (arith, k, before_length (kind f) (entries_picked kind (set fs fd entry)), before_length (kind f) (entries_picked kind fs))
 
-count_behind : {A : Type 0} (kind : Option OpenFile → Option A) (fs : OpenFiles) (entry : Option OpenFile) → length (picked kind (fs ++ entry ∷ [])) ≡ length (picked kind fs) + one_of (kind entry)
+count_behind : {A : Type 0} (kind : Option OpenFile → Option A) (fs : OpenFiles) (entry : Option OpenFile) → length (entries_picked kind (fs ++ entry ∷ [])) ≡ length (entries_picked kind fs) + one_of (kind entry)
 count_behind kind [] entry = omega (arith, before_length (kind entry) [])
 count_behind kind (f ∷ fs) entry =
     let k = count_behind kind fs entry in
-    omega (arith, k, before_length (kind f) (picked kind (fs ++ entry ∷ [])), before_length (kind f) (picked kind fs))
+    omega (arith, k, before_length (kind f) (entries_picked kind (fs ++ entry ∷ [])), before_length (kind f) (entries_picked kind fs))
 
-pub count_put : {A : Type 0} (kind : Option OpenFile → Option A) (fs : OpenFiles) (fd : ℕ) (entry : Option OpenFile) → length (picked kind (put_entry fs fd entry)) ≤ length (picked kind fs) + one_of (kind entry)
+pub count_put : {A : Type 0} (kind : Option OpenFile → Option A) (fs : OpenFiles) (fd : ℕ) (entry : Option OpenFile) → length (entries_picked kind (put_entry fs fd entry)) ≤ length (entries_picked kind fs) + one_of (kind entry)
 count_put kind fs fd entry = go (nat_lt fd (length fs)) refl
   where
-    go : (b : Bool) → nat_lt fd (length fs) ≡ b → length (picked kind (put_entry fs fd entry)) ≤ length (picked kind fs) + one_of (kind entry)
+    go : (b : Bool) → nat_lt fd (length fs) ≡ b → length (entries_picked kind (put_entry fs fd entry)) ≤ length (entries_picked kind fs) + one_of (kind entry)
     go true e =
         let k = count_set kind fs fd entry (ltb-true fd (length fs) e) in
         rw e (omega (arith, k))
@@ -294,16 +294,16 @@ count_put kind fs fd entry = go (nat_lt fd (length fs)) refl
         rw e (omega (arith, k))
 
 -- files that stay few
-pub few_put : {A : Type 0} (kind : Option OpenFile → Option A) (fs gs : OpenFiles) (fd limit : ℕ) (entry : Option OpenFile) → gs ≡ put_entry fs fd entry → length (picked kind fs) + one_of (kind entry) ≤ limit → length (picked kind gs) ≤ limit
+pub few_put : {A : Type 0} (kind : Option OpenFile → Option A) (fs gs : OpenFiles) (fd limit : ℕ) (entry : Option OpenFile) → gs ≡ put_entry fs fd entry → length (entries_picked kind fs) + one_of (kind entry) ≤ limit → length (entries_picked kind gs) ≤ limit
 few_put kind fs gs fd limit entry is few =
     let k = count_put kind fs fd entry in
-    subst (λ xs. length (picked kind xs) ≤ limit) (sym is) (omega (arith, k, few))
+    subst (λ xs. length (entries_picked kind xs) ≤ limit) (sym is) (omega (arith, k, few))
 
-pub few_set : {A : Type 0} (kind : Option OpenFile → Option A) (fs gs : OpenFiles) (fd limit : ℕ) (entry : Option OpenFile) → gs ≡ set fs fd entry → fd < length fs → length (picked kind fs) ≤ limit →
-    one_of (kind entry) ≤ one_of (kind (entry_of fs fd)) → length (picked kind gs) ≤ limit
+pub few_set : {A : Type 0} (kind : Option OpenFile → Option A) (fs gs : OpenFiles) (fd limit : ℕ) (entry : Option OpenFile) → gs ≡ set fs fd entry → fd < length fs → length (entries_picked kind fs) ≤ limit →
+    one_of (kind entry) ≤ one_of (kind (open_file_at fs fd)) → length (entries_picked kind gs) ≤ limit
 few_set kind fs gs fd limit entry is lt few less =
     let k = count_set kind fs fd entry lt in
-    subst (λ xs. length (picked kind xs) ≤ limit) (sym is) (omega (arith, k, few, less))
+    subst (λ xs. length (entries_picked kind xs) ≤ limit) (sym is) (omega (arith, k, few, less))
 
 pub less_moved : {A : Type 0} (kind : Option OpenFile → Option A) (position : ℕ) (o : Option OpenFile) → ((f : OpenFile) → one_of (kind (Some (moved_entry position f))) ≡ one_of (kind (Some f))) → one_of (kind (option_map (moved_entry position) o)) ≤ one_of (kind o)
 less_moved kind position None same = omega arith
@@ -317,7 +317,7 @@ pub writer_moved : (position : ℕ) (f : OpenFile) → one_of (writer_in (Some (
 writer_moved position (file.Reading r) = refl
 writer_moved position (file.Writing w) = refl
 
-pub inside_is : (fs : OpenFiles) (fd : ℕ) → is_some (entry_of fs fd) ≡ true → fd < length fs
+pub inside_is : (fs : OpenFiles) (fd : ℕ) → is_some (open_file_at fs fd) ≡ true → fd < length fs
 inside_is fs fd e = ltb-true fd (length fs) (inside fs fd e)
 
 -- ---- a session with one writer
@@ -332,7 +332,7 @@ none_left : {A : Type 0} (xs : List A) → length xs ≤ 0 → xs ≡ []
 none_left [] h = refl
 none_left (x ∷ xs) h = absurd (omega (arith, h))
 
-no_such : (fs : OpenFiles) (fd : ℕ) (w : Writer) → writers_in fs ≡ [] → entry_of fs fd ≡ Some (file.Writing w) → ⊥
+no_such : (fs : OpenFiles) (fd : ℕ) (w : Writer) → writers_in fs ≡ [] → open_file_at fs fd ≡ Some (file.Writing w) → ⊥
 no_such [] fd w none e = absurd (cc)
 no_such (None ∷ fs) zero w none e = absurd (cc)
 no_such (Some (file.Reading r) ∷ fs) zero w none e = absurd (let k = ap writer_in e in cc)
@@ -341,7 +341,7 @@ no_such (None ∷ fs) (suc fd) w none e = no_such fs fd w none e
 no_such (Some (file.Reading r) ∷ fs) (suc fd) w none e = no_such fs fd w none e
 no_such (Some (file.Writing v) ∷ fs) (suc fd) w none e = absurd (cc)
 
-pub only : (fs : OpenFiles) (fd : ℕ) (w : Writer) → entry_of fs fd ≡ Some (file.Writing w) → length (writers_in fs) ≤ 1 → IsOnly fs fd w
+pub only : (fs : OpenFiles) (fd : ℕ) (w : Writer) → open_file_at fs fd ≡ Some (file.Writing w) → length (writers_in fs) ≤ 1 → IsOnly fs fd w
 only [] fd w e few = absurd (cc)
 only (None ∷ fs) zero w e few = absurd (cc)
 only (Some (file.Reading r) ∷ fs) zero w e few = absurd (let k = ap writer_in e in cc)
@@ -358,7 +358,7 @@ only (Some (file.Writing v) ∷ fs) (suc fd) w e few = absurd (no_such fs fd w (
 
 -- ---- a session that stays ready
 
-one_moved : (fs : OpenFiles) (fd position : ℕ) → length (writers_in fs) ≤ 1 → length (writers_in (set fs fd (option_map (moved_entry position) (entry_of fs fd)))) ≤ 1
+one_moved : (fs : OpenFiles) (fd position : ℕ) → length (writers_in fs) ≤ 1 → length (writers_in (set fs fd (option_map (moved_entry position) (open_file_at fs fd)))) ≤ 1
 one_moved [] fd position h = h
 one_moved (None ∷ fs) zero position h = h
 one_moved (Some (file.Reading r) ∷ fs) zero position h = h
@@ -368,7 +368,7 @@ one_moved (Some (file.Reading r) ∷ fs) (suc fd) position h = one_moved fs fd p
 one_moved (Some (file.Writing w) ∷ fs) (suc fd) position h =
     subst (λ xs. length (w ∷ xs) ≤ 1) (sym (unmoved fs fd (none_left (writers_in fs) (omega (arith, h))))) (omega arith)
   where
-    unmoved : (fs : OpenFiles) (fd : ℕ) → writers_in fs ≡ [] → writers_in (set fs fd (option_map (moved_entry position) (entry_of fs fd))) ≡ []
+    unmoved : (fs : OpenFiles) (fd : ℕ) → writers_in fs ≡ [] → writers_in (set fs fd (option_map (moved_entry position) (open_file_at fs fd))) ≡ []
     unmoved [] fd e = refl
     unmoved (None ∷ fs) zero e = e
     unmoved (Some (file.Reading r) ∷ fs) zero e = e
@@ -389,7 +389,7 @@ one_closed fs fd h = let k = fewer fs fd in omega (arith, k, h)
     fewer (Some (file.Reading r) ∷ fs) (suc fd) = fewer fs fd
     fewer (Some (file.Writing w) ∷ fs) (suc fd) = let k = fewer fs fd in omega (arith, k)
 
-pub ready_moved : (t : TreeState) (fs : OpenFiles) (fd position : ℕ) → IsReady t fs → IsReady t (set fs fd (option_map (moved_entry position) (entry_of fs fd)))
+pub ready_moved : (t : TreeState) (fs : OpenFiles) (fd position : ℕ) → IsReady t fs → IsReady t (set fs fd (option_map (moved_entry position) (open_file_at fs fd)))
 ready_moved t fs fd position h = record {
   sound = h.sound;
   called = h.called;
@@ -399,7 +399,7 @@ ready_moved t fs fd position h = record {
   read = read_moved t.pairs fs fd position h.read;
 }
 
-pub ready_closed : (t : TreeState) (fs : OpenFiles) (fd : ℕ) → is_saved (entry_of fs fd) ≡ true → IsReady t fs → IsReady t (set fs fd None)
+pub ready_closed : (t : TreeState) (fs : OpenFiles) (fd : ℕ) → is_saved (open_file_at fs fd) ≡ true → IsReady t fs → IsReady t (set fs fd None)
 ready_closed t fs fd e h = record {
   sound = h.sound;
   called = h.called;
@@ -409,13 +409,13 @@ ready_closed t fs fd e h = record {
   read = read_closed t.pairs fs fd h.read;
 }
 
-pub ready_put : (t : TreeState) (fs : OpenFiles) (r : Reader) → IsRead t.pairs (written_paths fs) r → IsReady t fs → IsReady t (put_entry fs (free_entry fs) (Some (file.Reading r)))
+pub ready_put : (t : TreeState) (fs : OpenFiles) (r : Reader) → IsReaderOf t.pairs (written_paths fs) r → IsReady t fs → IsReady t (put_entry fs (free_entry fs) (Some (file.Reading r)))
 ready_put t fs r k h = record {
   sound = h.sound;
   called = h.called;
   one = subst (λ ws. length ws ≤ 1) (sym (writers_put fs r)) h.one;
   idle = λ e. h.idle (sym (ap (list_any (λ w. is_some w.unsaved)) (writers_put fs r)) ∙ e);
-  written = subst (AllByRecursion (IsWritten t)) (sym (writers_put fs r)) h.written;
+  written = subst (AllByRecursion (IsUnderWriter t)) (sym (writers_put fs r)) h.written;
   read = read_put t.pairs fs (free_entry fs) r (ap (map (λ w. w.path)) (writers_put fs r)) k h.read;
 }
 
@@ -436,14 +436,14 @@ busy_at t fs bytes p b is e =
     e ∙ busy t fs (as_path bytes)
     ∙ ap (λ q. list_any (λ w. same_path q w.path) (writers (files_view t fs)) || nat_le 16 (length (readers (files_view t fs)))) (ap (λ z. unwrap_or z []) (sym is))
 
-pub lacks_is : (t : TreeState) (fs : OpenFiles) (need : ℕ) → IsReady t fs → nat_lt (block_count t.disk) (length (around_of t).used + held_by_all t.disk.block_size fs + need) ≡ lacks (around_of t) (files_view t fs) need
-lacks_is t fs need ready = ap (λ h. nat_lt (block_count t.disk) (length (around_of t).used + h + need)) (held_is t.disk.block_size t fs ready)
+pub lacks_is : (t : TreeState) (fs : OpenFiles) (need : ℕ) → IsReady t fs → nat_lt (block_count t.disk) (length (surroundings_of t).used + held_by_all t.disk.block_size fs + need) ≡ lacks (surroundings_of t) (files_view t fs) need
+lacks_is t fs need ready = ap (λ h. nat_lt (block_count t.disk) (length (surroundings_of t).used + h + need)) (held_is t.disk.block_size t fs ready)
 
-pub some_reader : (t : TreeState) (fs : OpenFiles) (fd : ℕ) (r : Reader) → Some r ≡ reader_in (entry_of fs fd) → Some (reader_view r) ≡ reader_of (file_of (files_view t fs) fd)
-some_reader t fs fd r e = ap (option_map reader_view) e ∙ sym (ap reader_of (file_is t fs fd) ∙ reader_is t (entry_of fs fd))
+pub some_reader : (t : TreeState) (fs : OpenFiles) (fd : ℕ) (r : Reader) → Some r ≡ reader_in (open_file_at fs fd) → Some (reader_view r) ≡ reader_of (file_of (files_view t fs) fd)
+some_reader t fs fd r e = ap (option_map reader_view) e ∙ sym (ap reader_of (file_is t fs fd) ∙ reader_is t (open_file_at fs fd))
 
-pub none_reader : (t : TreeState) (fs : OpenFiles) (fd : ℕ) → None ≡ reader_in (entry_of fs fd) → None ≡ reader_of (file_of (files_view t fs) fd)
-none_reader t fs fd e = ap (option_map reader_view) e ∙ sym (ap reader_of (file_is t fs fd) ∙ reader_is t (entry_of fs fd))
+pub none_reader : (t : TreeState) (fs : OpenFiles) (fd : ℕ) → None ≡ reader_in (open_file_at fs fd) → None ≡ reader_of (file_of (files_view t fs) fd)
+none_reader t fs fd e = ap (option_map reader_view) e ∙ sym (ap reader_of (file_is t fs fd) ∙ reader_is t (open_file_at fs fd))
 
 pub reader_there : (o : Option OpenFile) (r : Reader) → Some r ≡ reader_in o → is_some o ≡ true
 reader_there None r e = absurd (cc)

@@ -16,10 +16,10 @@ use Rattle.lfs_model.proofs.Paths.{path_from_same, path_itself}
 use Rattle.lfs_lookup.specs.FileContents.{AreContentsAt, AreFoundAt, struct_of}
 use Rattle.lfs_lookup.specs.declared.file_contents.FileContents.{FileContents}
 use Rattle.lfs_lookup.specs.declared.file_contents.FileContents.TheVariants as contents
-use Rattle.lfs_tree.specs.KeepsFiles.{KeepsOthers}
+use Rattle.lfs_tree.specs.KeptFiles.{KeepsOthers}
 use Rattle.lfs_tree.specs.TreeState.{IsAppliedOn, TreeState, kept_of, tree_view}
-use Rattle.lfs_fs.specs.FileView.{OpenFiles, before, entry_of, moved_entry, put_entry, reader_in, readers_in, writers_in, written_paths}
-use Rattle.lfs_fs.specs.Held.{AreRead, IsRead}
+use Rattle.lfs_fs.specs.FileView.{OpenFiles, with_first, open_file_at, moved_entry, put_entry, reader_in, readers_in, writers_in, written_paths}
+use Rattle.lfs_fs.specs.SessionView.{AreReadersOf, IsReaderOf}
 use Rattle.lfs_fs.specs.declared.files.OpenFile.{OpenFile}
 use Rattle.lfs_fs.specs.declared.files.OpenFile.TheVariants as file
 use Rattle.lfs_fs.specs.declared.files.Reader.{Reader}
@@ -47,13 +47,13 @@ found_contents t path (Some c) x none found is there = subst (AreContentsAt t.pa
 -- ---- the readers of some open files
 
 module _ (P : Reader → Type 0) where
-  joined : (fs : OpenFiles) (entry : Option OpenFile) → AllByRecursion P (before (reader_in entry) []) → AllByRecursion P (readers_in fs) → AllByRecursion P (readers_in (entry ∷ fs))
+  joined : (fs : OpenFiles) (entry : Option OpenFile) → AllByRecursion P (with_first (reader_in entry) []) → AllByRecursion P (readers_in fs) → AllByRecursion P (readers_in (entry ∷ fs))
   joined fs None e h = h
   joined fs (Some (file.Reading r)) e h = (e.0, h)
   joined fs (Some (file.Writing w)) e h = h
 
   -- with another entry in a place
-  pub all_set : (fs : OpenFiles) (fd : ℕ) (entry : Option OpenFile) → AllByRecursion P (before (reader_in entry) []) → AllByRecursion P (readers_in fs) → AllByRecursion P (readers_in (set fs fd entry))
+  pub all_set : (fs : OpenFiles) (fd : ℕ) (entry : Option OpenFile) → AllByRecursion P (with_first (reader_in entry) []) → AllByRecursion P (readers_in fs) → AllByRecursion P (readers_in (set fs fd entry))
   all_set [] fd entry e h = h
   all_set (None ∷ fs) zero entry e h = joined fs entry e h
   all_set (Some (file.Reading r) ∷ fs) zero entry e h = joined fs entry e h.1
@@ -63,7 +63,7 @@ module _ (P : Reader → Type 0) where
   all_set (Some (file.Writing w) ∷ fs) (suc fd) entry e h = all_set fs fd entry e h
 
   -- with one more behind them
-  all_more : (fs : OpenFiles) (entry : Option OpenFile) → AllByRecursion P (before (reader_in entry) []) → AllByRecursion P (readers_in fs) → AllByRecursion P (readers_in (fs ++ entry ∷ []))
+  all_more : (fs : OpenFiles) (entry : Option OpenFile) → AllByRecursion P (with_first (reader_in entry) []) → AllByRecursion P (readers_in fs) → AllByRecursion P (readers_in (fs ++ entry ∷ []))
   all_more [] None e h = h
   all_more [] (Some (file.Reading r)) e h = e
   all_more [] (Some (file.Writing w)) e h = h
@@ -71,7 +71,7 @@ module _ (P : Reader → Type 0) where
   all_more (Some (file.Reading r) ∷ fs) entry e h = (h.0, all_more fs entry e h.1)
   all_more (Some (file.Writing w) ∷ fs) entry e h = all_more fs entry e h
 
-  pub all_put : (fs : OpenFiles) (fd : ℕ) (entry : Option OpenFile) → AllByRecursion P (before (reader_in entry) []) → AllByRecursion P (readers_in fs) → AllByRecursion P (readers_in (put_entry fs fd entry))
+  pub all_put : (fs : OpenFiles) (fd : ℕ) (entry : Option OpenFile) → AllByRecursion P (with_first (reader_in entry) []) → AllByRecursion P (readers_in fs) → AllByRecursion P (readers_in (put_entry fs fd entry))
   all_put fs fd entry e h = go (nat_lt fd (length fs))
     where
       go : (b : Bool) → AllByRecursion P (readers_in (cond b (set fs fd entry) (fs ++ entry ∷ [])))
@@ -79,7 +79,7 @@ module _ (P : Reader → Type 0) where
       go false = all_more fs entry e h
 
   -- the one of a number
-  pub one_of_all : (fs : OpenFiles) (fd : ℕ) (r : Reader) → Some r ≡ reader_in (entry_of fs fd) → AllByRecursion P (readers_in fs) → P r
+  pub one_of_all : (fs : OpenFiles) (fd : ℕ) (r : Reader) → Some r ≡ reader_in (open_file_at fs fd) → AllByRecursion P (readers_in fs) → P r
   one_of_all [] fd r e h = absurd (cc)
   one_of_all (None ∷ fs) zero r e h = absurd (cc)
   one_of_all (Some (file.Reading q) ∷ fs) zero r e h = subst P (sym (same_Some r q e)) h.0
@@ -89,7 +89,7 @@ module _ (P : Reader → Type 0) where
   one_of_all (Some (file.Writing w) ∷ fs) (suc fd) r e h = one_of_all fs fd r e h
 
   -- where their positions don't matter
-  pub all_moved : ((r : Reader) (position : ℕ) → P r → P (record r { position = position })) → (fs : OpenFiles) (fd position : ℕ) → AllByRecursion P (readers_in fs) → AllByRecursion P (readers_in (set fs fd (option_map (moved_entry position) (entry_of fs fd))))
+  pub all_moved : ((r : Reader) (position : ℕ) → P r → P (record r { position = position })) → (fs : OpenFiles) (fd position : ℕ) → AllByRecursion P (readers_in fs) → AllByRecursion P (readers_in (set fs fd (option_map (moved_entry position) (open_file_at fs fd))))
   all_moved k [] fd position h = h
   all_moved k (None ∷ fs) zero position h = h
   all_moved k (Some (file.Reading r) ∷ fs) zero position h = (k r position h.0, h.1)
@@ -108,7 +108,7 @@ pub any_path : (p : Path) (ws : List Writer) → list_any (λ w. same_path p w.p
 any_path p [] = refl
 any_path p (w ∷ ws) = ap (λ b. same_path p w.path || b) (any_path p ws)
 
-pub paths_moved : (fs : OpenFiles) (fd position : ℕ) → written_paths (set fs fd (option_map (moved_entry position) (entry_of fs fd))) ≡ written_paths fs
+pub paths_moved : (fs : OpenFiles) (fd position : ℕ) → written_paths (set fs fd (option_map (moved_entry position) (open_file_at fs fd))) ≡ written_paths fs
 paths_moved [] fd position = refl
 paths_moved (None ∷ fs) zero position = refl
 paths_moved (Some (file.Reading r) ∷ fs) zero position = refl
@@ -135,23 +135,23 @@ paths_closed p (Some (file.Writing w) ∷ fs) (suc fd) e = let k = no_more (same
 
 -- ---- what they keep stays
 
-pub read_moved : (ps : List Pair) (fs : OpenFiles) (fd position : ℕ) → AreRead ps fs → AreRead ps (set fs fd (option_map (moved_entry position) (entry_of fs fd)))
+pub read_moved : (ps : List Pair) (fs : OpenFiles) (fd position : ℕ) → AreReadersOf ps fs → AreReadersOf ps (set fs fd (option_map (moved_entry position) (open_file_at fs fd)))
 read_moved ps fs fd position h =
-    subst (λ written. AllByRecursion (IsRead ps written) (readers_in (set fs fd (option_map (moved_entry position) (entry_of fs fd))))) (sym (paths_moved fs fd position))
-    (all_moved (IsRead ps (written_paths fs)) (λ r position k. record { contents = record { struct = k.contents.struct; fits = k.contents.fits }; apart = k.apart }) fs fd position h)
+    subst (λ written. AllByRecursion (IsReaderOf ps written) (readers_in (set fs fd (option_map (moved_entry position) (open_file_at fs fd))))) (sym (paths_moved fs fd position))
+    (all_moved (IsReaderOf ps (written_paths fs)) (λ r position k. record { contents = record { struct = k.contents.struct; fits = k.contents.fits }; apart = k.apart }) fs fd position h)
 
-pub read_closed : (ps : List Pair) (fs : OpenFiles) (fd : ℕ) → AreRead ps fs → AreRead ps (set fs fd None)
+pub read_closed : (ps : List Pair) (fs : OpenFiles) (fd : ℕ) → AreReadersOf ps fs → AreReadersOf ps (set fs fd None)
 read_closed ps fs fd h =
-    all_set (IsRead ps (written_paths (set fs fd None))) fs fd None tt
-    (all_weaker (IsRead ps (written_paths fs)) (IsRead ps (written_paths (set fs fd None))) (λ r k. record { contents = k.contents; apart = paths_closed r.path fs fd k.apart }) (readers_in fs) h)
+    all_set (IsReaderOf ps (written_paths (set fs fd None))) fs fd None tt
+    (all_weaker (IsReaderOf ps (written_paths fs)) (IsReaderOf ps (written_paths (set fs fd None))) (λ r k. record { contents = k.contents; apart = paths_closed r.path fs fd k.apart }) (readers_in fs) h)
 
-pub read_put : (ps : List Pair) (fs : OpenFiles) (fd : ℕ) (r : Reader) → written_paths (put_entry fs fd (Some (file.Reading r))) ≡ written_paths fs → IsRead ps (written_paths fs) r → AreRead ps fs → AreRead ps (put_entry fs fd (Some (file.Reading r)))
+pub read_put : (ps : List Pair) (fs : OpenFiles) (fd : ℕ) (r : Reader) → written_paths (put_entry fs fd (Some (file.Reading r))) ≡ written_paths fs → IsReaderOf ps (written_paths fs) r → AreReadersOf ps fs → AreReadersOf ps (put_entry fs fd (Some (file.Reading r)))
 read_put ps fs fd r same k h =
-    subst (λ written. AllByRecursion (IsRead ps written) (readers_in (put_entry fs fd (Some (file.Reading r))))) (sym same)
-    (all_put (IsRead ps (written_paths fs)) fs fd (Some (file.Reading r)) (k, tt) h)
+    subst (λ written. AllByRecursion (IsReaderOf ps written) (readers_in (put_entry fs fd (Some (file.Reading r))))) (sym same)
+    (all_put (IsReaderOf ps (written_paths fs)) fs fd (Some (file.Reading r)) (k, tt) h)
 
 -- in an operation that is about none of them
-pub read_carried : (old new : TreeState) (op : Operation) (written : List Path) (rs : List Reader) → IsAppliedOn old op new → AllByRecursion (λ r. takes_or_moves op r.path ≡ false) rs → AllByRecursion (IsRead old.pairs written) rs → AllByRecursion (IsRead new.pairs written) rs
+pub read_carried : (old new : TreeState) (op : Operation) (written : List Path) (rs : List Reader) → IsAppliedOn old op new → AllByRecursion (λ r. takes_or_moves op r.path ≡ false) rs → AllByRecursion (IsReaderOf old.pairs written) rs → AllByRecursion (IsReaderOf new.pairs written) rs
 read_carried old new op written [] carried off h = tt
 read_carried old new op written (r ∷ rs) carried off h = (
   record {
@@ -177,9 +177,9 @@ other_way p q e = go (same_path q p) refl
 
 -- where the contents of a writer are stored at a path
 pub read_stored : (disk : Disk) (old new : List Pair) (path : Path) (written later : List Path) (rs : List Reader) → KeepsOthers (tree_in disk old) old path new → ((p : Path) → list_any (same_path p) written ≡ false → (same_path p path ≡ false) × (list_any (same_path p) later ≡ false))
-    → AllByRecursion (IsRead old written) rs → AllByRecursion (IsRead new later) rs
+    → AllByRecursion (IsReaderOf old written) rs → AllByRecursion (IsReaderOf new later) rs
 read_stored disk old new path written later rs keeps apart h =
-    all_weaker (IsRead old written) (IsRead new later) (λ r k.
+    all_weaker (IsReaderOf old written) (IsReaderOf new later) (λ r k.
     let a = apart r.path k.apart in
     record {
       contents = record {
@@ -195,27 +195,27 @@ alone_apart p path e = (no_more (same_path p path) _ e).0
 -- ---- with another writer in a place
 
 -- that writer has the path of the only one
-pub read_rewritten : (ps qs : List Pair) (fs : OpenFiles) (fd : ℕ) (w v : Writer) → writers_in fs ≡ w ∷ [] → writers_in (set fs fd (Some (file.Writing v))) ≡ v ∷ [] → v.path ≡ w.path → qs ≡ ps → AreRead ps fs → AreRead qs (set fs fd (Some (file.Writing v)))
+pub read_rewritten : (ps qs : List Pair) (fs : OpenFiles) (fd : ℕ) (w v : Writer) → writers_in fs ≡ w ∷ [] → writers_in (set fs fd (Some (file.Writing v))) ≡ v ∷ [] → v.path ≡ w.path → qs ≡ ps → AreReadersOf ps fs → AreReadersOf qs (set fs fd (Some (file.Writing v)))
 read_rewritten ps qs fs fd w v was now path same h =
     let paths : written_paths fs ≡ written_paths (set fs fd (Some (file.Writing v))) = ap (map (λ x. x.path)) was ∙ ap (λ p. p ∷ []) (sym path) ∙ sym (ap (map (λ x. x.path)) now) in
-    subst (λ zs. AreRead zs (set fs fd (Some (file.Writing v)))) (sym same)
-    (subst (λ written. AllByRecursion (IsRead ps written) (readers_in (set fs fd (Some (file.Writing v))))) paths
-    (all_set (IsRead ps (written_paths fs)) fs fd (Some (file.Writing v)) tt h))
+    subst (λ zs. AreReadersOf zs (set fs fd (Some (file.Writing v)))) (sym same)
+    (subst (λ written. AllByRecursion (IsReaderOf ps written) (readers_in (set fs fd (Some (file.Writing v))))) paths
+    (all_set (IsReaderOf ps (written_paths fs)) fs fd (Some (file.Writing v)) tt h))
 
 -- its contents were stored, and there is another entry in its place
 pub read_saved : (disk : Disk) (old new : List Pair) (fs : OpenFiles) (fd : ℕ) (entry : Option OpenFile) (path : Path) (later : List Path) → reader_in entry ≡ None → written_paths fs ≡ path ∷ [] → written_paths (set fs fd entry) ≡ later
-    → KeepsOthers (tree_in disk old) old path new → ((p : Path) → same_path p path ≡ false → list_any (same_path p) later ≡ false) → AreRead old fs → AreRead new (set fs fd entry)
+    → KeepsOthers (tree_in disk old) old path new → ((p : Path) → same_path p path ≡ false → list_any (same_path p) later ≡ false) → AreReadersOf old fs → AreReadersOf new (set fs fd entry)
 read_saved disk old new fs fd entry path later none was now keeps apart h =
-    subst (λ written. AllByRecursion (IsRead new written) (readers_in (set fs fd entry))) (sym now)
-    (all_set (IsRead new later) fs fd entry (subst (λ o. AllByRecursion (IsRead new later) (before o [])) (sym none) tt)
-    (read_stored disk old new path (path ∷ []) later (readers_in fs) keeps (λ p e. let k = alone_apart p path e in (k, apart p k)) (subst (λ written. AllByRecursion (IsRead old written) (readers_in fs)) was h)))
+    subst (λ written. AllByRecursion (IsReaderOf new written) (readers_in (set fs fd entry))) (sym now)
+    (all_set (IsReaderOf new later) fs fd entry (subst (λ o. AllByRecursion (IsReaderOf new later) (with_first o [])) (sym none) tt)
+    (read_stored disk old new path (path ∷ []) later (readers_in fs) keeps (λ p e. let k = alone_apart p path e in (k, apart p k)) (subst (λ written. AllByRecursion (IsReaderOf old written) (readers_in fs)) was h)))
 
 -- it is the first one, at a path where no reader is
-pub read_opened : (ps : List Pair) (fs : OpenFiles) (fd : ℕ) (w : Writer) → written_paths (put_entry fs fd (Some (file.Writing w))) ≡ w.path ∷ [] → AllByRecursion (λ r. same_path w.path r.path ≡ false) (readers_in fs) → AreRead ps fs → AreRead ps (put_entry fs fd (Some (file.Writing w)))
+pub read_opened : (ps : List Pair) (fs : OpenFiles) (fd : ℕ) (w : Writer) → written_paths (put_entry fs fd (Some (file.Writing w))) ≡ w.path ∷ [] → AllByRecursion (λ r. same_path w.path r.path ≡ false) (readers_in fs) → AreReadersOf ps fs → AreReadersOf ps (put_entry fs fd (Some (file.Writing w)))
 read_opened ps fs fd w now off h =
-    subst (λ written. AllByRecursion (IsRead ps written) (readers_in (put_entry fs fd (Some (file.Writing w))))) (sym now)
-    (all_put (IsRead ps (w.path ∷ [])) fs fd (Some (file.Writing w)) tt (each (readers_in fs) off h))
+    subst (λ written. AllByRecursion (IsReaderOf ps written) (readers_in (put_entry fs fd (Some (file.Writing w))))) (sym now)
+    (all_put (IsReaderOf ps (w.path ∷ [])) fs fd (Some (file.Writing w)) tt (each (readers_in fs) off h))
   where
-    each : (rs : List Reader) → AllByRecursion (λ r. same_path w.path r.path ≡ false) rs → AllByRecursion (IsRead ps (written_paths fs)) rs → AllByRecursion (IsRead ps (w.path ∷ [])) rs
+    each : (rs : List Reader) → AllByRecursion (λ r. same_path w.path r.path ≡ false) rs → AllByRecursion (IsReaderOf ps (written_paths fs)) rs → AllByRecursion (IsReaderOf ps (w.path ∷ [])) rs
     each [] off h = tt
     each (r ∷ rs) off h = (record { contents = h.0.contents; apart = either (other_way w.path r.path off.0) refl }, each rs off.1 h.1)

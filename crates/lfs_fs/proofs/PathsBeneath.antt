@@ -11,22 +11,22 @@ use Rattle.lfs_model.specs.Operations.{path_of}
 use Rattle.lfs_model.specs.Refusals.{as_path, bad_entry}
 use Rattle.lfs_model.specs.Tree.{Path}
 use Rattle.lfs_model.proofs.Paths.{Names, alike, unlike, names, same_itself, unlike_test}
-use Rattle.lfs_fs.specs.RenamePaths.{goes_on}
+use Rattle.lfs_fs.specs.RenamePaths.{is_path_prefix}
 
 same_number : (n : ℕ) → (n == n) ≡ true
 same_number n = (Decides-eqb n n).1 refl
 
 -- ---- by bytes
 
-pub continued : (xs rest : List ℕ) → goes_on xs (xs ++ rest) ≡ goes_on [] rest
+pub continued : (xs rest : List ℕ) → is_path_prefix xs (xs ++ rest) ≡ is_path_prefix [] rest
 continued [] rest = refl
-continued (x ∷ xs) rest = ap (λ b. b && goes_on xs (xs ++ rest)) (same_number x) ∙ continued xs rest
+continued (x ∷ xs) rest = ap (λ b. b && is_path_prefix xs (xs ++ rest)) (same_number x) ∙ continued xs rest
 
-pub begins : (xs ys : List ℕ) → goes_on xs ys ≡ true → (rest : List ℕ) × (ys ≡ xs ++ rest)
+pub begins : (xs ys : List ℕ) → is_path_prefix xs ys ≡ true → (rest : List ℕ) × (ys ≡ xs ++ rest)
 begins [] ys e = (ys, refl)
 begins (x ∷ xs) [] e = absurd (cc)
 begins (x ∷ xs) (y ∷ ys) e =
-    let k = and_parts (x == y) (goes_on xs ys) e in
+    let k = and_parts (x == y) (is_path_prefix xs ys) e in
     let l = begins xs ys k.1 in
     (l.0, ap₂ (λ z zs. z ∷ zs) (sym (eqb-true x y k.0)) l.1)
 
@@ -63,7 +63,7 @@ parts_are (x ∷ xs) = go (x == slash) (parts_are xs)
     go true k = record { first = []; rest = slice_split (λ c. c == slash) xs; are = refl }
     go false k = record { first = x ∷ k.first; rest = k.rest; are = ap (onto_first x) k.are }
 
-split_on : (xs ys : List ℕ) → is_on (slice_split (λ c. c == slash) xs) (slice_split (λ c. c == slash) ys) ≡ goes_on xs ys
+split_on : (xs ys : List ℕ) → is_on (slice_split (λ c. c == slash) xs) (slice_split (λ c. c == slash) ys) ≡ is_path_prefix xs ys
 split_on [] [] = refl
 split_on [] (y ∷ ys) = go (y == slash) (parts_are ys)
   where
@@ -83,8 +83,8 @@ split_on (x ∷ xs) (y ∷ ys) = go (split_on xs ys) (x == slash) (y == slash) r
     qs : Path
     qs = slice_split (λ c. c == slash) ys
 
-    apart : (x == y) ≡ false → ((x == y) && goes_on xs ys) ≡ false
-    apart e = ap (λ b. b && goes_on xs ys) e
+    apart : (x == y) ≡ false → ((x == y) && is_path_prefix xs ys) ≡ false
+    apart e = ap (λ b. b && is_path_prefix xs ys) e
 
     differs : (a b : Bool) → (x == slash) ≡ a → (y == slash) ≡ b → (a ≡ b → ⊥) → (x == y) ≡ false
     differs a b e f ne = stays (x == y) refl
@@ -93,9 +93,9 @@ split_on (x ∷ xs) (y ∷ ys) = go (split_on xs ys) (x == slash) (y == slash) r
         stays false k = refl
         stays true k = absurd (ne (sym e ∙ ap (λ z. z == slash) (eqb-true x y k) ∙ f))
 
-    go : is_on ps qs ≡ goes_on xs ys → (a b : Bool) → (x == slash) ≡ a → (y == slash) ≡ b → IsParts ps → IsParts qs → is_on (if a then [] ∷ ps else onto_first x ps) (if b then [] ∷ qs else onto_first y qs) ≡ ((x == y) && goes_on xs ys)
+    go : is_on ps qs ≡ is_path_prefix xs ys → (a b : Bool) → (x == slash) ≡ a → (y == slash) ≡ b → IsParts ps → IsParts qs → is_on (if a then [] ∷ ps else onto_first x ps) (if b then [] ∷ qs else onto_first y qs) ≡ ((x == y) && is_path_prefix xs ys)
     go so true true e f k l =
-        so ∙ sym (ap (λ b. b && goes_on xs ys) (ap (λ z. z == y) (eqb-true x slash e) ∙ ap (λ z. slash == z) (eqb-true y slash f) ∙ same_number slash))
+        so ∙ sym (ap (λ b. b && is_path_prefix xs ys) (ap (λ z. z == y) (eqb-true x slash e) ∙ ap (λ z. slash == z) (eqb-true y slash f) ∙ same_number slash))
     go so true false e f k l = ap (λ z. is_on ([] ∷ ps) (onto_first y z)) l.are ∙ sym (apart (differs true false e f (λ z. absurd (cc))))
     go so false true e f k l = ap (λ z. is_on (onto_first x z) ([] ∷ qs)) k.are ∙ sym (apart (differs false true e f (λ z. absurd (cc))))
     go so false false e f k l =
@@ -123,7 +123,7 @@ good None e = absurd (cc)
 good (Some p) e = refl
 
 -- the path of the second bytes is that of the first, which is an entry's, or lies beneath it
-pub is_beneath_bytes : (xs ys : List ℕ) → bad_entry (path_of xs) ≡ false → is_some (path_of ys) ≡ true → goes_on xs ys ≡ is_some (rest_after (as_path xs) (as_path ys))
+pub is_beneath_bytes : (xs ys : List ℕ) → bad_entry (path_of xs) ≡ false → is_some (path_of ys) ≡ true → is_path_prefix xs ys ≡ is_some (rest_after (as_path xs) (as_path ys))
 is_beneath_bytes [] ys e f = absurd (let k = good (path_of []) e in cc)
 is_beneath_bytes (x ∷ []) ys e f = absurd (go (x == slash) e)
   where
@@ -137,14 +137,14 @@ is_beneath_bytes (x ∷ a ∷ xs) (y ∷ ys) e f = both ys (parts_of x (a ∷ xs
     from = slice_split (λ c. c == slash) (a ∷ xs)
 
     both : (ys : List ℕ) → (x ≡ slash) × (as_path (x ∷ a ∷ xs) ≡ cond (nat_lt 0 (length (a ∷ xs))) from []) → (y ≡ slash) × (as_path (y ∷ ys) ≡ cond (nat_lt 0 (length ys)) (slice_split (λ c. c == slash) ys) []) → IsParts from
-        → goes_on (x ∷ a ∷ xs) (y ∷ ys) ≡ is_some (rest_after (as_path (x ∷ a ∷ xs)) (as_path (y ∷ ys)))
+        → is_path_prefix (x ∷ a ∷ xs) (y ∷ ys) ≡ is_some (rest_after (as_path (x ∷ a ∷ xs)) (as_path (y ∷ ys)))
     both [] h k p =
         ap (λ b. b && false) first ∙ sym (ap₂ (λ p q. is_some (rest_after p q)) (h.1 ∙ ap (λ b. cond b from []) (lt-ltb 0 (length (a ∷ xs)) (omega arith)) ∙ p.are) k.1)
       where
         first : (x == y) ≡ true
         first = ap₂ (λ z w. z == w) h.0 k.0 ∙ same_number slash
     both (b ∷ ys) h k p =
-        ap (λ z. z && goes_on (a ∷ xs) (b ∷ ys)) first ∙ sym (split_on (a ∷ xs) (b ∷ ys))
+        ap (λ z. z && is_path_prefix (a ∷ xs) (b ∷ ys)) first ∙ sym (split_on (a ∷ xs) (b ∷ ys))
         ∙ sym (ap₂ (λ p q. is_some (rest_after p q)) (h.1 ∙ ap (λ z. cond z from []) (lt-ltb 0 (length (a ∷ xs)) (omega arith)))
         (k.1 ∙ ap (λ z. cond z (slice_split (λ c. c == slash) (b ∷ ys)) []) (lt-ltb 0 (length (b ∷ ys)) (omega arith))))
       where
@@ -153,10 +153,10 @@ is_beneath_bytes (x ∷ a ∷ xs) (y ∷ ys) e f = both ys (parts_of x (a ∷ xs
 
 -- ---- what a search for the beginning says
 
-pub not_begun : (xs ys : List ℕ) (r : Bool) → r ≡ pointwise nat_eq xs (take (length xs) ys) → r ≡ false → false ≡ goes_on xs ys
-not_begun xs ys r is other = go (goes_on xs ys) refl
+pub not_begun : (xs ys : List ℕ) (r : Bool) → r ≡ pointwise nat_eq xs (take (length xs) ys) → r ≡ false → false ≡ is_path_prefix xs ys
+not_begun xs ys r is other = go (is_path_prefix xs ys) refl
   where
-    go : (b : Bool) → goes_on xs ys ≡ b → false ≡ b
+    go : (b : Bool) → is_path_prefix xs ys ≡ b → false ≡ b
     go false e = refl
     go true e = let k = begins xs ys e in let t = (starts_is Decides-eqb ys xs r is).1 k.0 k.1 in absurd (cc)
 
@@ -165,21 +165,21 @@ at_end [] rest = refl
 at_end (x ∷ xs) rest = at_end xs rest
 
 -- behind the beginning
-ends : (xs rest : List ℕ) → length (xs ++ rest) ≡ length xs → true ≡ goes_on xs (xs ++ rest)
+ends : (xs rest : List ℕ) → length (xs ++ rest) ≡ length xs → true ≡ is_path_prefix xs (xs ++ rest)
 ends xs [] e = sym (continued xs [])
 ends xs (z ∷ rest) e = absurd (let k = length-append xs (z ∷ rest) in omega (arith, k, e))
 
-goes : (xs rest : List ℕ) → length xs < length (xs ++ rest) → nat_eq (get_or (xs ++ rest) (length xs) 0) 47 ≡ goes_on xs (xs ++ rest)
+goes : (xs rest : List ℕ) → length xs < length (xs ++ rest) → nat_eq (get_or (xs ++ rest) (length xs) 0) 47 ≡ is_path_prefix xs (xs ++ rest)
 goes xs [] l = absurd (let k = length-append xs [] in omega (arith, k, l))
 goes xs (z ∷ rest) l = ap (λ n. nat_eq n 47) (at_end xs (z ∷ rest)) ∙ sym (continued xs (z ∷ rest))
 
-pub ends_there : (xs ys : List ℕ) (r : Bool) → r ≡ pointwise nat_eq xs (take (length xs) ys) → r ≡ true → length ys ≡ length xs → true ≡ goes_on xs ys
-ends_there xs ys r is begun e = let k = (starts_is Decides-eqb ys xs r is).0 begun in subst (λ zs. true ≡ goes_on xs zs) (sym k) (ends xs (drop (length xs) ys) (ap length (sym k) ∙ e))
+pub ends_there : (xs ys : List ℕ) (r : Bool) → r ≡ pointwise nat_eq xs (take (length xs) ys) → r ≡ true → length ys ≡ length xs → true ≡ is_path_prefix xs ys
+ends_there xs ys r is begun e = let k = (starts_is Decides-eqb ys xs r is).0 begun in subst (λ zs. true ≡ is_path_prefix xs zs) (sym k) (ends xs (drop (length xs) ys) (ap length (sym k) ∙ e))
 
-pub goes_with : (xs ys : List ℕ) (r : Bool) → r ≡ pointwise nat_eq xs (take (length xs) ys) → r ≡ true → length xs < length ys → nat_eq (get_or ys (length xs) 0) 47 ≡ goes_on xs ys
+pub goes_with : (xs ys : List ℕ) (r : Bool) → r ≡ pointwise nat_eq xs (take (length xs) ys) → r ≡ true → length xs < length ys → nat_eq (get_or ys (length xs) 0) 47 ≡ is_path_prefix xs ys
 goes_with xs ys r is begun l =
     let k = (starts_is Decides-eqb ys xs r is).0 begun in
-    subst (λ zs. nat_eq (get_or zs (length xs) 0) 47 ≡ goes_on xs zs) (sym k) (goes xs (drop (length xs) ys) (subst (λ zs. length xs < length zs) k l))
+    subst (λ zs. nat_eq (get_or zs (length xs) 0) 47 ≡ is_path_prefix xs zs) (sym k) (goes xs (drop (length xs) ys) (subst (λ zs. length xs < length zs) k l))
 
 pub same_numbers : (m n : ℕ) → m ≡ n → nat_eq m n ≡ true
 same_numbers m n e = (Decides-eqb m n).1 e

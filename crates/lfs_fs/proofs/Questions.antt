@@ -19,36 +19,36 @@ use Rattle.lfs_model.proofs.SessionSteps.{not_remount}
 use Rattle.lfs_lookup.specs.Finds.{list_item_view}
 use Rattle.lfs_lookup.specs.declared.kinds.ListItem.{ListItem}
 use Rattle.lfs_lookup.specs.Refusals.{refusal_in}
-use Rattle.lfs_tree.specs.TreeState.{TreeState, IsSound, tree_view, around_of, IsAsked, IsBrokenAsking, IsError}
+use Rattle.lfs_tree.specs.TreeState.{TreeState, IsSound, tree_view, surroundings_of, WasOnlyRead, FailsInRead, IsError}
 use Rattle.lfs_fs.specs.Replies.{reply_in}
 use Rattle.lfs_fs.specs.FileView.{OpenFiles}
-use Rattle.lfs_fs.specs.Held.{Held, IsReady, held_with, session_of, system_state_of, refused_by, Answers}
+use Rattle.lfs_fs.specs.SessionView.{SessionView, IsReady, session_view_with, session_of, system_state_of, refused_by, Answers}
 use Rattle.lfs_fs.proofs.Answered.{refused_answer, asked_answer, nothing_asked, question_only_asks, question_keeps, question_recovers_nothing, question_lays_nothing}
 
 -- ---- without a call
 
-pub failed_by : (h : Held) (op : Operation) → true ≡ h.tree.failed → refused_by h op ≡ Some Failed
-failed_by h op e = ap (λ b. cond b (Some Failed) (refusal_of (around_of h.tree) (session_of h) op)) (sym e)
+pub failed_by : (h : SessionView) (op : Operation) → true ≡ h.tree.failed → refused_by h op ≡ Some Failed
+failed_by h op e = ap (λ b. cond b (Some Failed) (refusal_of (surroundings_of h.tree) (session_of h) op)) (sym e)
 
-pub works_by : (h : Held) (op : Operation) (r : Option ops.Refusal) → false ≡ h.tree.failed → refusal_of (around_of h.tree) (session_of h) op ≡ r → refused_by h op ≡ r
-works_by h op r e is = ap (λ b. cond b (Some Failed) (refusal_of (around_of h.tree) (session_of h) op)) (sym e) ∙ is
+pub works_by : (h : SessionView) (op : Operation) (r : Option ops.Refusal) → false ≡ h.tree.failed → refusal_of (surroundings_of h.tree) (session_of h) op ≡ r → refused_by h op ≡ r
+works_by h op r e is = ap (λ b. cond b (Some Failed) (refusal_of (surroundings_of h.tree) (session_of h) op)) (sym e) ∙ is
 
-pub refused_kept : (old now : Held) (op : Operation) (e : Error) → old ≡ now → (old.tree.failed ≡ false → IsSound old.tree) → is_remount op ≡ false → refused_by old op ≡ Some (refusal_in e) →
+pub refused_kept : (old now : SessionView) (op : Operation) (e : Error) → old ≡ now → (old.tree.failed ≡ false → IsSound old.tree) → is_remount op ≡ false → refused_by old op ≡ Some (refusal_in e) →
     Answers now op (Ok (ops.Refused (refusal_in e))) now
 refused_kept old now op e same ready other is =
     subst (λ z. Answers z op (Ok (ops.Refused (refusal_in e))) z) same (refused_answer old op (refusal_in e) old.tree ready other (nothing_asked old.tree) is)
 
-pub question_kept : (old now : Held) (op : Operation) (reply : Reply) → old ≡ now → (old.tree.failed ≡ false → IsSound old.tree) → is_question op ≡ true → refused_by old op ≡ None →
-    reply ≡ (effect_of (around_of old.tree) (session_of old) op).0 → Answers now op (Ok reply) now
+pub question_kept : (old now : SessionView) (op : Operation) (reply : Reply) → old ≡ now → (old.tree.failed ≡ false → IsSound old.tree) → is_question op ≡ true → refused_by old op ≡ None →
+    reply ≡ (effect_of (surroundings_of old.tree) (session_of old) op).0 → Answers now op (Ok reply) now
 question_kept old now op reply same ready asks e is =
     subst (λ z. Answers z op (Ok reply) z) same
     (subst (λ r. IsSessionStep (system_state_of old) op r (system_state_of old)) (sym is)
-    (asked_answer old op old.tree old.files ready (nothing_asked old.tree) e (not_remount op asks) (question_only_asks (session_of old) op asks) (question_keeps (around_of old.tree) (session_of old) op asks)
+    (asked_answer old op old.tree old.files ready (nothing_asked old.tree) e (not_remount op asks) (question_only_asks (session_of old) op asks) (question_keeps (surroundings_of old.tree) (session_of old) op asks)
     (question_recovers_nothing op asks) (question_lays_nothing (session_of old) op asks) (λ k. refl)))
 
 -- ---- two calls
 
-pub asked_twice : (a b c : TreeState) → IsAsked a b → IsAsked b c → IsAsked a c
+pub asked_twice : (a b c : TreeState) → WasOnlyRead a b → WasOnlyRead b c → WasOnlyRead a c
 asked_twice a b c h k = record {
   same = k.same ∙ ap (λ (t : TreeState). record t { history = c.history; cache = c.cache }) h.same;
   failed = λ e. k.failed (ap (λ (t : TreeState). t.failed) (h.failed e) ∙ e) ∙ h.failed e;
@@ -56,21 +56,21 @@ asked_twice a b c h k = record {
   no_fault = k.no_fault ∙ h.no_fault;
 }
 
-pub broken_twice : (a b c : TreeState) → IsAsked a b → IsBrokenAsking b c → IsBrokenAsking a c
+pub broken_twice : (a b c : TreeState) → WasOnlyRead a b → FailsInRead b c → FailsInRead a c
 broken_twice a b c h k = record {
   failed = k.failed;
   disk = k.disk ∙ ap (λ (t : TreeState). t.disk) h.same;
   reads = OnlyReads-trans h.reads k.reads (ap (λ (t : TreeState). t.disk.blocks) h.same);
 }
 
-pub error_twice : (a b c : TreeState) (e : Error) → IsAsked a b → IsError b c e → IsError a c e
+pub error_twice : (a b c : TreeState) (e : Error) → WasOnlyRead a b → IsError b c e → IsError a c e
 error_twice a b c e h k = record {
   errors = k.errors;
   fault = λ x. subst (λ n. n < faults c.history) h.no_fault (k.fault x);
   no_fault = λ x. k.no_fault x ∙ h.no_fault;
 }
 
-pub error_either : {A : Type 0} (a b c : TreeState) (r : Result A Error) → IsAsked a b → IfErr r (IsError b c) → IfErr r (IsError a c)
+pub error_either : {A : Type 0} (a b c : TreeState) (r : Result A Error) → WasOnlyRead a b → IfErr r (IsError b c) → IfErr r (IsError a c)
 error_either a b c (Ok x) h k = tt
 error_either a b c (Err e) h k = error_twice a b c e h k
 

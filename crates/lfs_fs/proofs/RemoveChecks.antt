@@ -7,27 +7,27 @@ use Rattle.lfs_model.specs.Operations.{Refusal, path_of}
 use Rattle.lfs_model.specs.Session.{first_of, is_open_at, refuse_if, parent_fault}
 use Rattle.lfs_model.specs.Refusals.{as_path, is_root, bad_entry}
 use Rattle.lfs_model.specs.Tree.{Path}
-use Rattle.lfs_tree.specs.Allowed.{CanRemove}
+use Rattle.lfs_tree.specs.Permissions.{CanRemove}
 use Rattle.lfs_lookup.specs.Finds.{Finds, has_names, is_absent}
-use Rattle.lfs_tree.specs.TreeState.{TreeState, tree_view, IsAsked}
-use Rattle.lfs_lookup.specs.declared.found_entries.Finding.{Finding}
+use Rattle.lfs_tree.specs.TreeState.{TreeState, tree_view, WasOnlyRead}
+use Rattle.lfs_lookup.specs.declared.found_entries.FoundNode.{FoundNode}
 use Rattle.lfs_fs.specs.EntryPaths.{entry_path}
-use Rattle.lfs_fs.specs.Held.{Held, refused_by, Checks}
-use Rattle.lfs_fs.specs.Replies.{passed_with}
+use Rattle.lfs_fs.specs.SessionView.{SessionView, refused_by, Checks}
+use Rattle.lfs_fs.specs.Replies.{value_unless_refused}
 use Rattle.lfs_fs.proofs.Answered.{not_failed, not_refused}
 use Rattle.lfs_fs.proofs.Late.{remove_late}
 use Rattle.lfs_fs.proofs.Checked.{both, decided, negated, neither, unrefused, when}
 use Rattle.lfs_fs.proofs.EntryChecks.{good_root}
 use Rattle.lfs_fs.proofs.EntryPaths.{is_entry, root_false}
 
-remove_refused : (h : Held) (bytes : List ℕ) (p : Path) (found : Finding) → h.tree.failed ≡ false → h.tree.writable ≡ true → path_of bytes ≡ Some p → is_root p ≡ false → Finds (tree_view h.tree) p found →
+remove_refused : (h : SessionView) (bytes : List ℕ) (p : Path) (found : FoundNode) → h.tree.failed ≡ false → h.tree.writable ≡ true → path_of bytes ≡ Some p → is_root p ≡ false → Finds (tree_view h.tree) p found →
     refused_by h (ops.Remove bytes) ≡ first_of (found.fault ∷ refuse_if (is_absent found.node) ops.NoEnt ∷ refuse_if (has_names (tree_view h.tree) p) ops.NotEmpty ∷ refuse_if (is_open_at (same_path p) h.files) ops.Busy ∷ [])
 remove_refused h bytes p found works writable is entry f = rw (works, writable, is, entry, f.parents, f.nothing) refl
 
-pub remove_checked : (h : Held) (bytes : List ℕ) (p : Path) (found : Finding) (tree : TreeState) (absent filled busy : Bool) (a b d : Option Refusal) (r : Result Path Error) →
-    false ≡ h.tree.failed → true ≡ h.tree.writable → Some p ≡ entry_path bytes → IsAsked h.tree tree → Finds (tree_view h.tree) p found →
+pub remove_checked : (h : SessionView) (bytes : List ℕ) (p : Path) (found : FoundNode) (tree : TreeState) (absent filled busy : Bool) (a b d : Option Refusal) (r : Result Path Error) →
+    false ≡ h.tree.failed → true ≡ h.tree.writable → Some p ≡ entry_path bytes → WasOnlyRead h.tree tree → Finds (tree_view h.tree) p found →
     absent ≡ is_absent found.node → a ≡ refuse_if absent ops.NoEnt → filled ≡ has_names (tree_view h.tree) p → b ≡ refuse_if filled ops.NotEmpty → busy ≡ is_open_at (same_path (as_path bytes)) h.files → d ≡ refuse_if busy ops.Busy →
-    r ≡ passed_with (first_of (found.fault ∷ a ∷ b ∷ d ∷ [])) p → Checks h (ops.Remove bytes) (λ path. path ≡ as_path bytes) r tree
+    r ≡ value_unless_refused (first_of (found.fault ∷ a ∷ b ∷ d ∷ [])) p → Checks h (ops.Remove bytes) (λ path. path ≡ as_path bytes) r tree
 remove_checked h bytes p found tree absent filled busy a b d r works writable is asked f absent_is a_is filled_is b_is busy_is d_is r_is =
     decided h (ops.Remove bytes) (λ path. path ≡ as_path bytes) p _ tree r asked (remove_late h bytes p works writable is)
     (remove_refused h bytes p found (sym works) (sym writable) given (root_false bytes p is) f ∙ ap first_of (sym lists))
@@ -39,7 +39,7 @@ remove_checked h bytes p found tree absent filled busy a b d r works writable is
     lists : (found.fault ∷ a ∷ b ∷ d ∷ []) ≡ (found.fault ∷ refuse_if (is_absent found.node) ops.NoEnt ∷ refuse_if (has_names (tree_view h.tree) p) ops.NotEmpty ∷ refuse_if (is_open_at (same_path p) h.files) ops.Busy ∷ [])
     lists = both refl (both (when ops.NoEnt a_is absent_is) (both (when ops.NotEmpty b_is filled_is) (both (when ops.Busy d_is (busy_is ∙ ap (λ o. is_open_at (same_path (unwrap_or o [])) h.files) given)) refl)))
 
-pub remove_can : (h : Held) (bytes : List ℕ) (path : Path) (tree : TreeState) → Checks h (ops.Remove bytes) (λ p. p ≡ as_path bytes) (Ok path) tree → CanRemove tree path
+pub remove_can : (h : SessionView) (bytes : List ℕ) (path : Path) (tree : TreeState) → Checks h (ops.Remove bytes) (λ p. p ≡ as_path bytes) (Ok path) tree → CanRemove tree path
 remove_can h bytes path tree c =
     let e = c.1 in
     let a = neither _ _ (not_refused h (ops.Remove bytes) e) in
@@ -57,7 +57,7 @@ remove_can h bytes path tree c =
     }))
 
 -- no file is open at the path
-pub remove_not_open : (h : Held) (bytes : List ℕ) → refused_by h (ops.Remove bytes) ≡ None → is_open_at (same_path (as_path bytes)) h.files ≡ false
+pub remove_not_open : (h : SessionView) (bytes : List ℕ) → refused_by h (ops.Remove bytes) ≡ None → is_open_at (same_path (as_path bytes)) h.files ≡ false
 remove_not_open h bytes e =
     let a = neither (refuse_if (not h.tree.writable) ops.ReadOnly) _ (not_refused h (ops.Remove bytes) e) in
     let b = neither (refuse_if (bad_entry (path_of bytes)) ops.Invalid) _ a.1 in
@@ -68,7 +68,7 @@ remove_not_open h bytes e =
     unrefused (is_open_at (same_path (as_path bytes)) h.files) ops.Busy k.0
 
 -- nothing is in what is there
-pub remove_bare : (h : Held) (bytes : List ℕ) → refused_by h (ops.Remove bytes) ≡ None → nat_lt 0 (length (names_of (tree_view h.tree (as_path bytes)))) ≡ false
+pub remove_bare : (h : SessionView) (bytes : List ℕ) → refused_by h (ops.Remove bytes) ≡ None → nat_lt 0 (length (names_of (tree_view h.tree (as_path bytes)))) ≡ false
 remove_bare h bytes e =
     let a = neither (refuse_if (not h.tree.writable) ops.ReadOnly) _ (not_refused h (ops.Remove bytes) e) in
     let b = neither (refuse_if (bad_entry (path_of bytes)) ops.Invalid) _ a.1 in

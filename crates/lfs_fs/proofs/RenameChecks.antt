@@ -6,19 +6,19 @@ use Rattle.lfs_model.specs.BlockSets.{in_flight_count}
 use Rattle.lfs_model.specs.Disk.{block_count}
 use Rattle.lfs_model.specs.Operations as ops
 use Rattle.lfs_model.specs.Operations.{Refusal, path_of}
-use Rattle.lfs_model.specs.Session.{first_of, held, is_open_at, is_overcharged, lacks, refuse_if}
+use Rattle.lfs_model.specs.Session.{first_of, blocks_held_by_all, is_open_at, is_overcharged, lacks, refuse_if}
 use Rattle.lfs_model.specs.Slots.{Attributes, attributes_size}
 use Rattle.lfs_model.specs.Refusals.{as_path, is_root}
 use Rattle.lfs_model.specs.Tree.{Path}
-use Rattle.lfs_tree.specs.Allowed.{CanRename}
+use Rattle.lfs_tree.specs.Permissions.{CanRename}
 use Rattle.lfs_lookup.specs.AttributeAt.{IsAttributesSize}
 use Rattle.lfs_lookup.specs.Finds.{Finds, has_names, is_absent, is_directory_node, is_file_node}
-use Rattle.lfs_tree.specs.TreeState.{TreeState, around_of, tree_view, IsAsked}
-use Rattle.lfs_lookup.specs.declared.found_entries.Finding.{Finding}
+use Rattle.lfs_tree.specs.TreeState.{TreeState, surroundings_of, tree_view, WasOnlyRead}
+use Rattle.lfs_lookup.specs.declared.found_entries.FoundNode.{FoundNode}
 use Rattle.lfs_fs.specs.EntryPaths.{entry_path}
-use Rattle.lfs_fs.specs.Held.{Held, refused_by, Checks}
+use Rattle.lfs_fs.specs.SessionView.{SessionView, refused_by, Checks}
 use Rattle.lfs_fs.specs.RenamePaths.{IsRenaming, is_in_the_way}
-use Rattle.lfs_fs.specs.Replies.{passed_with}
+use Rattle.lfs_fs.specs.Replies.{value_unless_refused}
 use Rattle.lfs_fs.specs.declared.rename_checks.Renaming.{Renaming}
 use Rattle.lfs_fs.proofs.Answered.{not_failed, not_refused}
 use Rattle.lfs_fs.proofs.Late.{rename_late}
@@ -30,21 +30,21 @@ use Rattle.lfs_fs.proofs.EntryPaths.{is_entry, root_false}
 
 -- ---- the others
 
-abbrev checks_of : Held → Path → Path → Finding → Finding → List (Option Refusal)
+abbrev checks_of : SessionView → Path → Path → FoundNode → FoundNode → List (Option Refusal)
 checks_of h p q entry target =
     entry.fault ∷ target.fault ∷ refuse_if (nat_lt 255 (length (last_name q))) ops.NameTooLong ∷ refuse_if (is_absent entry.node) ops.NoEnt
     ∷ refuse_if (not (same_path p q) && is_directory_node entry.node && is_file_node target.node) ops.NotDir ∷ refuse_if (not (same_path p q) && is_file_node entry.node && is_directory_node target.node) ops.IsDir
     ∷ refuse_if (not (same_path p q) && has_names (tree_view h.tree) q) ops.NotEmpty ∷ refuse_if (is_open_at (is_in_the_way p q) h.files) ops.Busy
-    ∷ refuse_if (not (same_path p q) && is_overcharged (around_of h.tree) (last_name q) (attributes_of (tree_view h.tree p))) ops.EntryFull ∷ refuse_if (lacks (around_of h.tree) h.files 2) ops.NoSpace ∷ []
+    ∷ refuse_if (not (same_path p q) && is_overcharged (surroundings_of h.tree) (last_name q) (attributes_of (tree_view h.tree p))) ops.EntryFull ∷ refuse_if (lacks (surroundings_of h.tree) h.files 2) ops.NoSpace ∷ []
 
-rename_refused : (h : Held) (old new : List ℕ) (p q : Path) (entry target : Finding) → h.tree.failed ≡ false → h.tree.writable ≡ true → path_of old ≡ Some p → path_of new ≡ Some q → is_root p ≡ false → is_root q ≡ false → is_beneath p q ≡ false →
+rename_refused : (h : SessionView) (old new : List ℕ) (p q : Path) (entry target : FoundNode) → h.tree.failed ≡ false → h.tree.writable ≡ true → path_of old ≡ Some p → path_of new ≡ Some q → is_root p ≡ false → is_root q ≡ false → is_beneath p q ≡ false →
     Finds (tree_view h.tree) p entry → Finds (tree_view h.tree) q target → refused_by h (ops.Rename old new) ≡ first_of (checks_of h p q entry target)
 rename_refused h old new p q entry target works writable is are one two apart f g =
     rw (works, writable, is, are, one, two, apart, f.parents, g.parents, f.nothing, f.directories, g.files, f.files, g.directories) refl
 
-pub rename_checked : (h : Held) (old new : List ℕ) (p q : Path) (entry target : Finding) (mid later tree : TreeState) (size len other : ℕ) (same absent one two filled three over four lack busy : Bool)
+pub rename_checked : (h : SessionView) (old new : List ℕ) (p q : Path) (entry target : FoundNode) (mid later tree : TreeState) (size len other : ℕ) (same absent one two filled three over four lack busy : Bool)
     (a b c d e f i j : Option Refusal) (r : Result Renaming Error) → (x : Renaming) →
-    false ≡ h.tree.failed → true ≡ h.tree.writable → Some p ≡ entry_path old → Some q ≡ entry_path new → is_beneath (as_path old) (as_path new) ≡ false → IsAsked h.tree mid → IsAsked mid later → IsAsked h.tree tree →
+    false ≡ h.tree.failed → true ≡ h.tree.writable → Some p ≡ entry_path old → Some q ≡ entry_path new → is_beneath (as_path old) (as_path new) ≡ false → WasOnlyRead h.tree mid → WasOnlyRead mid later → WasOnlyRead h.tree tree →
     Finds (tree_view h.tree) p entry → Finds (tree_view mid) q target → IsAttributesSize (attributes_of (tree_view later p)) size → same ≡ same_path (as_path old) (as_path new) →
     len ≡ length (last_name q) → a ≡ refuse_if (nat_lt 255 len) ops.NameTooLong →
     absent ≡ is_absent entry.node → b ≡ refuse_if absent ops.NoEnt →
@@ -52,10 +52,10 @@ pub rename_checked : (h : Held) (old new : List ℕ) (p q : Path) (entry target 
     two ≡ (not same && is_file_node entry.node && is_directory_node target.node) → d ≡ refuse_if two ops.IsDir →
     filled ≡ has_names (tree_view mid) q → three ≡ (not same && filled) → e ≡ refuse_if three ops.NotEmpty →
     busy ≡ is_open_at (is_in_the_way (as_path old) (as_path new)) h.files → f ≡ refuse_if busy ops.Busy →
-    other ≡ length (last_name q) → ((name : List ℕ) (attributes : Attributes) → length name ≡ other → attributes_size attributes ≡ size → over ≡ is_overcharged (around_of tree) name attributes) → four ≡ (not same && over) → i ≡ refuse_if four ops.EntryFull →
-    lack ≡ lacks (around_of tree) h.files 2 → j ≡ refuse_if lack ops.NoSpace →
+    other ≡ length (last_name q) → ((name : List ℕ) (attributes : Attributes) → length name ≡ other → attributes_size attributes ≡ size → over ≡ is_overcharged (surroundings_of tree) name attributes) → four ≡ (not same && over) → i ≡ refuse_if four ops.EntryFull →
+    lack ≡ lacks (surroundings_of tree) h.files 2 → j ≡ refuse_if lack ops.NoSpace →
     IsRenaming old new x →
-    r ≡ passed_with (first_of (entry.fault ∷ target.fault ∷ a ∷ b ∷ c ∷ d ∷ e ∷ f ∷ i ∷ j ∷ [])) x → Checks h (ops.Rename old new) (IsRenaming old new) r tree
+    r ≡ value_unless_refused (first_of (entry.fault ∷ target.fault ∷ a ∷ b ∷ c ∷ d ∷ e ∷ f ∷ i ∷ j ∷ [])) x → Checks h (ops.Rename old new) (IsRenaming old new) r tree
 rename_checked h old new p q entry target mid later tree size len other same absent one two filled three over four lack busy a b c d e f i j r x
     works writable is are apart first second asked found sought sized same_is len_is a_is absent_is b_is one_is c_is two_is d_is filled_is three_is e_is busy_is f_is other_is over_is four_is i_is lack_is j_is x_is r_is =
     decided h (ops.Rename old new) (IsRenaming old new) x _ tree r asked (rename_late h old new p q works writable is are apart)
@@ -75,8 +75,8 @@ rename_checked h old new p q entry target mid later tree size len other same abs
     to_path : as_path new ≡ q
     to_path = ap (λ o. unwrap_or o []) to
 
-    around : around_of tree ≡ around_of h.tree
-    around = ap around_of asked.same
+    around : surroundings_of tree ≡ surroundings_of h.tree
+    around = ap surroundings_of asked.same
 
     were : attributes_of (tree_view later p) ≡ attributes_of (tree_view h.tree p)
     were = ap (λ (t : TreeState). attributes_of (tree_view t p)) second.same ∙ ap (λ (t : TreeState). attributes_of (tree_view t p)) first.same
@@ -84,7 +84,7 @@ rename_checked h old new p q entry target mid later tree size len other same abs
     other_is_not : not same ≡ not (same_path p q)
     other_is_not = ap not (same_is ∙ ap₂ same_path from_path to_path)
 
-    charge : over ≡ is_overcharged (around_of h.tree) (last_name q) (attributes_of (tree_view h.tree p))
+    charge : over ≡ is_overcharged (surroundings_of h.tree) (last_name q) (attributes_of (tree_view h.tree p))
     charge = over_is (last_name q) (attributes_of (tree_view h.tree p)) (sym other_is) (sym (subst (λ z. IsAttributesSize z size) were sized).is)
         ∙ ap (λ z. is_overcharged z (last_name q) (attributes_of (tree_view h.tree p))) around
 
@@ -99,10 +99,10 @@ rename_checked h old new p q entry target mid later tree size len other same abs
 
 -- ---- what no check refuses
 
-record HasPassed (h : Held) (old new : List ℕ) : Type 0 where
-  can : in_flight_count h.tree.map ≤ held h.tree.disk.block_size h.files → CanRename h.tree (as_path old) (as_path new)
+record HasPassed (h : SessionView) (old new : List ℕ) : Type 0 where
+  can : in_flight_count h.tree.map ≤ blocks_held_by_all h.tree.disk.block_size h.files → CanRename h.tree (as_path old) (as_path new)
   closed : is_open_at (is_in_the_way (as_path old) (as_path new)) h.files ≡ false
-  space : lacks (around_of h.tree) h.files 2 ≡ false
+  space : lacks (surroundings_of h.tree) h.files 2 ≡ false
   bare : (not (same_path (as_path old) (as_path new)) && nat_lt 0 (length (names_of (tree_view h.tree (as_path new))))) ≡ false
 
 pub none_of_three : (a b c : Bool) → (a || b || c) ≡ false → (a ≡ false) × (b ≡ false) × (c ≡ false)
@@ -110,7 +110,7 @@ none_of_three true b c e = absurd (cc)
 none_of_three false true c e = absurd (cc)
 none_of_three false false c e = (refl, refl, e)
 
-passed : (h : Held) (old new : List ℕ) → refused_by h (ops.Rename old new) ≡ None → HasPassed h old new
+passed : (h : SessionView) (old new : List ℕ) → refused_by h (ops.Rename old new) ≡ None → HasPassed h old new
 passed h old new e =
     let a = neither _ _ (not_refused h (ops.Rename old new) e) in
     let b = neither _ _ a.1 in
@@ -149,23 +149,23 @@ passed h old new e =
         file = file;
         empty = bare;
         fits = fits;
-        room = room_left (block_count h.tree.disk) (length (around_of h.tree).used) (held h.tree.disk.block_size h.files) (in_flight_count h.tree.map) 2 idle some;
+        room = room_left (block_count h.tree.disk) (length (surroundings_of h.tree).used) (blocks_held_by_all h.tree.disk.block_size h.files) (in_flight_count h.tree.map) 2 idle some;
       };
       closed = closed;
       space = some;
       bare = bare;
     }
 
-pub rename_space : (h : Held) (old new : List ℕ) → refused_by h (ops.Rename old new) ≡ None → lacks (around_of h.tree) h.files 2 ≡ false
+pub rename_space : (h : SessionView) (old new : List ℕ) → refused_by h (ops.Rename old new) ≡ None → lacks (surroundings_of h.tree) h.files 2 ≡ false
 rename_space h old new e = (passed h old new e).space
 
-pub rename_closed : (h : Held) (old new : List ℕ) → refused_by h (ops.Rename old new) ≡ None → is_open_at (is_in_the_way (as_path old) (as_path new)) h.files ≡ false
+pub rename_closed : (h : SessionView) (old new : List ℕ) → refused_by h (ops.Rename old new) ≡ None → is_open_at (is_in_the_way (as_path old) (as_path new)) h.files ≡ false
 rename_closed h old new e = (passed h old new e).closed
 
-pub rename_bare : (h : Held) (old new : List ℕ) → refused_by h (ops.Rename old new) ≡ None → (not (same_path (as_path old) (as_path new)) && nat_lt 0 (length (names_of (tree_view h.tree (as_path new))))) ≡ false
+pub rename_bare : (h : SessionView) (old new : List ℕ) → refused_by h (ops.Rename old new) ≡ None → (not (same_path (as_path old) (as_path new)) && nat_lt 0 (length (names_of (tree_view h.tree (as_path new))))) ≡ false
 rename_bare h old new e = (passed h old new e).bare
 
-pub rename_can : (h : Held) (old new : List ℕ) (from to : Path) (tree : TreeState) → (h.tree.failed ≡ false → in_flight_count h.tree.map ≤ held h.tree.disk.block_size h.files) → IsAsked h.tree tree → refused_by h (ops.Rename old new) ≡ None → from ≡ as_path old → to ≡ as_path new → CanRename tree from to
+pub rename_can : (h : SessionView) (old new : List ℕ) (from to : Path) (tree : TreeState) → (h.tree.failed ≡ false → in_flight_count h.tree.map ≤ blocks_held_by_all h.tree.disk.block_size h.files) → WasOnlyRead h.tree tree → refused_by h (ops.Rename old new) ≡ None → from ≡ as_path old → to ≡ as_path new → CanRename tree from to
 rename_can h old new from to tree idle asked e is are =
     let can = (passed h old new e).can (idle (not_failed h (ops.Rename old new) e)) in
     subst (λ z. CanRename tree z to) (sym is) (subst (λ z. CanRename tree (as_path old) z) (sym are)

@@ -16,14 +16,14 @@ use Rattle.lfs_model.specs.Thread.{Pair}
 use Rattle.lfs_model.specs.ReadBounds.{AsksFew, IsWithinReadBounds, ReadsKept, if_accepted}
 use Rattle.lfs_model.specs.View.{IsAccepted}
 use Rattle.lfs_model.proofs.Performing.{last_accepted, last_further, performed_further}
-use Rattle.lfs_fs.specs.Held.{FailsBy, Held, IsEndedBy, system_state_of}
-use Rattle.lfs_fs.specs.OpView.{IsNamed, op_view, reply_view}
-use Rattle.lfs_fs.specs.Sparing.{IsCall}
+use Rattle.lfs_fs.specs.SessionView.{FailsBy, SessionView, IsEndedBy, system_state_of}
+use Rattle.lfs_fs.specs.OpView.{NamesRefusal, op_view, reply_view}
+use Rattle.lfs_fs.specs.CallEffects.{IsCall}
 use Rattle.lfs_fs.proofs.KeptLookUps.{kept_hand, kept_small}
 use Rattle.lfs_lookup.specs.CachedPairs.{AreSmall}
 use Rattle.lfs_tree.specs.Reads.{HasCached}
 use Rattle.lfs_model.specs.Run as model
-use Rattle.lfs_model.specs.Frame.{pairs_of_path, searched}
+use Rattle.lfs_model.specs.Frame.{pairs_of_path, searched_directories}
 use Rattle.lfs_fs.specs.declared.run.Op.{Op}
 use Rattle.lfs_fs.specs.declared.run.Reply.{Reply}
 
@@ -35,15 +35,15 @@ first_op (op ∷ ops) i h = op
 -- ---- turns that are thrifty
 
 -- behind an accepted stat, the small directories that it searched are cached
-abbrev pub IsWarm : Option Operation → Held → Type 0
+abbrev pub IsWarm : Option Operation → SessionView → Type 0
 IsWarm None h = Unit {0}
-IsWarm (Some before) h = (path : List ℕ) → before ≡ ops.Stat path → (s : Session) → (system_state_of h).state ≡ Healthy s → (ps : List Pair) → IsAccepted h.tree.disk ps → AreSmall ps (searched before) → HasCached h.tree (searched before)
+IsWarm (Some before) h = (path : List ℕ) → before ≡ ops.Stat path → (s : Session) → (system_state_of h).state ≡ Healthy s → (ps : List Pair) → IsAccepted h.tree.disk ps → AreSmall ps (searched_directories before) → HasCached h.tree (searched_directories before)
 
-call_within_read_bounds : (before : Option Operation) (old : Held) (op : Operation) (reply : ops.Reply) (new : Held) → IsWarm before old → IsCall old op (Ok reply) new → (turn : IsSessionStep (system_state_of old) op reply (system_state_of new)) →
+call_within_read_bounds : (before : Option Operation) (old : SessionView) (op : Operation) (reply : ops.Reply) (new : SessionView) → IsWarm before old → IsCall old op (Ok reply) new → (turn : IsSessionStep (system_state_of old) op reply (system_state_of new)) →
     IsWithinReadBounds before (system_state_of old) op turn.calls (system_state_of new)
 call_within_read_bounds before old op reply new warm call turn = record {
   alone = call.alone refl;
-  asked = λ k. append_cancel_right turn.calls [] old.tree.history (sym turn.called ∙ ap (λ (h : Held). h.tree.history) (call.asks.asked k));
+  asked = λ k. append_cancel_right turn.calls [] old.tree.history (sym turn.called ∙ ap (λ (h : SessionView). h.tree.history) (call.asks.asked k));
   few = λ s at ps a. call.asks.few s at ps a turn.calls turn.called;
   kept = λ s at ps a. go before warm s at ps a;
 }
@@ -52,7 +52,7 @@ call_within_read_bounds before old op reply new warm call turn = record {
     go None w s at ps a = tt
     go (Some b) w s at ps a = λ k. call.asks.none k.again (kept_hand ps b op k old.tree (w k.path k.stat s at ps a (kept_small ps b op k))) turn.calls turn.called
 
-warm_behind : (old : Held) (op : Operation) (reply : ops.Reply) (new : Held) → IsCall old op (Ok reply) new → IsWarm (if_accepted op reply) new
+warm_behind : (old : SessionView) (op : Operation) (reply : ops.Reply) (new : SessionView) → IsCall old op (Ok reply) new → IsWarm (if_accepted op reply) new
 warm_behind old op reply new call = go (model.is_refusal reply) refl
   where
     go : (b : Bool) → model.is_refusal reply ≡ b → IsWarm (cond b None (Some op)) new
@@ -62,15 +62,15 @@ warm_behind old op reply new call = go (model.is_refusal reply) refl
 -- ---- the operations so far
 
 -- they are performed, and met no fault
-pub record HaveRun (from : SystemState) (operations : List Operation) (replies : List ops.Reply) (to : Held) : Type 0 where
+pub record HaveRun (from : SystemState) (operations : List Operation) (replies : List ops.Reply) (to : SessionView) : Type 0 where
   pub performed : ArePerformed None from operations replies (system_state_of to)
   pub no_fault : faults to.tree.history ≡ faults from.calls
   pub warm : IsWarm (last_accepted None operations replies) to
 
-pub none_run : (a : Held) (replies : List Reply) → replies ≡ [] → HaveRun (system_state_of a) [] (map reply_view replies) a
+pub none_run : (a : SessionView) (replies : List Reply) → replies ≡ [] → HaveRun (system_state_of a) [] (map reply_view replies) a
 none_run a replies none = subst (λ rs. HaveRun (system_state_of a) [] (map reply_view rs) a) (sym none) (record { performed = refl; no_fault = refl; warm = tt })
 
-one_more : (operations : List Operation) (op : Operation) (replies : List ops.Reply) (reply : ops.Reply) (a : SystemState) (b c : Held) → HaveRun a operations replies b → IsCall b op (Ok reply) c → HaveRun a (operations ++ op ∷ []) (replies ++ reply ∷ []) c
+one_more : (operations : List Operation) (op : Operation) (replies : List ops.Reply) (reply : ops.Reply) (a : SystemState) (b c : SessionView) → HaveRun a operations replies b → IsCall b op (Ok reply) c → HaveRun a (operations ++ op ∷ []) (replies ++ reply ∷ []) c
 one_more operations op replies reply a b c done call = record {
   performed = performed_further None operations op replies reply a (system_state_of b) (system_state_of c) done.performed (record {
     turn = call.answers;
@@ -82,7 +82,7 @@ one_more operations op replies reply a b c done call = record {
 }
 
 -- one more operation
-pub run_further : (ops : List Op) (i : ℕ) (d : Op) (replies new : List Reply) (reply : Reply) (a : SystemState) (b c : Held) → i < length ops → HaveRun a (map op_view (take i ops)) (map reply_view replies) b →
+pub run_further : (ops : List Op) (i : ℕ) (d : Op) (replies new : List Reply) (reply : Reply) (a : SystemState) (b c : SessionView) → i < length ops → HaveRun a (map op_view (take i ops)) (map reply_view replies) b →
     IsCall b (op_view (get_or ops i d)) (Ok (reply_view reply)) c → new ≡ replies ++ reply ∷ [] → HaveRun a (map op_view (take (i + 1) ops)) (map reply_view new) c
 run_further ops i d replies new reply a b c lt done call is =
     subst (λ rs. HaveRun a (map op_view (take (i + 1) ops)) (map reply_view rs) c) (sym is)
@@ -90,14 +90,14 @@ run_further ops i d replies new reply a b c lt done call is =
     (subst (λ rs. HaveRun a (map op_view (take i ops) ++ op_view (get_or ops i d) ∷ []) rs c) (sym (map-append reply_view replies (reply ∷ [])))
     (one_more (map op_view (take i ops)) (op_view (get_or ops i d)) (map reply_view replies) (reply_view reply) a b c done call)))
 
-pub run_ended : (ops : List Op) (i : ℕ) (replies : List Reply) (a : SystemState) (b : Held) → length ops ≤ i → HaveRun a (map op_view (take i ops)) (map reply_view replies) b → HaveRun a (map op_view ops) (map reply_view replies) b
+pub run_ended : (ops : List Op) (i : ℕ) (replies : List Reply) (a : SystemState) (b : SessionView) → length ops ≤ i → HaveRun a (map op_view (take i ops)) (map reply_view replies) b → HaveRun a (map op_view ops) (map reply_view replies) b
 run_ended ops i replies a b h done = subst (λ xs. HaveRun a (map op_view xs) (map reply_view replies) b) (take_all i ops h) done
 
 -- each refusal is named
-pub named_further : (replies new : List Reply) (reply : Reply) → AllByRecursion IsNamed replies → IsNamed reply → new ≡ replies ++ reply ∷ [] → AllByRecursion IsNamed new
-named_further replies new reply done one is = subst (AllByRecursion IsNamed) (sym is) (go replies done)
+pub named_further : (replies new : List Reply) (reply : Reply) → AllByRecursion NamesRefusal replies → NamesRefusal reply → new ≡ replies ++ reply ∷ [] → AllByRecursion NamesRefusal new
+named_further replies new reply done one is = subst (AllByRecursion NamesRefusal) (sym is) (go replies done)
   where
-    go : (rs : List Reply) → AllByRecursion IsNamed rs → AllByRecursion IsNamed (rs ++ reply ∷ [])
+    go : (rs : List Reply) → AllByRecursion NamesRefusal rs → AllByRecursion NamesRefusal (rs ++ reply ∷ [])
     go [] h = (one, tt)
     go (r ∷ rs) h = (h.0, go rs h.1)
 
@@ -105,13 +105,13 @@ named_further replies new reply done one is = subst (AllByRecursion IsNamed) (sy
 pub silent_few : (from : SystemState) (op : Operation) (to : SystemState) → to.calls ≡ from.calls → AsksFew from op to
 silent_few from op to same s at ps a calls is looks =
     let none = append_cancel_right calls [] from.calls (sym is ∙ same) in
-    subst (λ z. reads z ≤ sum_by (pairs_of_path ps) (searched op)) (sym none) (zero_least _)
+    subst (λ z. reads z ≤ sum_by (pairs_of_path ps) (searched_directories op)) (sym none) (zero_least _)
   where
     zero_least : (n : ℕ) → 0 ≤ n
     zero_least n = omega arith
 
 -- the session fails in the next one
-pub run_cut : (e : Error) (ops : List Op) (i : ℕ) (d : Op) (replies : List Reply) (a : SystemState) (b : Held) (c : SystemState) → i < length ops → HaveRun a (map op_view (take i ops)) (map reply_view replies) b → AsksFew (system_state_of b) (op_view (get_or ops i d)) c →
+pub run_cut : (e : Error) (ops : List Op) (i : ℕ) (d : Op) (replies : List Reply) (a : SystemState) (b : SessionView) (c : SystemState) → i < length ops → HaveRun a (map op_view (take i ops)) (map reply_view replies) b → AsksFew (system_state_of b) (op_view (get_or ops i d)) c →
     FailsBy e (system_state_of b) (op_view (get_or ops i d)) c → SurvivesLoss (system_state_of b) (op_view (get_or ops i d)) c → IsEndedBy e a (map op_view ops) c
 run_cut e ops i d replies a b c lt run few fails survives_loss = record {
   ended = record {

@@ -4,15 +4,15 @@ use Rattle.std.specs.Prelude.{All, OnOk, is_err}
 use Rattle.std.proofs.lemmas.List.Elements.{All-from_recursion}
 use Rattle.lfs_device.specs.declared.error.Error.{Error}
 use Rattle.lfs_model.specs.Content.{content_at}
-use Rattle.lfs_model.specs.Frame.{LeavesAlone, ReadsFew, is_kept, looks_up, path_of_open, paths_of, searched}
+use Rattle.lfs_model.specs.Frame.{LeavesAlone, ReadsFew, is_answered_from_memory, looks_up, path_of_open, paths_of, searched_directories}
 use Rattle.lfs_model.specs.Disk.{Disk, block_at, block_count}
 use Rattle.lfs_model.specs.History.{Event}
 use Rattle.lfs_model.specs.Operations as ops
 use Rattle.lfs_model.specs.Operations.{Operation, Reply}
 use Rattle.lfs_model.specs.PowerLoss.{IsLeftByStop, SurvivesStops, SurvivesLoss}
-use Rattle.lfs_model.specs.Effects.{applied}
+use Rattle.lfs_model.specs.Effects.{refusal_or_effect}
 use Rattle.lfs_model.specs.Run as model
-use Rattle.lfs_model.specs.Run.{Agrees, IsEffectOnDisk, IsSessionStep, SystemState, only_asks}
+use Rattle.lfs_model.specs.Run.{AgreesWithTree, IsEffectOnDisk, IsSessionStep, SystemState, only_asks}
 use Rattle.lfs_model.specs.Session.{Session, file_of}
 use Rattle.lfs_model.specs.Shown.{all_slots, file_blocks}
 use Rattle.lfs_model.specs.Slots.{Slot, no_gstate}
@@ -23,19 +23,19 @@ use Rattle.lfs_model.proofs.Committed.{recovered_from}
 use Rattle.lfs_model.proofs.Counts.{each_always}
 use Rattle.lfs_model.proofs.Uniqueness.{one_thread}
 use Rattle.lfs_model.proofs.Surviving.{session_step_survives_loss}
-use Rattle.lfs_tree.specs.OpenContents.{IsStoredAt, IsWrittenBeside}
+use Rattle.lfs_tree.specs.OpenContents.{IsStoredAt, WritesUnusedBlocks}
 use Rattle.lfs_lookup.specs.Refusals.{is_refusal, refusal_in}
-use Rattle.lfs_tree.specs.TreeState.{IsAsked, IsAppliedOn, IsSound, LeavesRest, TreeState}
+use Rattle.lfs_tree.specs.TreeState.{WasOnlyRead, IsAppliedOn, IsSound, LeavesRest, TreeState}
 use Rattle.std.specs.Option.{option_map}
-use Rattle.lfs_fs.specs.FileView.{OpenFiles, entry_of, file_view, files_view}
+use Rattle.lfs_fs.specs.FileView.{OpenFiles, open_file_at, file_view, files_view}
 use Rattle.lfs_fs.specs.declared.files.OpenFile.TheVariants as file
 use Rattle.lfs_fs.specs.declared.files.Writer.{Writer}
-use Rattle.lfs_fs.specs.Ending.{EndsWell}
-use Rattle.lfs_fs.specs.Held.{Answers, Held, IsReady, held_of, held_with, system_state_of, session_of}
-use Rattle.lfs_fs.specs.LookUps.{AddsFew, AddsNone, LeavesCachedBeneath, ReadsNoneIn}
+use Rattle.lfs_fs.specs.CallEnds.{EndsWell}
+use Rattle.lfs_fs.specs.SessionView.{Answers, SessionView, IsReady, session_view_of, session_view_with, system_state_of, session_of}
+use Rattle.lfs_fs.specs.LookUps.{AddsFewReads, AddsNoReads, LeavesCachedBeneath, AddsNoReadsSince}
 use Rattle.lfs_fs.specs.Replies.{reply_in}
 use Rattle.lfs_model.specs.ReadBounds.{AsksFew}
-use Rattle.lfs_fs.specs.Sparing.{IsCall, LeavesCached, LeavesOthers}
+use Rattle.lfs_fs.specs.CallEffects.{IsCall, CachesSearched, LeavesOthers}
 use Rattle.lfs_fs.proofs.KeptLookUps.{reads_none}
 use Rattle.lfs_lookup.specs.CachedPairs.{AreSmall}
 use Rattle.lfs_tree.specs.Reads.{HasCached}
@@ -69,73 +69,73 @@ turn_others from op reply to turn nothing s at ps qs a b none = go (model.is_ref
     go true e = same_alone from.disk to.disk ps qs s op (turn.refused e).0
     go false e = same_alone from.disk to.disk ps qs s op (nothing s at ps qs turn.calls a none (turn.effect_on_disk e s at ps qs a b))
 
-pub turned_others : {A : Type 0} (old : Held) (op : Operation) (reply : A → Reply) (r : Result A Error) (new : Held) → Answers old op (reply_in reply r) new → WritesNothing (system_state_of old) op (system_state_of new) → OnOk r (LeavesOthers (system_state_of old) op (system_state_of new))
+pub turned_others : {A : Type 0} (old : SessionView) (op : Operation) (reply : A → Reply) (r : Result A Error) (new : SessionView) → Answers old op (reply_in reply r) new → WritesNothing (system_state_of old) op (system_state_of new) → OnOk r (LeavesOthers (system_state_of old) op (system_state_of new))
 turned_others old op reply (Ok x) new turn nothing = turn_others (system_state_of old) op (reply x) (system_state_of new) turn nothing
 turned_others old op reply (Err e) new answers nothing = tt
 
-pub recovered_others : (old : Held) (r : Result (Unit {0}) Error) (new : Held) → Answers old ops.Recover (reply_in (λ u. ops.Done) r) new → OnOk r (LeavesOthers (system_state_of old) ops.Recover (system_state_of new))
+pub recovered_others : (old : SessionView) (r : Result (Unit {0}) Error) (new : SessionView) → Answers old ops.Recover (reply_in (λ u. ops.Done) r) new → OnOk r (LeavesOthers (system_state_of old) ops.Recover (system_state_of new))
 recovered_others old r new answers = turned_others old ops.Recover (λ u. ops.Done) r new answers (λ s at ps qs calls a none c. (c.nothing_left refl (recovered_from old.tree.disk ps a none)).0)
 
 -- ---- where the tree tells it
 
-others_from : (t new : TreeState) (fs : OpenFiles) (now : Held) (op : Operation) → held_of t fs ≡ now → (t.failed ≡ false → IsReady t fs) → IsSound new →
-    (IsSound t → gstate_of t.pairs ≡ no_gstate → LeavesAlone t.disk t.pairs (session_of (held_of t fs)) op new.disk new.pairs) → LeavesOthers (system_state_of now) op (system_state_of (held_with new []))
-others_from t new fs now op same ready after alone = subst (λ (z : Held). LeavesOthers (system_state_of z) op (system_state_of (held_with new []))) same here
+others_from : (t new : TreeState) (fs : OpenFiles) (now : SessionView) (op : Operation) → session_view_of t fs ≡ now → (t.failed ≡ false → IsReady t fs) → IsSound new →
+    (IsSound t → gstate_of t.pairs ≡ no_gstate → LeavesAlone t.disk t.pairs (session_of (session_view_of t fs)) op new.disk new.pairs) → LeavesOthers (system_state_of now) op (system_state_of (session_view_with new []))
+others_from t new fs now op same ready after alone = subst (λ (z : SessionView). LeavesOthers (system_state_of z) op (system_state_of (session_view_with new []))) same here
   where
-    here : LeavesOthers (system_state_of (held_of t fs)) op (system_state_of (held_with new []))
+    here : LeavesOthers (system_state_of (session_view_of t fs)) op (system_state_of (session_view_with new []))
     here s at ps qs a b none =
-        let sound = (ready (works_at (held_of t fs) s at)).sound in
+        let sound = (ready (works_at (session_view_of t fs) s at)).sound in
         let p = one_thread (content_at t.disk) (block_count t.disk) t.pairs ps sound.accepted.thread a.thread in
         let q = one_thread (content_at new.disk) (block_count new.disk) new.pairs qs after.accepted.thread b.thread in
-        subst (λ z. LeavesAlone t.disk ps z op new.disk qs) (session_at (held_of t fs) s at)
-        (subst (λ z. LeavesAlone t.disk z (session_of (held_of t fs)) op new.disk qs) p
-        (subst (λ z. LeavesAlone t.disk t.pairs (session_of (held_of t fs)) op new.disk z) q (alone sound (subst (λ z. gstate_of z ≡ no_gstate) (sym p) none))))
+        subst (λ z. LeavesAlone t.disk ps z op new.disk qs) (session_at (session_view_of t fs) s at)
+        (subst (λ z. LeavesAlone t.disk z (session_of (session_view_of t fs)) op new.disk qs) p
+        (subst (λ z. LeavesAlone t.disk t.pairs (session_of (session_view_of t fs)) op new.disk z) q (alone sound (subst (λ z. gstate_of z ≡ no_gstate) (sym p) none))))
 
 -- an operation of the tree behind reads
-pub rest_others : (t mid new : TreeState) (fs : OpenFiles) (now : Held) (op : Operation) → held_of t fs ≡ now → (t.failed ≡ false → IsReady t fs) → IsAsked t mid → IsSound new → LeavesRest mid op new → LeavesOthers (system_state_of now) op (system_state_of (held_with new []))
-rest_others t mid new fs now op same ready asked after rest = others_from t new fs now op same ready after (λ sound none. subst (λ (z : TreeState). LeavesRest z op new) asked.same rest none (held_of t fs).files)
+pub rest_others : (t mid new : TreeState) (fs : OpenFiles) (now : SessionView) (op : Operation) → session_view_of t fs ≡ now → (t.failed ≡ false → IsReady t fs) → WasOnlyRead t mid → IsSound new → LeavesRest mid op new → LeavesOthers (system_state_of now) op (system_state_of (session_view_with new []))
+rest_others t mid new fs now op same ready asked after rest = others_from t new fs now op same ready after (λ sound none. subst (λ (z : TreeState). LeavesRest z op new) asked.same rest none (session_view_of t fs).files)
 
 -- the same, where it was carried out
-pub done_others : (C K : Type 0) (t mid new : TreeState) (fs : OpenFiles) (now : Held) (op : Operation) (r : Result (Unit {0}) Error) → held_of t fs ≡ now → (t.failed ≡ false → IsReady t fs) → IsAsked t mid → OnOk r C → (C → IsAppliedOn mid op new) →
-    OnOk r K → (K → LeavesRest mid op new) → OnOk r (LeavesOthers (system_state_of now) op (system_state_of (held_with new [])))
+pub done_others : (C K : Type 0) (t mid new : TreeState) (fs : OpenFiles) (now : SessionView) (op : Operation) (r : Result (Unit {0}) Error) → session_view_of t fs ≡ now → (t.failed ≡ false → IsReady t fs) → WasOnlyRead t mid → OnOk r C → (C → IsAppliedOn mid op new) →
+    OnOk r K → (K → LeavesRest mid op new) → OnOk r (LeavesOthers (system_state_of now) op (system_state_of (session_view_with new [])))
 done_others C K t mid new fs now op (Ok u) same ready asked c carried k rest = rest_others t mid new fs now op same ready asked (carried c).sound (rest k)
 done_others C K t mid new fs now op (Err e) same ready asked c carried k rest = tt
 
 -- a recovery alone
-pub begun_others : (t mid new : TreeState) (fs : OpenFiles) (now : Held) (op : Operation) → held_of t fs ≡ now → (t.failed ≡ false → IsReady t fs) → IsAsked t mid → IsAppliedOn mid ops.Recover new → LeavesOthers (system_state_of now) op (system_state_of (held_with new []))
+pub begun_others : (t mid new : TreeState) (fs : OpenFiles) (now : SessionView) (op : Operation) → session_view_of t fs ≡ now → (t.failed ≡ false → IsReady t fs) → WasOnlyRead t mid → IsAppliedOn mid ops.Recover new → LeavesOthers (system_state_of now) op (system_state_of (session_view_with new []))
 begun_others t mid new fs now op same ready asked carried =
-    others_from t new fs now op same ready carried.sound (λ sound none. same_alone t.disk new.disk t.pairs new.pairs (session_of (held_of t fs)) op
+    others_from t new fs now op same ready carried.sound (λ sound none. same_alone t.disk new.disk t.pairs new.pairs (session_of (session_view_of t fs)) op
     ((subst (λ (z : TreeState). IsAppliedOn z ops.Recover new) asked.same carried).nothing_left refl (recovered_from t.disk t.pairs sound.accepted none)).0)
 
 -- the contents of a writer come into the tree
-pub stored_others : (t new : TreeState) (fs : OpenFiles) (now : Held) (op : Operation) (fd : ℕ) (w : Writer) (bytes : List ℕ) → held_of t fs ≡ now → (t.failed ≡ false → IsReady t fs) → Some (file.Writing w) ≡ entry_of fs fd →
-    ((s : Session) → paths_of s op ≡ path_of_open (file_of s.files fd)) → IsStoredAt t w.path bytes new → LeavesOthers (system_state_of now) op (system_state_of (held_with new []))
+pub stored_others : (t new : TreeState) (fs : OpenFiles) (now : SessionView) (op : Operation) (fd : ℕ) (w : Writer) (bytes : List ℕ) → session_view_of t fs ≡ now → (t.failed ≡ false → IsReady t fs) → Some (file.Writing w) ≡ open_file_at fs fd →
+    ((s : Session) → paths_of s op ≡ path_of_open (file_of s.files fd)) → IsStoredAt t w.path bytes new → LeavesOthers (system_state_of now) op (system_state_of (session_view_with new []))
 stored_others t new fs now op fd w bytes same ready is about stored =
     others_from t new fs now op same ready stored.sound
-    (λ sound none. stored.alone (files_view t fs) op (about (session_of (held_of t fs)) ∙ ap path_of_open (file_is t fs fd ∙ ap (option_map (file_view t)) (sym is))))
+    (λ sound none. stored.alone (files_view t fs) op (about (session_of (session_view_of t fs)) ∙ ap path_of_open (file_is t fs fd ∙ ap (option_map (file_view t)) (sym is))))
 
 -- contents are written beside the image
-pub beside_others : (t new : TreeState) (fs : OpenFiles) (now : Held) (op : Operation) → held_of t fs ≡ now → (t.failed ≡ false → IsReady t fs) → IsWrittenBeside t new → LeavesOthers (system_state_of now) op (system_state_of (held_with new []))
+pub beside_others : (t new : TreeState) (fs : OpenFiles) (now : SessionView) (op : Operation) → session_view_of t fs ≡ now → (t.failed ≡ false → IsReady t fs) → WritesUnusedBlocks t new → LeavesOthers (system_state_of now) op (system_state_of (session_view_with new []))
 beside_others t new fs now op same ready beside =
-    others_from t new fs now op same ready beside.sound (λ sound none. written_alone t.disk new.disk t.pairs beside.stay new.pairs (session_of (held_of t fs)) op)
+    others_from t new fs now op same ready beside.sound (λ sound none. written_alone t.disk new.disk t.pairs beside.stay new.pairs (session_of (session_view_of t fs)) op)
 
 -- ---- calls
 
-pub few_asked : (t new : TreeState) (fs : OpenFiles) (op : Operation) → (t.failed ≡ false → IsSound t) → (looks_up op ≡ true → AddsFew t op new) → AsksFew (system_state_of (held_of t fs)) op (system_state_of (held_with new []))
+pub few_asked : (t new : TreeState) (fs : OpenFiles) (op : Operation) → (t.failed ≡ false → IsSound t) → (looks_up op ≡ true → AddsFewReads t op new) → AsksFew (system_state_of (session_view_of t fs)) op (system_state_of (session_view_with new []))
 few_asked t new fs op sound few s at ps a calls is looks =
-    let p = one_thread (content_at t.disk) (block_count t.disk) t.pairs ps (sound (works_at (held_of t fs) s at)).accepted.thread a.thread in
+    let p = one_thread (content_at t.disk) (block_count t.disk) t.pairs ps (sound (works_at (session_view_of t fs) s at)).accepted.thread a.thread in
     subst (λ z. ReadsFew z op calls) p (λ l. reads_few t new op (few l) calls is l) looks
 
 -- an error leaves the disk as it was, too
-asking_stands : (old : Held) (op : Operation) (r : Result Reply Error) (new : Held) → Agrees old.tree.disk (system_state_of old).state → ((s : Session) → only_asks s op ≡ true) → Answers old op r new → SurvivesStops (system_state_of old) op (system_state_of new) →
+asking_stands : (old : SessionView) (op : Operation) (r : Result Reply Error) (new : SessionView) → AgreesWithTree old.tree.disk (system_state_of old).state → ((s : Session) → only_asks s op ≡ true) → Answers old op r new → SurvivesStops (system_state_of old) op (system_state_of new) →
     SurvivesLoss (system_state_of old) op (system_state_of new)
 asking_stands old op (Ok reply) new agrees asks turn survives = session_step_survives_loss (system_state_of old) op reply (system_state_of new) agrees turn survives
 asking_stands old op (Err e) new agrees asks fails survives = record {
   stops = survives;
-  stands = λ s ps around work clean stopped. subst (λ d. IsLeftByStop d s.tree (applied around s op).1.tree) (sym (fails.fails.asks s work.healthy (asks s)).0) (stood_before (system_state_of old) op agrees s ps around work);
+  stands = λ s ps around work clean stopped. subst (λ d. IsLeftByStop d s.tree (refusal_or_effect around s op).1.tree) (sym (fails.fails.asks s work.healthy (asks s)).0) (stood_before (system_state_of old) op agrees s ps around work);
 }
 
-pub ok_others : {A : Type 0} (old : Held) (op : Operation) (reply : A → Reply) (r : Result A Error) (new : Held) → Answers old op (reply_in reply r) new → OnOk r (LeavesOthers (system_state_of old) op (system_state_of new)) → is_err (reply_in reply r) ≡ false → LeavesOthers (system_state_of old) op (system_state_of new)
+pub ok_others : {A : Type 0} (old : SessionView) (op : Operation) (reply : A → Reply) (r : Result A Error) (new : SessionView) → Answers old op (reply_in reply r) new → OnOk r (LeavesOthers (system_state_of old) op (system_state_of new)) → is_err (reply_in reply r) ≡ false → LeavesOthers (system_state_of old) op (system_state_of new)
 ok_others old op reply (Ok x) new answers k e = k
 ok_others old op reply (Err x) new answers k e = go (is_refusal x) answers e
   where
@@ -143,7 +143,7 @@ ok_others old op reply (Err x) new answers k e = go (is_refusal x) answers e
     go true turn e = untouched_others (system_state_of old) op (system_state_of new) (turn.refused refl).0
     go false fails e = absurd (cc)
 
-asking_others : (old : Held) (op : Operation) (r : Result Reply Error) (new : Held) → ((s : Session) → only_asks s op ≡ true) → Answers old op r new → is_err r ≡ false → LeavesOthers (system_state_of old) op (system_state_of new)
+asking_others : (old : SessionView) (op : Operation) (r : Result Reply Error) (new : SessionView) → ((s : Session) → only_asks s op ≡ true) → Answers old op r new → is_err r ≡ false → LeavesOthers (system_state_of old) op (system_state_of new)
 asking_others old op (Ok reply) new asks turn e = turn_others (system_state_of old) op reply (system_state_of new) turn (λ s at ps qs calls a none c. (c.asks (asks s)).0)
 asking_others old op (Err x) new asks fails e = absurd (cc)
 
@@ -160,24 +160,24 @@ stat_hand reply (Err e) P there path answer is accepted = go (is_refusal e) is
     go false same = absurd (cc)
 
 -- how a look-up asks
-pub record AsksBy (t : TreeState) (op : Operation) (r : Result Reply Error) (new : Held) : Type 0 where
-  pub few : looks_up op ≡ true → AddsFew t op new.tree
-  pub none : looks_up op ≡ true → AddsNone t op new.tree
-  pub hand : LeavesCached op r new
+pub record AsksBy (t : TreeState) (op : Operation) (r : Result Reply Error) (new : SessionView) : Type 0 where
+  pub few : looks_up op ≡ true → AddsFewReads t op new.tree
+  pub none : looks_up op ≡ true → AddsNoReads t op new.tree
+  pub hand : CachesSearched op r new
 
-pub stat_asks : {A : Type 0} (reply : A → Reply) (t : TreeState) (path : List ℕ) (r : Result A Error) (new : Held) → (new.tree.failed ≡ false → IsAsked t new.tree) → (new.tree.failed ≡ false → IsSound new.tree) → AddsFew t (ops.Stat path) new.tree →
-    AddsNone t (ops.Stat path) new.tree → LeavesCachedBeneath t (ops.Stat path) r new.tree → AsksBy t (ops.Stat path) (reply_in reply r) new
+pub stat_asks : {A : Type 0} (reply : A → Reply) (t : TreeState) (path : List ℕ) (r : Result A Error) (new : SessionView) → (new.tree.failed ≡ false → WasOnlyRead t new.tree) → (new.tree.failed ≡ false → IsSound new.tree) → AddsFewReads t (ops.Stat path) new.tree →
+    AddsNoReads t (ops.Stat path) new.tree → LeavesCachedBeneath t (ops.Stat path) r new.tree → AsksBy t (ops.Stat path) (reply_in reply r) new
 stat_asks reply t path r new asked sound few none leaves = record { few = λ l. few; none = λ l. none; hand = hand }
   where
-    hand : LeavesCached (ops.Stat path) (reply_in reply r) new
+    hand : CachesSearched (ops.Stat path) (reply_in reply r) new
     hand given answer is same accepted s at ps a small =
         let works = works_at new s at in
         let e : new.tree.pairs ≡ ps = one_thread (content_at new.tree.disk) (block_count new.tree.disk) new.tree.pairs ps (sound works).accepted.thread a.thread in
         let f : new.tree.pairs ≡ t.pairs = ap (λ (z : TreeState). z.pairs) (asked works).same in
-        stat_hand reply r (HasCached new.tree (searched (ops.Stat path))) (leaves (subst (λ z. AreSmall z (searched (ops.Stat path))) (sym e ∙ f) small)) given answer same accepted
+        stat_hand reply r (HasCached new.tree (searched_directories (ops.Stat path))) (leaves (subst (λ z. AreSmall z (searched_directories (ops.Stat path))) (sym e ∙ f) small)) given answer same accepted
 
 -- no other operation looks up
-pub asks_not : (t : TreeState) (op : Operation) (r : Result Reply Error) (new : Held) → looks_up op ≡ false → AsksBy t op r new
+pub asks_not : (t : TreeState) (op : Operation) (r : Result Reply Error) (new : SessionView) → looks_up op ≡ false → AsksBy t op r new
 asks_not t op r new silent = record {
   few = λ l. absurd (let m = sym silent ∙ l in cc);
   none = λ l. absurd (let m = sym silent ∙ l in cc);
@@ -185,26 +185,26 @@ asks_not t op r new silent = record {
 }
 
 -- a call that asks only
-pub asking_call : (t : TreeState) (fs : OpenFiles) (now : Held) (op : Operation) (r : Result Reply Error) (new : Held) → held_of t fs ≡ now → (t.failed ≡ false → IsReady t fs) → ((s : Session) → only_asks s op ≡ true) →
-    (is_kept op ≡ true → new ≡ now) → AsksBy t op r new → EndsWell now op r new → Answers now op r new → SurvivesStops (system_state_of now) op (system_state_of new) → IsCall now op r new
+pub asking_call : (t : TreeState) (fs : OpenFiles) (now : SessionView) (op : Operation) (r : Result Reply Error) (new : SessionView) → session_view_of t fs ≡ now → (t.failed ≡ false → IsReady t fs) → ((s : Session) → only_asks s op ≡ true) →
+    (is_answered_from_memory op ≡ true → new ≡ now) → AsksBy t op r new → EndsWell now op r new → Answers now op r new → SurvivesStops (system_state_of now) op (system_state_of new) → IsCall now op r new
 asking_call t fs now op r new same ready asks kept by ends answers survives = record {
   answers = answers;
   ends = ends;
-  survives_loss = asking_stands now op r new (subst (λ (z : Held). Agrees z.tree.disk (system_state_of z).state) same (ready_agrees t fs ready)) asks answers survives;
+  survives_loss = asking_stands now op r new (subst (λ (z : SessionView). AgreesWithTree z.tree.disk (system_state_of z).state) same (ready_agrees t fs ready)) asks answers survives;
   alone = λ e. asking_others now op r new asks answers e;
   asks = record {
     asked = kept;
-    few = subst (λ (z : Held). AsksFew (system_state_of z) op (system_state_of new)) same (few_asked t new.tree fs op (λ w. (ready w).sound) by.few);
-    none = λ l. subst (λ (z : Held). ReadsNoneIn z.tree op new.tree) same (reads_none t new.tree op (by.none l));
+    few = subst (λ (z : SessionView). AsksFew (system_state_of z) op (system_state_of new)) same (few_asked t new.tree fs op (λ w. (ready w).sound) by.few);
+    none = λ l. subst (λ (z : SessionView). AddsNoReadsSince z.tree op new.tree) same (reads_none t new.tree op (by.none l));
     hand = by.hand;
   };
 }
 
 -- the same where no call is made
-pub kept_asking : (t : TreeState) (fs : OpenFiles) (now : Held) (op : Operation) (r : Result Reply Error) → held_of t fs ≡ now → (t.failed ≡ false → IsReady t fs) → ((s : Session) → only_asks s op ≡ true) → looks_up op ≡ false → EndsWell now op r now → Answers now op r now → IsCall now op r now
+pub kept_asking : (t : TreeState) (fs : OpenFiles) (now : SessionView) (op : Operation) (r : Result Reply Error) → session_view_of t fs ≡ now → (t.failed ≡ false → IsReady t fs) → ((s : Session) → only_asks s op ≡ true) → looks_up op ≡ false → EndsWell now op r now → Answers now op r now → IsCall now op r now
 kept_asking t fs now op r same ready asks silent ends answers =
-    asking_call t fs now op r now same ready asks (λ k. refl) (asks_not t op r now silent) ends answers (kept_call (held_of t fs) now op same (λ w. (ready w).sound))
+    asking_call t fs now op r now same ready asks (λ k. refl) (asks_not t op r now silent) ends answers (kept_call (session_view_of t fs) now op same (λ w. (ready w).sound))
 
 -- the same of an operation by another name
-pub performed_call : (old new : Held) (op : Operation) (o : Operation) (r q : Result Reply Error) → o ≡ op → q ≡ r → IsCall old op r new → IsCall old o q new
+pub performed_call : (old new : SessionView) (op : Operation) (o : Operation) (r q : Result Reply Error) → o ≡ op → q ≡ r → IsCall old op r new → IsCall old o q new
 performed_call old new op o r q is same call = subst (λ z. IsCall old z q new) (sym is) (subst (λ z. IsCall old op z new) (sym same) call)

@@ -11,7 +11,7 @@ use Rattle.lfs_model.specs.PowerLoss.{IsLeftByStop, Survives, SurvivesStops, wit
 use Rattle.lfs_model.specs.Run.{SystemState}
 use Rattle.lfs_model.specs.Session.{Session}
 use Rattle.lfs_model.specs.State.{HasFailed, Healthy, State}
-use Rattle.lfs_model.specs.Effects.{applied, effect_of, reply_or}
+use Rattle.lfs_model.specs.Effects.{refusal_or_effect, effect_of, reply_or}
 use Rattle.lfs_model.specs.Tree.{Tree}
 use Rattle.lfs_model.specs.Profile.{IsWritable}
 use Rattle.lfs_model.specs.Shown.{tree_in}
@@ -20,21 +20,21 @@ use Rattle.lfs_model.proofs.Histories.{LeavesOnly-reads, LeavesOnly-weaker, Stop
 use Rattle.lfs_model.proofs.Uniqueness.{one_thread}
 use Rattle.lfs_model.proofs.Surviving.{same_surroundings}
 use Rattle.lfs_lookup.specs.Refusals.{is_refusal}
-use Rattle.lfs_tree.specs.TreeState.{IsAsked, IsBroken, IsAppliedOn, IsSound, TreeState, SurvivesAs, around_of, tree_view}
-use Rattle.lfs_fs.specs.Held.{Checks, EndsChecks, Held, held_with, system_state_of, refused_by, session_of}
+use Rattle.lfs_tree.specs.TreeState.{WasOnlyRead, IsFailedTree, IsAppliedOn, IsSound, TreeState, SurvivesAs, surroundings_of, tree_view}
+use Rattle.lfs_fs.specs.SessionView.{Checks, EndsChecks, SessionView, session_view_with, system_state_of, refused_by, session_of}
 use Rattle.lfs_fs.proofs.Answered.{is_over, not_refused, sound_later}
 use Rattle.lfs_fs.proofs.Failing.{failed_system, healthy_system}
 
 -- ---- a session at work
 
-pub works_at : (h : Held) (s : Session) → (system_state_of h).state ≡ Healthy s → h.tree.failed ≡ false
+pub works_at : (h : SessionView) (s : Session) → (system_state_of h).state ≡ Healthy s → h.tree.failed ≡ false
 works_at h s e = go h.tree.failed refl
   where
     go : (b : Bool) → h.tree.failed ≡ b → h.tree.failed ≡ false
     go false f = f
     go true f = absurd (let k : HasFailed ≡ Healthy s = sym (ap (λ (m : SystemState). m.state) (failed_system h f)) ∙ e in cc)
 
-pub session_at : (h : Held) (s : Session) → (system_state_of h).state ≡ Healthy s → session_of h ≡ s
+pub session_at : (h : SessionView) (s : Session) → (system_state_of h).state ≡ Healthy s → session_of h ≡ s
 session_at h s e = ap or_else (sym (ap (λ (m : SystemState). m.state) (healthy_system h (works_at h s e))) ∙ e)
   where
     or_else : State → Session
@@ -42,17 +42,17 @@ session_at h s e = ap or_else (sym (ap (λ (m : SystemState). m.state) (healthy_
     or_else (Healthy z) = z
 
 -- The disk and the calls at its end are what matters of the later moment.
-survives_at_work : (old : Held) (op : Operation) (new : TreeState) → (old.tree.failed ≡ false → IsSound old.tree) →
-    (old.tree.failed ≡ false → old.tree.writable ≡ true → Survives old.tree.disk old.tree.history new.history (tree_view old.tree) (applied (around_of old.tree) (session_of old) op).1.tree) →
-    SurvivesStops (system_state_of old) op (system_state_of (held_with new []))
+survives_at_work : (old : SessionView) (op : Operation) (new : TreeState) → (old.tree.failed ≡ false → IsSound old.tree) →
+    (old.tree.failed ≡ false → old.tree.writable ≡ true → Survives old.tree.disk old.tree.history new.history (tree_view old.tree) (refusal_or_effect (surroundings_of old.tree) (session_of old) op).1.tree) →
+    SurvivesStops (system_state_of old) op (system_state_of (session_view_with new []))
 survives_at_work old op new sound leaves s ps around work =
     let works = works_at old s work.healthy in
     let ok = sound works in
     let same = one_thread (content_at old.tree.disk) (block_count old.tree.disk) ps old.tree.pairs work.accepted.thread ok.accepted.thread in
     let fits = ok.is_kept (subst (IsWritable old.tree.disk) same work.writable) in
-    subst (λ (z : Session). Survives old.tree.disk old.tree.history new.history z.tree (applied around z op).1.tree) (session_at old s work.healthy)
-    (subst (λ z. Survives old.tree.disk old.tree.history new.history (tree_view old.tree) (applied z (session_of old) op).1.tree)
-    (same_surroundings old.tree.disk old.tree.pairs ps (around_of old.tree) around ok.accepted work.accepted (is_over old.tree old.files ok).surrounds work.surrounds) (leaves works fits))
+    subst (λ (z : Session). Survives old.tree.disk old.tree.history new.history z.tree (refusal_or_effect around z op).1.tree) (session_at old s work.healthy)
+    (subst (λ z. Survives old.tree.disk old.tree.history new.history (tree_view old.tree) (refusal_or_effect z (session_of old) op).1.tree)
+    (same_surroundings old.tree.disk old.tree.pairs ps (surroundings_of old.tree) around ok.accepted work.accepted (is_over old.tree old.files ok).surrounds work.surrounds) (leaves works fits))
 
 -- ---- where the tree stayed so far
 
@@ -109,7 +109,7 @@ nothing_yet t sound writable = record {
   survives = λ clean. began;
 }
 
-pub still_asked : (t m new : TreeState) → KeepsTree t m → IsAsked m new → KeepsTree t new
+pub still_asked : (t m new : TreeState) → KeepsTree t m → WasOnlyRead m new → KeepsTree t new
 still_asked t m new k asked = record {
   sound = sound_later m new k.sound asked;
   writable = ap (λ (z : TreeState). z.writable) asked.same ∙ k.writable;
@@ -120,69 +120,69 @@ still_asked t m new k asked = record {
   survives = then_reads t m new.history (tree_view t) k asked.reads;
 }
 
-pub kept_by_reads : (t m : TreeState) → IsSound t → t.writable ≡ true → IsAsked t m → KeepsTree t m
+pub kept_by_reads : (t m : TreeState) → IsSound t → t.writable ≡ true → WasOnlyRead t m → KeepsTree t m
 kept_by_reads t m sound writable asked = still_asked t t m (nothing_yet t sound writable) asked
 
 -- ---- how a session's call ends
 
 -- it only read
-pub only_read : (old now : Held) (op : Operation) (new : TreeState) → old ≡ now → (old.tree.failed ≡ false → IsSound old.tree) → OnlyReads old.tree.disk.blocks old.tree.history new.history → SurvivesStops (system_state_of now) op (system_state_of (held_with new []))
+pub only_read : (old now : SessionView) (op : Operation) (new : TreeState) → old ≡ now → (old.tree.failed ≡ false → IsSound old.tree) → OnlyReads old.tree.disk.blocks old.tree.history new.history → SurvivesStops (system_state_of now) op (system_state_of (session_view_with new []))
 only_read old now op new same sound reads =
-    subst (λ z. SurvivesStops (system_state_of z) op (system_state_of (held_with new []))) same
-    (survives_at_work old op new sound (λ works writable. then_reads old.tree old.tree new.history (applied (around_of old.tree) (session_of old) op).1.tree (nothing_yet old.tree (sound works) writable) reads))
+    subst (λ z. SurvivesStops (system_state_of z) op (system_state_of (session_view_with new []))) same
+    (survives_at_work old op new sound (λ works writable. then_reads old.tree old.tree new.history (refusal_or_effect (surroundings_of old.tree) (session_of old) op).1.tree (nothing_yet old.tree (sound works) writable) reads))
 
 -- no call was made
-pub no_call : (old now : Held) (op : Operation) (new : TreeState) → old ≡ now → (old.tree.failed ≡ false → IsSound old.tree) → new.history ≡ old.tree.history → SurvivesStops (system_state_of now) op (system_state_of (held_with new []))
+pub no_call : (old now : SessionView) (op : Operation) (new : TreeState) → old ≡ now → (old.tree.failed ≡ false → IsSound old.tree) → new.history ≡ old.tree.history → SurvivesStops (system_state_of now) op (system_state_of (session_view_with new []))
 no_call old now op new same sound e = only_read old now op new same sound (record { events = []; extends = e; each = tt })
 
 -- the session is as it was
-pub kept_call : (old now : Held) (op : Operation) → old ≡ now → (old.tree.failed ≡ false → IsSound old.tree) → SurvivesStops (system_state_of now) op (system_state_of now)
+pub kept_call : (old now : SessionView) (op : Operation) → old ≡ now → (old.tree.failed ≡ false → IsSound old.tree) → SurvivesStops (system_state_of now) op (system_state_of now)
 kept_call old now op same sound = subst (λ z. SurvivesStops (system_state_of z) op (system_state_of z)) same (no_call old old op old.tree refl sound refl)
 
 -- the session failed without a call, whatever it had
-pub failing_survives : (old new : Held) (op : Operation) → new ≡ record old { tree = record old.tree { failed = true } } → SurvivesStops (system_state_of old) op (system_state_of new)
-failing_survives old new op is s ps around work clean = record { events = []; extends = ap (λ (h : Held). h.tree.history) is; each = tt }
+pub failing_survives : (old new : SessionView) (op : Operation) → new ≡ record old { tree = record old.tree { failed = true } } → SurvivesStops (system_state_of old) op (system_state_of new)
+failing_survives old new op is s ps around work clean = record { events = []; extends = ap (λ (h : SessionView). h.tree.history) is; each = tt }
 
 -- the tree was changed by a call of its own
-pub tree_changed : (old now : Held) (op : Operation) (new : TreeState) (after : Tree) → old ≡ now → (old.tree.failed ≡ false → IsSound old.tree) → refused_by old op ≡ None → SurvivesAs old.tree new after →
-    after ≡ (effect_of (around_of old.tree) (session_of old) op).1.tree → SurvivesStops (system_state_of now) op (system_state_of (held_with new []))
+pub tree_changed : (old now : SessionView) (op : Operation) (new : TreeState) (after : Tree) → old ≡ now → (old.tree.failed ≡ false → IsSound old.tree) → refused_by old op ≡ None → SurvivesAs old.tree new after →
+    after ≡ (effect_of (surroundings_of old.tree) (session_of old) op).1.tree → SurvivesStops (system_state_of now) op (system_state_of (session_view_with new []))
 tree_changed old now op new after same sound e survives is =
-    subst (λ z. SurvivesStops (system_state_of z) op (system_state_of (held_with new []))) same
+    subst (λ z. SurvivesStops (system_state_of z) op (system_state_of (session_view_with new []))) same
     (survives_at_work old op new sound (λ works writable.
-    subst (SurvivesAs old.tree new) (is ∙ sym (ap (λ r. (reply_or r (session_of old) (effect_of (around_of old.tree) (session_of old) op)).1.tree) (not_refused old op e))) survives))
+    subst (SurvivesAs old.tree new) (is ∙ sym (ap (λ r. (reply_or r (session_of old) (effect_of (surroundings_of old.tree) (session_of old) op)).1.tree) (not_refused old op e))) survives))
 
 -- a call of the tree came last, behind what kept the tree
-pub one_changed : (old now : Held) (op : Operation) (mid : TreeState) (new : TreeState) (after : Tree) → old ≡ now → (old.tree.failed ≡ false → IsSound old.tree) → refused_by old op ≡ None →
+pub one_changed : (old now : SessionView) (op : Operation) (mid : TreeState) (new : TreeState) (after : Tree) → old ≡ now → (old.tree.failed ≡ false → IsSound old.tree) → refused_by old op ≡ None →
     (old.tree.failed ≡ false → old.tree.writable ≡ true → KeepsTree old.tree mid) → (calls : List Event) × (new.history ≡ calls ++ mid.history) → SurvivesAs mid new after →
-    after ≡ (effect_of (around_of old.tree) (session_of old) op).1.tree → SurvivesStops (system_state_of now) op (system_state_of (held_with new []))
+    after ≡ (effect_of (surroundings_of old.tree) (session_of old) op).1.tree → SurvivesStops (system_state_of now) op (system_state_of (session_view_with new []))
 one_changed old now op mid new after same sound e keeps called survives is =
-    subst (λ z. SurvivesStops (system_state_of z) op (system_state_of (held_with new []))) same
+    subst (λ z. SurvivesStops (system_state_of z) op (system_state_of (session_view_with new []))) same
     (survives_at_work old op new sound (λ works writable.
-    subst (λ z. Survives old.tree.disk old.tree.history new.history (tree_view old.tree) z) (is ∙ sym (ap (λ r. (reply_or r (session_of old) (effect_of (around_of old.tree) (session_of old) op)).1.tree) (not_refused old op e)))
+    subst (λ z. Survives old.tree.disk old.tree.history new.history (tree_view old.tree) z) (is ∙ sym (ap (λ r. (reply_or r (session_of old) (effect_of (surroundings_of old.tree) (session_of old) op)).1.tree) (not_refused old op e)))
     (then_changes old.tree mid called.0 new.history after (keeps works writable) called.1 survives)))
 
 -- the same behind reads
-pub asked_changed : (old now : Held) (op : Operation) (mid : TreeState) (new : TreeState) (after : Tree) → old ≡ now → (old.tree.failed ≡ false → IsSound old.tree) → refused_by old op ≡ None →
-    IsAsked old.tree mid → (calls : List Event) × (new.history ≡ calls ++ mid.history) → SurvivesAs mid new after →
-    after ≡ (effect_of (around_of old.tree) (session_of old) op).1.tree → SurvivesStops (system_state_of now) op (system_state_of (held_with new []))
+pub asked_changed : (old now : SessionView) (op : Operation) (mid : TreeState) (new : TreeState) (after : Tree) → old ≡ now → (old.tree.failed ≡ false → IsSound old.tree) → refused_by old op ≡ None →
+    WasOnlyRead old.tree mid → (calls : List Event) × (new.history ≡ calls ++ mid.history) → SurvivesAs mid new after →
+    after ≡ (effect_of (surroundings_of old.tree) (session_of old) op).1.tree → SurvivesStops (system_state_of now) op (system_state_of (session_view_with new []))
 asked_changed old now op mid new after same sound e asked called survives is =
     one_changed old now op mid new after same sound e (λ works writable. kept_by_reads old.tree mid (sound works) writable asked) called survives is
 
 -- the calls of an operation, whether or not it failed
-pub called_by : {A K : Type 0} (op : Operation) (mid new : TreeState) (r : Result A Error) → OnOk r K → (K → IsAppliedOn mid op new) → OnErr r (IsBroken mid new) → (calls : List Event) × (new.history ≡ calls ++ mid.history)
+pub called_by : {A K : Type 0} (op : Operation) (mid new : TreeState) (r : Result A Error) → OnOk r K → (K → IsAppliedOn mid op new) → OnErr r (IsFailedTree mid new) → (calls : List Event) × (new.history ≡ calls ++ mid.history)
 called_by op mid new (Ok x) k carried broken = ((carried k).calls, (carried k).called)
 called_by op mid new (Err e) k carried broken = (broken.calls, broken.called)
 
 -- ---- what the checks did
 
-pub reads_of_ended : (h : Held) (op : Operation) (e : Error) (tree : TreeState) → EndsChecks (is_refusal e) h op e tree → OnlyReads h.tree.disk.blocks h.tree.history tree.history
+pub reads_of_ended : (h : SessionView) (op : Operation) (e : Error) (tree : TreeState) → EndsChecks (is_refusal e) h op e tree → OnlyReads h.tree.disk.blocks h.tree.history tree.history
 reads_of_ended h op e tree k = go (is_refusal e) k
   where
     go : (b : Bool) → EndsChecks b h op e tree → OnlyReads h.tree.disk.blocks h.tree.history tree.history
     go true k = k.0.reads
     go false k = k.0.reads
 
-pub reads_of_checks : {A : Type 0} (h : Held) (op : Operation) (P : A → Type 0) (r : Result A Error) (tree : TreeState) → Checks h op P r tree → OnlyReads h.tree.disk.blocks h.tree.history tree.history
+pub reads_of_checks : {A : Type 0} (h : SessionView) (op : Operation) (P : A → Type 0) (r : Result A Error) (tree : TreeState) → Checks h op P r tree → OnlyReads h.tree.disk.blocks h.tree.history tree.history
 reads_of_checks h op P (Ok x) tree k = k.0.reads
 reads_of_checks h op P (Err e) tree k = reads_of_ended h op e tree k
 

@@ -11,19 +11,19 @@ use Rattle.std.specs.Option.{option_map}
 use Rattle.lfs_model.specs.Disk.{SameGeometry, block_count, inline_limit}
 use Rattle.lfs_model.specs.Session as session
 use Rattle.lfs_model.specs.Writers.{after_sync, after_truncate, after_write, written_into, turns, write_place, zeros_to}
-use Rattle.lfs_model.specs.Session.{ctz_blocks, held_by}
+use Rattle.lfs_model.specs.Session.{ctz_blocks, blocks_held_by}
 use Rattle.lfs_model.specs.Slots.{no_gstate}
 use Rattle.lfs_model.specs.Thread.{gstate_of}
 use Rattle.lfs_model.specs.Tree.{Node, FileNode, DirectoryNode, Path, Tree}
-use Rattle.lfs_tree.specs.OpenContents.{CanStoreAt, IsStoredAt, CanTruncateBeside, CanWriteBeside, IsOver, IsSettleable, IsWrittenBeside, bytes_held, kept_of}
-use Rattle.lfs_tree.specs.TreeState.{TreeState, IsAsked, IsBroken, around_of, tree_view}
+use Rattle.lfs_tree.specs.OpenContents.{CanStoreAt, IsStoredAt, CanTruncateOpenFile, CanWriteOpenFile, IsOver, FitsInlineLimit, WritesUnusedBlocks, bytes_held, kept_of}
+use Rattle.lfs_tree.specs.TreeState.{TreeState, WasOnlyRead, IsFailedTree, surroundings_of, tree_view}
 use Rattle.lfs_writer.specs.Contents.{IsLarge, end_room, NeedsRoom, form_of, truncate_room, write_room}
 use Rattle.lfs_writer.specs.Form as shape_of
 use Rattle.lfs_writer.specs.Form.{Fits, Form, IsWriterForm, form_size, grown, shortened, truncated, written}
 use Rattle.lfs_writer.specs.declared.contents.Contents.{Contents}
-use Rattle.lfs_fs.specs.Changing.{CanChange, CanSave, IsSavedAs, CanTruncate, CanWrite, HasContents, HasRoomFor, IsFormOf, IsWriterAs}
+use Rattle.lfs_fs.specs.WriterChanges.{CanChange, CanSave, IsSavedAs, CanTruncate, CanWrite, HasFileContents, HasRoomFor, IsFormOf, IsWriterAs}
 use Rattle.lfs_fs.specs.FileView.{bytes_of, end_in, held_by_size, held_for, turned_in, writer_view}
-use Rattle.lfs_fs.specs.Held.{IsChanged, IsUnsavedIn, IsWritten}
+use Rattle.lfs_fs.specs.SessionView.{IsChanged, IsUnsavedIn, IsUnderWriter}
 use Rattle.lfs_fs.specs.declared.files.Unsaved.{Unsaved}
 use Rattle.lfs_fs.specs.declared.files.Writer.{Writer}
 use Rattle.lfs_fs.proofs.OpenFiles.{held_one}
@@ -61,7 +61,7 @@ pub after_truncate_is : (w : session.Writer) (size : ℕ) → (size == length w.
 }
 after_truncate_is w size e = rw e refl
 
-pub place_is : (t : TreeState) (w : Writer) (place : ℕ) → IsWritten t w → place ≡ (if w.appends then w.size else w.position) → place ≡ write_place (writer_view t w)
+pub place_is : (t : TreeState) (w : Writer) (place : ℕ) → IsUnderWriter t w → place ≡ (if w.appends then w.size else w.position) → place ≡ write_place (writer_view t w)
 place_is t w place opened e = e ∙ ap (λ n. if w.appends then n else w.position) (sym opened.size)
 
 -- ---- forms
@@ -71,7 +71,7 @@ is_finished (shape_of.InMemory size) = false
 is_finished (shape_of.Finished size flying) = true
 is_finished (shape_of.InHand stop base flying) = false
 
-settle_of : (limit : ℕ) (f : Form) (v : session.Writer) → is_finished f ≡ false → Fits limit f v → IsSettleable limit f
+settle_of : (limit : ℕ) (f : Form) (v : session.Writer) → is_finished f ≡ false → Fits limit f v → FitsInlineLimit limit f
 settle_of limit (shape_of.InMemory size) v e h = h
 settle_of limit (shape_of.Finished size flying) v e h = absurd (cc)
 settle_of limit (shape_of.InHand stop base flying) v e h = h.large
@@ -85,31 +85,31 @@ unfinished_grown begin stop (shape_of.InHand end base flying) = go (end == begin
     go true = refl
     go false = refl
 
-pub settle_written : (limit place count : ℕ) (f : Form) (v : session.Writer) → Fits limit (written limit place count f) v → IsSettleable limit (written limit place count f)
+pub settle_written : (limit place count : ℕ) (f : Form) (v : session.Writer) → Fits limit (written limit place count f) v → FitsInlineLimit limit (written limit place count f)
 settle_written limit place count f v h = settle_of limit (written limit place count f) v (go (nat_le (max (form_size f) (place + count)) limit)) h
   where
     go : (b : Bool) → is_finished (cond b (shape_of.InMemory (max (form_size f) (place + count))) (grown (min place (form_size f)) (place + count) f)) ≡ false
     go true = refl
     go false = unfinished_grown (min place (form_size f)) (place + count) f
 
-pub settle_truncated : (limit size : ℕ) (f : Form) (v : session.Writer) → (size ≡ form_size f → ⊥) → Fits limit (truncated limit size f) v → IsSettleable limit (truncated limit size f)
+pub settle_truncated : (limit size : ℕ) (f : Form) (v : session.Writer) → (size ≡ form_size f → ⊥) → Fits limit (truncated limit size f) v → FitsInlineLimit limit (truncated limit size f)
 settle_truncated limit size f v other h = first (size == form_size f) refl
   where
-    short : (f : Form) → (nat_le size limit) ≡ false → Fits limit (shortened size f) v → IsSettleable limit (shortened size f)
+    short : (f : Form) → (nat_le size limit) ≡ false → Fits limit (shortened size f) v → FitsInlineLimit limit (shortened size f)
     short (shape_of.InMemory old) e h = h
     short (shape_of.Finished old flying) e h = leb-false size limit e
     short (shape_of.InHand stop base flying) e h = leb-false size limit e
 
-    third : (b : Bool) → nat_le size limit ≡ false → Fits limit (cond b (grown (form_size f) size f) (shortened size f)) v → IsSettleable limit (cond b (grown (form_size f) size f) (shortened size f))
+    third : (b : Bool) → nat_le size limit ≡ false → Fits limit (cond b (grown (form_size f) size f) (shortened size f)) v → FitsInlineLimit limit (cond b (grown (form_size f) size f) (shortened size f))
     third true e h = settle_of limit (grown (form_size f) size f) v (unfinished_grown (form_size f) size f) h
     third false e h = short f e h
 
     second : (b : Bool) → nat_le size limit ≡ b → Fits limit (cond b (shape_of.InMemory size) (cond (nat_lt (form_size f) size) (grown (form_size f) size f) (shortened size f))) v →
-        IsSettleable limit (cond b (shape_of.InMemory size) (cond (nat_lt (form_size f) size) (grown (form_size f) size f) (shortened size f)))
+        FitsInlineLimit limit (cond b (shape_of.InMemory size) (cond (nat_lt (form_size f) size) (grown (form_size f) size f) (shortened size f)))
     second true e h = h
     second false e h = third (nat_lt (form_size f) size) e h
 
-    first : (b : Bool) → (size == form_size f) ≡ b → IsSettleable limit (truncated limit size f)
+    first : (b : Bool) → (size == form_size f) ≡ b → FitsInlineLimit limit (truncated limit size f)
     first true e = absurd (other (eqb-true size (form_size f) e))
     first false e = rw e (second (nat_le size limit) refl (rwd h))
       where
@@ -121,7 +121,7 @@ settle_truncated limit size f v other h = first (size == form_size f) refl
 changed_in : (t : TreeState) (w : Writer) (u : Unsaved) → IsUnsavedIn t w w.unsaved → w.unsaved ≡ Some u → IsChanged t w u
 changed_in t w u h e = subst (IsUnsavedIn t w) e h
 
-pub kept_by_form : (t : TreeState) (w : Writer) (shape : Form) → IsWritten t w → IsFormOf t.disk.block_size w.unsaved (length (bytes_of t w.path w.unsaved)) shape → IsWriterForm t.disk.block_size shape (writer_view t w)
+pub kept_by_form : (t : TreeState) (w : Writer) (shape : Form) → IsUnderWriter t w → IsFormOf t.disk.block_size w.unsaved (length (bytes_of t w.path w.unsaved)) shape → IsWriterForm t.disk.block_size shape (writer_view t w)
 kept_by_form t w shape opened h = go w.unsaved refl h
   where
     go : (u : Option Unsaved) → w.unsaved ≡ u → IsFormOf t.disk.block_size u (length (bytes_of t w.path w.unsaved)) shape → IsWriterForm t.disk.block_size shape (writer_view t w)
@@ -134,11 +134,11 @@ kept_by_form t w shape opened h = go w.unsaved refl h
 
 -- ---- the writer after
 
-pub beside_later : (old mid new : TreeState) → IsAsked old mid → IsWrittenBeside mid new → IsWrittenBeside old new
+pub beside_later : (old mid new : TreeState) → WasOnlyRead old mid → WritesUnusedBlocks mid new → WritesUnusedBlocks old new
 beside_later old mid new asked b =
-    again (subst (λ t. IsWrittenBeside t new) asked.same b)
+    again (subst (λ t. WritesUnusedBlocks t new) asked.same b)
   where
-    again : IsWrittenBeside (record old { history = mid.history; cache = mid.cache }) new → IsWrittenBeside old new
+    again : WritesUnusedBlocks (record old { history = mid.history; cache = mid.cache }) new → WritesUnusedBlocks old new
     again k = record {
       works = k.works;
       sound = k.sound;
@@ -153,7 +153,7 @@ beside_later old mid new asked b =
       no_fault = k.no_fault ∙ asked.no_fault;
     }
 
-pub broken_later : (old mid new : TreeState) → IsAsked old mid → IsBroken mid new → IsBroken old new
+pub broken_later : (old mid new : TreeState) → WasOnlyRead old mid → IsFailedTree mid new → IsFailedTree old new
 broken_later old mid new asked b = record {
   failed = b.failed;
   geometry = subst (λ (t : TreeState). SameGeometry t.disk new.disk) asked.same b.geometry;
@@ -161,13 +161,13 @@ broken_later old mid new asked b = record {
   called = b.called ∙ ap (λ z. b.calls ++ z) asked.reads.extends ∙ sym (append_assoc b.calls asked.reads.events old.history);
 }
 
-pub broken_after : {A : Type 0} (old mid new : TreeState) (r : Result A Error) → IsAsked old mid → IsBroken mid new → OnErr r (IsBroken old new)
+pub broken_after : {A : Type 0} (old mid new : TreeState) (r : Result A Error) → WasOnlyRead old mid → IsFailedTree mid new → OnErr r (IsFailedTree old new)
 broken_after old mid new (Ok x) asked b = tt
 broken_after old mid new (Err e) asked b = broken_later old mid new asked b
 
-pub as_writer : (old new : TreeState) (path : Path) (position size : ℕ) (appends turned : Bool) (end : Option ℕ) (c : Contents) (v : session.Writer) → IsWrittenBeside old new → old.writable ≡ true →
+pub as_writer : (old new : TreeState) (path : Path) (position size : ℕ) (appends turned : Bool) (end : Option ℕ) (c : Contents) (v : session.Writer) → WritesUnusedBlocks old new → old.writable ≡ true →
     gstate_of old.pairs ≡ no_gstate → is_file (tree_view old path) ≡ true → length (bytes_held (kept_of new) c) ≡ size → IsOver new path c → IsWriterForm old.disk.block_size (form_of c) v →
-    IsSettleable (inline_limit old.disk.block_size) (form_of c) → HasRoomFor old v →
+    FitsInlineLimit (inline_limit old.disk.block_size) (form_of c) → HasRoomFor old v →
     writer_view new (record { path = path; position = position; size = size; appends = appends; unsaved = Some (record { contents = c; has_turned = turned; last_end = end }) }) ≡ v →
     IsWriterAs new v (record { path = path; position = position; size = size; appends = appends; unsaved = Some (record { contents = c; has_turned = turned; last_end = end }) })
 as_writer old new path position size appends turned end c v b writable settled there long over kept settle room seen = record {
@@ -180,9 +180,9 @@ as_writer old new path position size appends turned end c v b writable settled t
     changed = record {
       over = over;
       kept = subst (λ z. IsWriterForm new.disk.block_size (form_of c) z) (sym seen) (subst (λ a. IsWriterForm a.block_size (form_of c) v) (sym b.around) kept);
-      form = subst (λ a. IsSettleable (inline_limit a.block_size) (form_of c)) (sym b.around) settle;
+      form = subst (λ a. FitsInlineLimit (inline_limit a.block_size) (form_of c)) (sym b.around) settle;
       room = subst (λ a. length a.used + held_for a.block_size turned size ≤ a.block_count) (sym b.around)
-          (subst (λ n. length (around_of old).used + n ≤ block_count old.disk) (ap (held_by old.disk.block_size) (sym seen) ∙ sym (held_one old.disk.block_size new w long)) room);
+          (subst (λ n. length (surroundings_of old).used + n ≤ block_count old.disk) (ap (blocks_held_by old.disk.block_size) (sym seen) ∙ sym (held_one old.disk.block_size new w long)) room);
     };
   };
   changed = refl;
@@ -192,10 +192,10 @@ as_writer old new path position size appends turned end c v b writable settled t
     w = record { path = path; position = position; size = size; appends = appends; unsaved = Some (record { contents = c; has_turned = turned; last_end = end }) }
 
 -- the one that wrote bytes
-pub wrote : (old new : TreeState) (w : Writer) (bytes : List ℕ) (place end size : ℕ) (turned : Bool) (c : Contents) → IsWrittenBeside old new → IsWritten old w → 1 ≤ length bytes → HasRoomFor old (after_write (writer_view old w) bytes) →
+pub wrote : (old new : TreeState) (w : Writer) (bytes : List ℕ) (place end size : ℕ) (turned : Bool) (c : Contents) → WritesUnusedBlocks old new → IsUnderWriter old w → 1 ≤ length bytes → HasRoomFor old (after_write (writer_view old w) bytes) →
     place ≡ write_place (writer_view old w) → end ≡ place + length bytes → size ≡ max w.size end → turned ≡ (turned_in w.unsaved || turns (end_in w.unsaved) (min place w.size)) →
     IsOver new w.path c → bytes_held (kept_of new) c ≡ written_into (bytes_of old w.path w.unsaved) place bytes → IsWriterForm old.disk.block_size (form_of c) (after_write (writer_view old w) bytes) →
-    IsSettleable (inline_limit old.disk.block_size) (form_of c) →
+    FitsInlineLimit (inline_limit old.disk.block_size) (form_of c) →
     IsWriterAs new (after_write (writer_view old w) bytes) (record { path = w.path; position = end; size = size; appends = w.appends; unsaved = Some (record { contents = c; has_turned = turned; last_end = Some end }) })
 wrote old new w bytes place end size turned c b opened some room at stop long turns_is over are kept settle =
     as_writer old new w.path end size w.appends turned (Some end) c (after_write (writer_view old w) bytes) b opened.writable opened.settled opened.there
@@ -217,10 +217,10 @@ wrote old new w bytes place end size turned c b opened some room at stop long tu
         ∙ sym (after_write_is (writer_view old w) bytes some)
 
 -- the one whose contents have another size
-pub cut : (old new : TreeState) (w : Writer) (size : ℕ) (turned : Bool) (end : Option ℕ) (c : Contents) → IsWrittenBeside old new → IsWritten old w → (size == length (bytes_of old w.path w.unsaved)) ≡ false →
+pub cut : (old new : TreeState) (w : Writer) (size : ℕ) (turned : Bool) (end : Option ℕ) (c : Contents) → WritesUnusedBlocks old new → IsUnderWriter old w → (size == length (bytes_of old w.path w.unsaved)) ≡ false →
     HasRoomFor old (after_truncate (writer_view old w) size) → turned ≡ (turned_in w.unsaved || is_some (end_in w.unsaved)) → end ≡ (if nat_lt w.size size then Some size else end_in w.unsaved) →
     IsOver new w.path c → bytes_held (kept_of new) c ≡ take size (zeros_to size (bytes_of old w.path w.unsaved)) → IsWriterForm old.disk.block_size (form_of c) (after_truncate (writer_view old w) size) →
-    IsSettleable (inline_limit old.disk.block_size) (form_of c) →
+    FitsInlineLimit (inline_limit old.disk.block_size) (form_of c) →
     IsWriterAs new (after_truncate (writer_view old w) size) (record { path = w.path; position = w.position; size = size; appends = w.appends; unsaved = Some (record { contents = c; has_turned = turned; last_end = end }) })
 cut old new w size turned end c b opened other room turns_is end_is over are kept settle =
     as_writer old new w.path w.position size w.appends turned end c (after_truncate (writer_view old w) size) b opened.writable opened.settled opened.there
@@ -244,7 +244,7 @@ abbrev pub LargeLaw : Type 0
 LargeLaw = (block_size : ℕ) (shape : Form) (w : session.Writer) → IsWriterForm block_size shape w → IsLarge (inline_limit block_size) shape
 
 abbrev pub WriteLaw : Type 0
-WriteLaw = (block_size : ℕ) (shape : Form) (w : session.Writer) (byte : ℕ) (bytes : List ℕ) (used all : ℕ) → IsWriterForm block_size shape w → used + held_by block_size (after_write w (byte ∷ bytes)) ≤ all →
+WriteLaw = (block_size : ℕ) (shape : Form) (w : session.Writer) (byte : ℕ) (bytes : List ℕ) (used all : ℕ) → IsWriterForm block_size shape w → used + blocks_held_by block_size (after_write w (byte ∷ bytes)) ≤ all →
     inline_limit block_size < max (form_size shape) (write_place w + length (byte ∷ bytes)) → used + write_room block_size (write_place w) (length (byte ∷ bytes)) shape ≤ all
 
 abbrev pub WrittenLaw : Type 0
@@ -252,13 +252,13 @@ WrittenLaw = (block_size : ℕ) (shape : Form) (w : session.Writer) (byte : ℕ)
     IsWriterForm block_size (written (inline_limit block_size) (write_place w) (length (byte ∷ bytes)) shape) (after_write w (byte ∷ bytes))
 
 abbrev pub TruncateLaw : Type 0
-TruncateLaw = (block_size : ℕ) (shape : Form) (w : session.Writer) (size used all : ℕ) → IsWriterForm block_size shape w → used + held_by block_size w ≤ all → used + held_by block_size (after_truncate w size) ≤ all →
+TruncateLaw = (block_size : ℕ) (shape : Form) (w : session.Writer) (size used all : ℕ) → IsWriterForm block_size shape w → used + blocks_held_by block_size w ≤ all → used + blocks_held_by block_size (after_truncate w size) ≤ all →
     NeedsRoom (inline_limit block_size) size shape → used + truncate_room block_size size shape ≤ all
 
 abbrev pub TruncatedLaw : Type 0
 TruncatedLaw = (block_size : ℕ) (shape : Form) (w : session.Writer) (size : ℕ) → IsWriterForm block_size shape w → IsWriterForm block_size (truncated (inline_limit block_size) size shape) (after_truncate w size)
 
-room_to_write : WriteLaw → (block_size : ℕ) (shape : Form) (w : session.Writer) (bytes : List ℕ) (used all : ℕ) → 1 ≤ length bytes → IsWriterForm block_size shape w → used + held_by block_size (after_write w bytes) ≤ all →
+room_to_write : WriteLaw → (block_size : ℕ) (shape : Form) (w : session.Writer) (bytes : List ℕ) (used all : ℕ) → 1 ≤ length bytes → IsWriterForm block_size shape w → used + blocks_held_by block_size (after_write w bytes) ≤ all →
     inline_limit block_size < max (form_size shape) (write_place w + length bytes) → used + write_room block_size (write_place w) (length bytes) shape ≤ all
 room_to_write law block_size shape w [] used all some kept room large = absurd (omega (arith, some))
 room_to_write law block_size shape w (b ∷ bytes) used all some kept room large = law block_size shape w b bytes used all kept room large
@@ -268,17 +268,17 @@ kept_written : WrittenLaw → (block_size : ℕ) (shape : Form) (w : session.Wri
 kept_written law block_size shape w [] some kept = absurd (omega (arith, some))
 kept_written law block_size shape w (b ∷ bytes) some kept = law block_size shape w b bytes kept
 
-pub can_write : (old mid : TreeState) (w : Writer) (bytes : List ℕ) (place : ℕ) (c : Contents) (path : Path) → CanWrite old w bytes → IsAsked old mid → place ≡ (if w.appends then w.size else w.position) → IsOver mid path c → path ≡ w.path →
-    IsFormOf old.disk.block_size w.unsaved (length (bytes_of old path w.unsaved)) (form_of c) → LargeLaw → WriteLaw → CanWriteBeside mid c place (length bytes)
+pub can_write : (old mid : TreeState) (w : Writer) (bytes : List ℕ) (place : ℕ) (c : Contents) (path : Path) → CanWrite old w bytes → WasOnlyRead old mid → place ≡ (if w.appends then w.size else w.position) → IsOver mid path c → path ≡ w.path →
+    IsFormOf old.disk.block_size w.unsaved (length (bytes_of old path w.unsaved)) (form_of c) → LargeLaw → WriteLaw → CanWriteOpenFile mid c place (length bytes)
 can_write old mid w bytes place c path can asked at over same shape large write =
-    subst (λ t. CanWriteBeside t c place (length bytes)) (sym asked.same)
-    (subst (λ p. CanWriteBeside (record old { history = mid.history; cache = mid.cache }) c p (length bytes)) (sym is) (record {
+    subst (λ t. CanWriteOpenFile t c place (length bytes)) (sym asked.same)
+    (subst (λ p. CanWriteOpenFile (record old { history = mid.history; cache = mid.cache }) c p (length bytes)) (sym is) (record {
       works = can.can.works;
       stands = (subst (λ t. IsOver t path c) asked.same over).stands;
       large = large old.disk.block_size (form_of c) (writer_view old w) kept;
       some = can.some;
       small = can.small;
-      room = room_to_write write old.disk.block_size (form_of c) (writer_view old w) bytes (length (around_of old).used) (block_count old.disk) can.some kept can.room;
+      room = room_to_write write old.disk.block_size (form_of c) (writer_view old w) bytes (length (surroundings_of old).used) (block_count old.disk) can.some kept can.room;
     }))
   where
     is : place ≡ write_place (writer_view old w)
@@ -287,9 +287,9 @@ can_write old mid w bytes place c path can asked at over same shape large write 
     kept : IsWriterForm old.disk.block_size (form_of c) (writer_view old w)
     kept = kept_by_form old w (form_of c) can.can.written (subst (λ p. IsFormOf old.disk.block_size w.unsaved (length (bytes_of old p w.unsaved)) (form_of c)) same shape)
 
-pub has_written : (old mid new : TreeState) (w : Writer) (bytes : List ℕ) (place begin size : ℕ) (turned : Bool) (c d : Contents) (path : Path) → CanWrite old w bytes → IsAsked old mid →
+pub has_written : (old mid new : TreeState) (w : Writer) (bytes : List ℕ) (place begin size : ℕ) (turned : Bool) (c d : Contents) (path : Path) → CanWrite old w bytes → WasOnlyRead old mid →
     place ≡ (if w.appends then w.size else w.position) → IsOver mid path c → path ≡ w.path → IsFormOf old.disk.block_size w.unsaved (length (bytes_of old path w.unsaved)) (form_of c) →
-    bytes_held (kept_of mid) c ≡ bytes_of old path w.unsaved → WrittenLaw → IsWrittenBeside mid new → ((p : Path) → IsOver mid p c → IsOver new p d) →
+    bytes_held (kept_of mid) c ≡ bytes_of old path w.unsaved → WrittenLaw → WritesUnusedBlocks mid new → ((p : Path) → IsOver mid p c → IsOver new p d) →
     bytes_held (kept_of new) d ≡ written_into (bytes_held (kept_of mid) c) place bytes → form_of d ≡ written (inline_limit mid.disk.block_size) place (length bytes) (form_of c) →
     begin ≡ min place w.size → turned ≡ (turned_in w.unsaved || turns (end_in w.unsaved) begin) → size ≡ max w.size (place + length bytes) →
     IsWriterAs new (after_write (writer_view old w) bytes) (record { path = w.path; position = place + length bytes; size = size; appends = w.appends; unsaved = Some (record { contents = d; has_turned = turned; last_end = Some (place + length bytes) }) })
@@ -298,7 +298,7 @@ has_written old mid new w bytes place begin size turned c d path can asked at ov
     (turned_is ∙ ap (λ b. turned_in w.unsaved || turns (end_in w.unsaved) b) begin_is)
     (subst (λ p. IsOver new p d) same (overs path over))
     (wrote_is ∙ ap (λ xs. written_into xs place bytes) (had ∙ ap (λ p. bytes_of old p w.unsaved) same))
-    kept (subst (IsSettleable (inline_limit old.disk.block_size)) (sym form_at)
+    kept (subst (FitsInlineLimit (inline_limit old.disk.block_size)) (sym form_at)
     (settle_written (inline_limit old.disk.block_size) (write_place (writer_view old w)) (length bytes) (form_of c) (after_write (writer_view old w) bytes) written_kept.fits))
   where
     is : place ≡ write_place (writer_view old w)
@@ -317,31 +317,31 @@ has_written old mid new w bytes place begin size turned c d path can asked at ov
     kept = subst (λ f. IsWriterForm old.disk.block_size f (after_write (writer_view old w) bytes)) (sym form_at) written_kept
 
 -- what the writer holds, there is room for
-held_room : (t : TreeState) (w : Writer) → CanChange t w → length (around_of t).used ≤ block_count t.disk → length (around_of t).used + held_by t.disk.block_size (writer_view t w) ≤ block_count t.disk
-held_room t w can few = subst (λ n. length (around_of t).used + n ≤ block_count t.disk) (held_one t.disk.block_size t w can.written.size) (go w.unsaved refl)
+held_room : (t : TreeState) (w : Writer) → CanChange t w → length (surroundings_of t).used ≤ block_count t.disk → length (surroundings_of t).used + blocks_held_by t.disk.block_size (writer_view t w) ≤ block_count t.disk
+held_room t w can few = subst (λ n. length (surroundings_of t).used + n ≤ block_count t.disk) (held_one t.disk.block_size t w can.written.size) (go w.unsaved refl)
   where
-    go : (u : Option Unsaved) → w.unsaved ≡ u → length (around_of t).used + held_by_size t.disk.block_size w ≤ block_count t.disk
+    go : (u : Option Unsaved) → w.unsaved ≡ u → length (surroundings_of t).used + held_by_size t.disk.block_size w ≤ block_count t.disk
     go None e = rw e (omega (arith, few))
     go (Some u) e = rw e (changed_in t w u can.written.changed e).room
 
-pub can_truncate : (old mid : TreeState) (w : Writer) (size : ℕ) (c : Contents) (path : Path) → CanTruncate old w size → IsAsked old mid → IsOver mid path c → path ≡ w.path →
-    IsFormOf old.disk.block_size w.unsaved (length (bytes_of old path w.unsaved)) (form_of c) → LargeLaw → TruncateLaw → CanTruncateBeside mid c size
+pub can_truncate : (old mid : TreeState) (w : Writer) (size : ℕ) (c : Contents) (path : Path) → CanTruncate old w size → WasOnlyRead old mid → IsOver mid path c → path ≡ w.path →
+    IsFormOf old.disk.block_size w.unsaved (length (bytes_of old path w.unsaved)) (form_of c) → LargeLaw → TruncateLaw → CanTruncateOpenFile mid c size
 can_truncate old mid w size c path can asked over same shape large truncate =
-    subst (λ t. CanTruncateBeside t c size) (sym asked.same) (record {
+    subst (λ t. CanTruncateOpenFile t c size) (sym asked.same) (record {
       works = can.can.works;
       stands = (subst (λ t. IsOver t path c) asked.same over).stands;
       large = large old.disk.block_size (form_of c) (writer_view old w) kept;
       small = can.small;
-      room = truncate old.disk.block_size (form_of c) (writer_view old w) size (length (around_of old).used) (block_count old.disk) kept
+      room = truncate old.disk.block_size (form_of c) (writer_view old w) size (length (surroundings_of old).used) (block_count old.disk) kept
           (held_room old w can.can (let r = can.room in omega (arith, r))) can.room;
     })
   where
     kept : IsWriterForm old.disk.block_size (form_of c) (writer_view old w)
     kept = kept_by_form old w (form_of c) can.can.written (subst (λ p. IsFormOf old.disk.block_size w.unsaved (length (bytes_of old p w.unsaved)) (form_of c)) same shape)
 
-pub has_truncated : (old mid new : TreeState) (w : Writer) (size : ℕ) (turned : Bool) (end : Option ℕ) (c d : Contents) (path : Path) → CanTruncate old w size → IsAsked old mid →
+pub has_truncated : (old mid new : TreeState) (w : Writer) (size : ℕ) (turned : Bool) (end : Option ℕ) (c d : Contents) (path : Path) → CanTruncate old w size → WasOnlyRead old mid →
     IsOver mid path c → path ≡ w.path → IsFormOf old.disk.block_size w.unsaved (length (bytes_of old path w.unsaved)) (form_of c) →
-    bytes_held (kept_of mid) c ≡ bytes_of old path w.unsaved → TruncatedLaw → IsWrittenBeside mid new → ((p : Path) → IsOver mid p c → IsOver new p d) →
+    bytes_held (kept_of mid) c ≡ bytes_of old path w.unsaved → TruncatedLaw → WritesUnusedBlocks mid new → ((p : Path) → IsOver mid p c → IsOver new p d) →
     bytes_held (kept_of new) d ≡ take size (zeros_to size (bytes_held (kept_of mid) c)) → form_of d ≡ truncated (inline_limit mid.disk.block_size) size (form_of c) →
     turned ≡ (turned_in w.unsaved || is_some (end_in w.unsaved)) → end ≡ (if nat_lt w.size size then Some size else end_in w.unsaved) →
     IsWriterAs new (after_truncate (writer_view old w) size) (record { path = w.path; position = w.position; size = size; appends = w.appends; unsaved = Some (record { contents = d; has_turned = turned; last_end = end }) })
@@ -351,7 +351,7 @@ has_truncated old mid new w size turned end c d path can asked over same shape h
     (subst (λ p. IsOver new p d) same (overs path over))
     (cut_is ∙ ap (λ xs. take size (zeros_to size xs)) (had ∙ ap (λ p. bytes_of old p w.unsaved) same))
     (subst (λ f. IsWriterForm old.disk.block_size f (after_truncate (writer_view old w) size)) (sym form_at) truncated_kept)
-    (subst (IsSettleable (inline_limit old.disk.block_size)) (sym form_at)
+    (subst (FitsInlineLimit (inline_limit old.disk.block_size)) (sym form_at)
     (settle_truncated (inline_limit old.disk.block_size) size (form_of c) (after_truncate (writer_view old w) size) (λ e. can.other (e ∙ before_kept.size ∙ can.can.written.size)) truncated_kept.fits))
   where
     before_kept : IsWriterForm old.disk.block_size (form_of c) (writer_view old w)
@@ -366,7 +366,7 @@ has_truncated old mid new w size turned end c d path can asked over same shape h
 -- ---- saving
 
 abbrev pub EndLaw : Type 0
-EndLaw = (block_size : ℕ) (shape : Form) (w : session.Writer) (used all : ℕ) → IsWriterForm block_size shape w → used + held_by block_size w ≤ all → used + end_room block_size shape ≤ all
+EndLaw = (block_size : ℕ) (shape : Form) (w : session.Writer) (used all : ℕ) → IsWriterForm block_size shape w → used + blocks_held_by block_size w ≤ all → used + end_room block_size shape ≤ all
 
 room_to_store : (used all blocks : ℕ) (turned : Bool) → used + (2 + cond turned 2 1 * blocks) ≤ all → used + blocks + 2 ≤ all
 room_to_store used all blocks true h = omega (arith, h)
@@ -380,10 +380,10 @@ can_store t w u path can is same law =
       settled = can.written.settled;
       over = changed.over;
       form = changed.form;
-      end = law t.disk.block_size (form_of u.contents) (writer_view t w) (length (around_of t).used) (block_count t.disk) changed.kept
-          (subst (λ n. length (around_of t).used + n ≤ block_count t.disk) (held_one t.disk.block_size t w can.written.size) held);
-      room = subst (λ n. length (around_of t).used + ctz_blocks t.disk.block_size n + 2 ≤ block_count t.disk) (sym long)
-          (room_to_store (length (around_of t).used) (block_count t.disk) (ctz_blocks t.disk.block_size w.size) u.has_turned changed.room);
+      end = law t.disk.block_size (form_of u.contents) (writer_view t w) (length (surroundings_of t).used) (block_count t.disk) changed.kept
+          (subst (λ n. length (surroundings_of t).used + n ≤ block_count t.disk) (held_one t.disk.block_size t w can.written.size) held);
+      room = subst (λ n. length (surroundings_of t).used + ctz_blocks t.disk.block_size n + 2 ≤ block_count t.disk) (sym long)
+          (room_to_store (length (surroundings_of t).used) (block_count t.disk) (ctz_blocks t.disk.block_size w.size) u.has_turned changed.room);
     })
   where
     changed : IsChanged t w u
@@ -392,7 +392,7 @@ can_store t w u path can is same law =
     long : length (bytes_held (kept_of t) u.contents) ≡ w.size
     long = sym (ap (λ z. length (bytes_of t w.path z)) is) ∙ can.written.size
 
-    held : length (around_of t).used + held_by_size t.disk.block_size w ≤ block_count t.disk
+    held : length (surroundings_of t).used + held_by_size t.disk.block_size w ≤ block_count t.disk
     held = rw is changed.room
 
 stored_node : (n : Option Node) (bytes : List ℕ) → is_file n ≡ true → (is_file (option_map (with_bytes bytes) n) ≡ true) × (bytes_at (option_map (with_bytes bytes) n) ≡ bytes)

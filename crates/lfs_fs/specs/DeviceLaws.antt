@@ -4,7 +4,7 @@ use Rattle.lfs_model.specs.History.{IsNewest}
 use Rattle.lfs_model.specs.Conformance.{AllConform}
 use Rattle.lfs_tree.specs.TreeState.{TreeState}
 use Rattle.lfs_fs.specs.FileView.{OpenFiles}
-use Rattle.lfs_fs.specs.Held.{IsReady}
+use Rattle.lfs_fs.specs.SessionView.{IsReady}
 
 -- The newest call left the disk as it is, and each call that didn't fail conforms.
 pub record MeetsDeviceLaws (t : TreeState) : Type 0 where

@@ -66,8 +66,8 @@ files_view t files = map (option_map (file_over t.disk (tree_view t))) files
 
 -- ---- as they are kept
 
-abbrev pub entry_of : OpenFiles → ℕ → Option OpenFile
-entry_of files fd = option_flatten (slice_get files fd)
+abbrev pub open_file_at : OpenFiles → ℕ → Option OpenFile
+open_file_at files fd = option_flatten (slice_get files fd)
 
 abbrev pub reader_in : Option OpenFile → Option Reader
 reader_in None = None
@@ -79,19 +79,19 @@ writer_in None = None
 writer_in (Some (file.Reading r)) = None
 writer_in (Some (file.Writing w)) = Some w
 
-abbrev pub before : {A : Type 0} → Option A → List A → List A
-before None rest = rest
-before (Some x) rest = x ∷ rest
+abbrev pub with_first : {A : Type 0} → Option A → List A → List A
+with_first None rest = rest
+with_first (Some x) rest = x ∷ rest
 
-abbrev pub picked : {A : Type 0} → (Option OpenFile → Option A) → OpenFiles → List A
-picked kind [] = []
-picked kind (f ∷ files) = before (kind f) (picked kind files)
+abbrev pub entries_picked : {A : Type 0} → (Option OpenFile → Option A) → OpenFiles → List A
+entries_picked kind [] = []
+entries_picked kind (f ∷ files) = with_first (kind f) (entries_picked kind files)
 
 abbrev pub readers_in : OpenFiles → List Reader
-readers_in files = picked reader_in files
+readers_in files = entries_picked reader_in files
 
 abbrev pub writers_in : OpenFiles → List Writer
-writers_in files = picked writer_in files
+writers_in files = entries_picked writer_in files
 
 -- the paths of the writers
 abbrev pub written_paths : OpenFiles → List Path

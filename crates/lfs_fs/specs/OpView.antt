@@ -46,9 +46,9 @@ reply_view (reply.Yes is) = ops.Yes is
 reply_view (reply.Refused error) = ops.Refused (refusal_in error)
 
 -- a reply that refuses names an error that is a refusal
-abbrev pub IsNamed : Reply → Type 0
-IsNamed (reply.Refused error) = is_refusal error ≡ true
-IsNamed _ = Unit {0}
+abbrev pub NamesRefusal : Reply → Type 0
+NamesRefusal (reply.Refused error) = is_refusal error ≡ true
+NamesRefusal _ = Unit {0}
 
 -- the reply, or the error in its place
 abbrev pub performed : Result Reply Error → Result ops.Reply Error

@@ -7,11 +7,11 @@ use Rattle.lfs_model.specs.Tree.{Path}
 use Rattle.lfs_fs.specs.declared.rename_checks.Renaming.{Renaming}
 
 -- the second bytes begin with the first, and end there or continue with a slash
-abbrev pub goes_on : List ℕ → List ℕ → Bool
-goes_on [] [] = true
-goes_on [] (b ∷ ys) = b == slash
-goes_on (a ∷ xs) [] = false
-goes_on (a ∷ xs) (b ∷ ys) = (a == b) && goes_on xs ys
+abbrev pub is_path_prefix : List ℕ → List ℕ → Bool
+is_path_prefix [] [] = true
+is_path_prefix [] (b ∷ ys) = b == slash
+is_path_prefix (a ∷ xs) [] = false
+is_path_prefix (a ∷ xs) (b ∷ ys) = (a == b) && is_path_prefix xs ys
 
 -- an open file at that path prevents a rename from the one path to the other
 abbrev pub is_in_the_way : Path → Path → Path → Bool

@@ -11,6 +11,6 @@ reply_in reply (Ok x) = Ok (reply x)
 reply_in reply (Err e) = if is_refusal e then Ok (ops.Refused (refusal_in e)) else Err e
 
 -- the refusal, or else the value
-abbrev pub passed_with : {A : Type 0} → Option Refusal → A → Result A Error
-passed_with (Some refusal) x = Err (error_for refusal)
-passed_with None x = Ok x
+abbrev pub value_unless_refused : {A : Type 0} → Option Refusal → A → Result A Error
+value_unless_refused (Some refusal) x = Err (error_for refusal)
+value_unless_refused None x = Ok x

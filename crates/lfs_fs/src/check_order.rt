@@ -2,7 +2,7 @@
 
 ghost use Rattle.std.specs.Prelude.{◌≡◌, ◌&&◌};
 ghost use Rattle.lfs_model.specs.Session.{first_of};
-ghost use Rattle.lfs_fs.specs.Replies.{passed_with};
+ghost use Rattle.lfs_fs.specs.Replies.{value_unless_refused};
 
 use lfs_device::Error;
 use lfs_lookup::Refusal;
@@ -20,8 +20,8 @@ fn first_of(checks: &[Option<Refusal>]) -> Option<Refusal>
 }
 
 // Returns the value, unless a check fails.
-pub(crate) fn passed<T: Drop>(checks: &[Option<Refusal>], value: T) -> Result<T, Error>
-    ensures { result ≡ passed_with (first_of checks.now) value }
+pub(crate) fn unless_refused<T: Drop>(checks: &[Option<Refusal>], value: T) -> Result<T, Error>
+    ensures { result ≡ value_unless_refused (first_of checks.now) value }
 {
     match first_of(checks) {
         Some(refusal) => Err(refusal.error()),

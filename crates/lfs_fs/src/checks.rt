@@ -4,21 +4,21 @@ ghost use Rattle.std.specs.Prelude.{if◌then◌else◌, nat_lt, ◌+◌, ◌≡
 ghost use Rattle.lfs_model.specs.Operations as ops;
 ghost use Rattle.lfs_model.specs.Session.{is_overcharged};
 ghost use Rattle.lfs_model.specs.Disk.{block_count};
-ghost use Rattle.lfs_fs.specs.FileView.{entry_of, files_view, held_by_all, held_for, writer_in};
+ghost use Rattle.lfs_fs.specs.FileView.{open_file_at, files_view, held_by_all, held_for, writer_in};
 ghost use Rattle.lfs_model.specs.Refusals.{as_path};
-ghost use Rattle.lfs_model.specs.Effects.{items_in, size_of};
+ghost use Rattle.lfs_model.specs.Effects.{items_in, node_size};
 ghost use Rattle.lfs_fs.specs.FlagsView.{flags_view};
 ghost use Rattle.lfs_model.specs.TreeEdits.{attributes_of};
 ghost use Rattle.lfs_model.specs.Content.{attribute_of};
 ghost use Rattle.lfs_fs.specs.EntryPaths.{entry_path};
-ghost use Rattle.lfs_fs.specs.Held.{Checks, ChecksKept, IsOpening, IsReadableAs, IsReady, held_of};
-ghost use Rattle.lfs_fs.specs.LookUps.{AddsFew, AddsNone, LeavesCachedBeneath};
+ghost use Rattle.lfs_fs.specs.SessionView.{Checks, ChecksWithoutReads, IsOpening, IsReadableAs, IsReady, session_view_of};
+ghost use Rattle.lfs_fs.specs.LookUps.{AddsFewReads, AddsNoReads, LeavesCachedBeneath};
 ghost use Rattle.lfs_lookup.specs.Finds.{list_item_view, stat_view};
-ghost use Rattle.lfs_tree.specs.TreeState.{around_of, tree_view};
+ghost use Rattle.lfs_tree.specs.TreeState.{surroundings_of, tree_view};
 ghost use Rattle.lfs_model.specs.Slots.{Attributes, attributes_size};
-ghost use Rattle.lfs_fs.specs.Replacing.{CanReplace, replaced_size};
+ghost use Rattle.lfs_fs.specs.Replacements.{CanReplace, replaced_size};
 
-use crate::check_order::{both, passed};
+use crate::check_order::{both, unless_refused};
 use crate::files::{Files, held_for};
 use crate::flags::OpenFlags;
 use bitflags::Flags;
@@ -31,7 +31,7 @@ use std::alloc::Global;
 // Returns whether a new entry with a name of that length takes too much of its pair.
 fn is_overcharged<D: BlockDevice>(tree: &Tree<D>, name_len: usize) -> bool
     requires { name_len < 2 ^ 63 }
-    ensures { (name : List ℕ) → length name ≡ name_len → result ≡ is_overcharged (around_of tree.now) name [] }
+    ensures { (name : List ℕ) → length name ≡ name_len → result ≡ is_overcharged (surroundings_of tree.now) name [] }
 {
     is_overcharged_with(tree, name_len, 0)
 }
@@ -44,7 +44,7 @@ pub(crate) fn is_overcharged_with<D: BlockDevice>(
     attributes_len: usize,
 ) -> bool
     requires { name_len < 2 ^ 63 }
-    ensures { (name : List ℕ) (attributes : Attributes) → length name ≡ name_len → attributes_size attributes ≡ attributes_len → result ≡ is_overcharged (around_of tree.now) name attributes }
+    ensures { (name : List ℕ) (attributes : Attributes) → length name ≡ name_len → attributes_size attributes ≡ attributes_len → result ≡ is_overcharged (surroundings_of tree.now) name attributes }
 {
     let geometry = tree.geometry();
     let entry = 4 + name_len as u64 + (4 + u64::from(geometry.inline_limit()));
@@ -55,7 +55,7 @@ pub(crate) fn is_overcharged_with<D: BlockDevice>(
 pub(crate) fn lacks<D: BlockDevice>(tree: &Tree<D>, files: &Files, need: u32) -> bool
     requires works { tree.now.failed ≡ false }
     requires small { need < 16 }
-    ensures { result ≡ nat_lt (block_count tree.now.disk) (length (around_of tree.now).used + held_by_all tree.now.disk.block_size files.now + need) }
+    ensures { result ≡ nat_lt (block_count tree.now.disk) (length (surroundings_of tree.now).used + held_by_all tree.now.disk.block_size files.now + need) }
 {
     let held = files.held(tree.geometry());
     (tree.geometry().block_count as u64) < tree.used_count() as u64 + held + need as u64
@@ -68,9 +68,9 @@ pub fn check_stat<D: BlockDevice>(
     files: &Files,
     bytes: &[u8],
 ) -> Result<Stat, Error>
-    ensures checks { Checks (held_of tree.old files.now) (ops.Stat bytes.now) (λ stat. size_of (tree_view tree.old (as_path bytes.now)) ≡ stat_view stat) result tree.new }
-    ensures few { AddsFew tree.old (ops.Stat bytes.now) tree.new }
-    ensures kept { AddsNone tree.old (ops.Stat bytes.now) tree.new }
+    ensures checks { Checks (session_view_of tree.old files.now) (ops.Stat bytes.now) (λ stat. node_size (tree_view tree.old (as_path bytes.now)) ≡ stat_view stat) result tree.new }
+    ensures few { AddsFewReads tree.old (ops.Stat bytes.now) tree.new }
+    ensures kept { AddsNoReads tree.old (ops.Stat bytes.now) tree.new }
     ensures hand { LeavesCachedBeneath tree.old (ops.Stat bytes.now) result tree.new }
 {
     if tree.has_failed() {
@@ -84,7 +84,7 @@ pub fn check_stat<D: BlockDevice>(
         found.fault,
         refuse_if(found.node.is_nothing(), Error::NoEnt),
     ];
-    passed(&checks, Stat::from_size(found.node.size()))
+    unless_refused(&checks, Stat::from_size(found.node.size()))
 }
 
 /// Returns the path at which a directory may be made, where no check refuses it.
@@ -95,7 +95,7 @@ pub fn check_mkdir<'a, D: BlockDevice>(
     bytes: &'a [u8],
 ) -> Result<Path<'a>, Error>
     requires { tree.old.failed ≡ false → IsReady tree.old files.now }
-    ensures { Checks (held_of tree.old files.now) (ops.Mkdir bytes.now) (λ path. path ≡ as_path bytes.now) result tree.new }
+    ensures { Checks (session_view_of tree.old files.now) (ops.Mkdir bytes.now) (λ path. path ≡ as_path bytes.now) result tree.new }
 {
     if tree.has_failed() {
         return Err(Error::Failed);
@@ -117,7 +117,7 @@ pub fn check_mkdir<'a, D: BlockDevice>(
         refuse_if(is_overcharged(tree, path.name_len()), Error::EntryFull),
         refuse_if(lacks(tree, files, 4), Error::NoSpace),
     ];
-    passed(&checks, path)
+    unless_refused(&checks, path)
 }
 
 /// Checks whether the open file of that number may have the position.
@@ -127,7 +127,7 @@ pub fn check_seek<D: BlockDevice>(
     fd: u32,
     position: u32,
 ) -> Result<(), Error>
-    ensures { ChecksKept (held_of tree.now files.now) (ops.Seek fd position) (λ _. is_some (entry_of files.now fd) ≡ true) result }
+    ensures { ChecksWithoutReads (session_view_of tree.now files.now) (ops.Seek fd position) (λ _. is_some (open_file_at files.now fd) ≡ true) result }
 {
     if tree.has_failed() {
         return Err(Error::Failed);
@@ -150,7 +150,7 @@ pub fn check_open_reader<D: BlockDevice>(
     flags: OpenFlags,
 ) -> Result<FileContents, Error>
     requires { (flags_view flags).write ≡ false }
-    ensures { Checks (held_of tree.old files.now) (ops.Open bytes.now (flags_view flags)) (IsReadableAs tree.old (files_view tree.old files.now) bytes.now) result tree.new }
+    ensures { Checks (session_view_of tree.old files.now) (ops.Open bytes.now (flags_view flags)) (IsReadableAs tree.old (files_view tree.old files.now) bytes.now) result tree.new }
 {
     if tree.has_failed() {
         return Err(Error::Failed);
@@ -170,7 +170,7 @@ pub fn check_open_reader<D: BlockDevice>(
         refuse_if(files.is_busy_for_reading(bytes), Error::Busy),
     ];
     let none = FileContents::Inline(Vec::new(alloc));
-    passed(&checks, contents.unwrap_or(none))
+    unless_refused(&checks, contents.unwrap_or(none))
 }
 
 /// A file that may be opened for writing.
@@ -184,7 +184,7 @@ pub struct Opening<'a> {
 // Returns whether there is no room to write a file of that size anew.
 fn overfills_anew<D: BlockDevice>(tree: &Tree<D>, size: Option<u32>) -> bool
     requires { tree.now.failed ≡ false }
-    ensures { result ≡ nat_lt (block_count tree.now.disk) (length (around_of tree.now).used + (if nat_lt 0 (unwrap_or size 0) then 2 else 0)) }
+    ensures { result ≡ nat_lt (block_count tree.now.disk) (length (surroundings_of tree.now).used + (if nat_lt 0 (unwrap_or size 0) then 2 else 0)) }
 {
     let need = if size.unwrap_or(0) > 0 { 2 } else { 0 };
     (tree.geometry().block_count as u64) < tree.used_count() as u64 + need
@@ -200,7 +200,7 @@ pub fn check_open_writer<'a, D: BlockDevice>(
 ) -> Result<Opening<'a>, Error>
     requires write { (flags_view flags).write ≡ true }
     requires ready { tree.old.failed ≡ false → IsReady tree.old files.now }
-    ensures { Checks (held_of tree.old files.now) (ops.Open bytes.now (flags_view flags)) (λ found. IsOpening (tree_view tree.old) bytes.now found) result tree.new }
+    ensures { Checks (session_view_of tree.old files.now) (ops.Open bytes.now (flags_view flags)) (λ found. IsOpening (tree_view tree.old) bytes.now found) result tree.new }
 {
     if tree.has_failed() {
         return Err(Error::Failed);
@@ -240,7 +240,7 @@ pub fn check_open_writer<'a, D: BlockDevice>(
         refuse_if(both(is_absent, lacks(tree, files, 2)), Error::NoSpace),
         refuse_if(both(truncates, overfills_anew(tree, size)), Error::NoSpace),
     ];
-    passed(&checks, Opening { path, size })
+    unless_refused(&checks, Opening { path, size })
 }
 
 // Returns the path of these bytes, if it is well formed and isn't the root's.
@@ -261,9 +261,9 @@ pub fn check_list<D: BlockDevice>(
     files: &Files,
     bytes: &[u8],
 ) -> Result<Vec<ListItem>, Error>
-    ensures checks { Checks (held_of tree.old files.now) (ops.ListAll bytes.now) (λ items. items_in (tree_view tree.old) (as_path bytes.now) ≡ map list_item_view items.items) result tree.new }
-    ensures few { AddsFew tree.old (ops.ListAll bytes.now) tree.new }
-    ensures kept { AddsNone tree.old (ops.ListAll bytes.now) tree.new }
+    ensures checks { Checks (session_view_of tree.old files.now) (ops.ListAll bytes.now) (λ items. items_in (tree_view tree.old) (as_path bytes.now) ≡ map list_item_view items.items) result tree.new }
+    ensures few { AddsFewReads tree.old (ops.ListAll bytes.now) tree.new }
+    ensures kept { AddsNoReads tree.old (ops.ListAll bytes.now) tree.new }
 {
     if tree.has_failed() {
         return Err(Error::Failed);
@@ -278,7 +278,7 @@ pub fn check_list<D: BlockDevice>(
         refuse_if(node.is_nothing(), Error::NoEnt),
         refuse_if(node.is_file(), Error::NotDir),
     ];
-    passed(&checks, listing.items)
+    unless_refused(&checks, listing.items)
 }
 
 /// Returns an attribute's bytes, where no check refuses the path.
@@ -289,9 +289,9 @@ pub fn check_get_attr<D: BlockDevice>(
     bytes: &[u8],
     kind: u8,
 ) -> Result<Vec<u8>, Error>
-    ensures checks { Checks (held_of tree.old files.now) (ops.GetAttr bytes.now kind) (λ v. unwrap_or (attribute_of kind (attributes_of (tree_view tree.old (as_path bytes.now)))) [] ≡ v.items) result tree.new }
-    ensures few { AddsFew tree.old (ops.GetAttr bytes.now kind) tree.new }
-    ensures kept { AddsNone tree.old (ops.GetAttr bytes.now kind) tree.new }
+    ensures checks { Checks (session_view_of tree.old files.now) (ops.GetAttr bytes.now kind) (λ v. unwrap_or (attribute_of kind (attributes_of (tree_view tree.old (as_path bytes.now)))) [] ≡ v.items) result tree.new }
+    ensures few { AddsFewReads tree.old (ops.GetAttr bytes.now kind) tree.new }
+    ensures kept { AddsNoReads tree.old (ops.GetAttr bytes.now kind) tree.new }
 {
     if tree.has_failed() {
         return Err(Error::Failed);
@@ -305,7 +305,7 @@ pub fn check_get_attr<D: BlockDevice>(
         refuse_if(found.finding.node.is_nothing(), Error::NoEnt),
         refuse_if(found.bytes.is_none(), Error::NoAttr),
     ];
-    passed(&checks, found.bytes.unwrap_or(Vec::new(alloc)))
+    unless_refused(&checks, found.bytes.unwrap_or(Vec::new(alloc)))
 }
 
 /// Returns the path of an entry that has the attribute, where no check refuses it.
@@ -316,7 +316,7 @@ pub fn check_remove_attr<'a, D: BlockDevice>(
     bytes: &'a [u8],
     kind: u8,
 ) -> Result<Path<'a>, Error>
-    ensures { Checks (held_of tree.old files.now) (ops.RemoveAttr bytes.now kind) (λ path. path ≡ as_path bytes.now) result tree.new }
+    ensures { Checks (session_view_of tree.old files.now) (ops.RemoveAttr bytes.now kind) (λ path. path ≡ as_path bytes.now) result tree.new }
 {
     if tree.has_failed() {
         return Err(Error::Failed);
@@ -333,7 +333,7 @@ pub fn check_remove_attr<'a, D: BlockDevice>(
         refuse_if(found.finding.node.is_nothing(), Error::NoEnt),
         refuse_if(found.bytes.is_none(), Error::NoAttr),
     ];
-    passed(&checks, path)
+    unless_refused(&checks, path)
 }
 
 /// Returns the path of a file, or of a directory without entries, that isn't open, where no check
@@ -344,7 +344,7 @@ pub fn check_remove<'a, D: BlockDevice>(
     files: &Files,
     bytes: &'a [u8],
 ) -> Result<Path<'a>, Error>
-    ensures { Checks (held_of tree.old files.now) (ops.Remove bytes.now) (λ path. path ≡ as_path bytes.now) result tree.new }
+    ensures { Checks (session_view_of tree.old files.now) (ops.Remove bytes.now) (λ path. path ≡ as_path bytes.now) result tree.new }
 {
     if tree.has_failed() {
         return Err(Error::Failed);
@@ -362,7 +362,7 @@ pub fn check_remove<'a, D: BlockDevice>(
         refuse_if(inside.has_entries, Error::NotEmpty),
         refuse_if(files.is_open_at(bytes), Error::Busy),
     ];
-    passed(&checks, path)
+    unless_refused(&checks, path)
 }
 
 // Returns how many bytes attributes take after one of them was replaced by another of that length.
@@ -387,7 +387,7 @@ pub fn check_set_attr<'a, D: BlockDevice>(
     value: &[u8],
 ) -> Result<Path<'a>, Error>
     requires { tree.old.failed ≡ false → IsReady tree.old files.now }
-    ensures { Checks (held_of tree.old files.now) (ops.SetAttr bytes.now kind value.now) (λ path. path ≡ as_path bytes.now) result tree.new }
+    ensures { Checks (session_view_of tree.old files.now) (ops.SetAttr bytes.now kind value.now) (λ path. path ≡ as_path bytes.now) result tree.new }
 {
     if tree.has_failed() {
         return Err(Error::Failed);
@@ -411,13 +411,13 @@ pub fn check_set_attr<'a, D: BlockDevice>(
         ),
         refuse_if(lacks(tree, files, 2), Error::NoSpace),
     ];
-    passed(&checks, path)
+    unless_refused(&checks, path)
 }
 
 // Returns whether there is no room for the blocks that a writer would hold.
 fn overfills<D: BlockDevice>(tree: &Tree<D>, has_turned: bool, size: u32) -> bool
     requires { tree.now.failed ≡ false }
-    ensures { result ≡ nat_lt (block_count tree.now.disk) (length (around_of tree.now).used + held_for tree.now.disk.block_size has_turned size) }
+    ensures { result ≡ nat_lt (block_count tree.now.disk) (length (surroundings_of tree.now).used + held_for tree.now.disk.block_size has_turned size) }
 {
     let held = held_for(tree.geometry(), has_turned, size);
     (tree.geometry().block_count as u64) < tree.used_count() as u64 + held
@@ -431,7 +431,7 @@ pub fn check_write<D: BlockDevice>(
     bytes: &[u8],
 ) -> Result<(), Error>
     requires { tree.now.failed ≡ false → IsReady tree.now files.now }
-    ensures { ChecksKept (held_of tree.now files.now) (ops.Write fd bytes.now) (λ _. is_some (writer_in (entry_of files.now fd)) ≡ true) result }
+    ensures { ChecksWithoutReads (session_view_of tree.now files.now) (ops.Write fd bytes.now) (λ _. is_some (writer_in (open_file_at files.now fd)) ≡ true) result }
 {
     if tree.has_failed() {
         return Err(Error::Failed);
@@ -461,7 +461,7 @@ pub fn check_truncate<D: BlockDevice>(
     size: u32,
 ) -> Result<(), Error>
     requires { tree.now.failed ≡ false → IsReady tree.now files.now }
-    ensures { ChecksKept (held_of tree.now files.now) (ops.Truncate fd size) (λ _. is_some (writer_in (entry_of files.now fd)) ≡ true) result }
+    ensures { ChecksWithoutReads (session_view_of tree.now files.now) (ops.Truncate fd size) (λ _. is_some (writer_in (open_file_at files.now fd)) ≡ true) result }
 {
     if tree.has_failed() {
         return Err(Error::Failed);
@@ -480,7 +480,7 @@ pub fn check_truncate<D: BlockDevice>(
 
 /// Checks whether a file is open under the number.
 pub fn check_open<D: BlockDevice>(tree: &Tree<D>, files: &Files, fd: u32) -> Result<(), Error>
-    ensures { ChecksKept (held_of tree.now files.now) (ops.Close fd) (λ _. is_some (entry_of files.now fd) ≡ true) result }
+    ensures { ChecksWithoutReads (session_view_of tree.now files.now) (ops.Close fd) (λ _. is_some (open_file_at files.now fd) ≡ true) result }
 {
     if tree.has_failed() {
         return Err(Error::Failed);
@@ -493,7 +493,7 @@ pub fn check_open<D: BlockDevice>(tree: &Tree<D>, files: &Files, fd: u32) -> Res
 
 /// Checks whether a file is open under the number, for a sync.
 pub fn check_sync<D: BlockDevice>(tree: &Tree<D>, files: &Files, fd: u32) -> Result<(), Error>
-    ensures { ChecksKept (held_of tree.now files.now) (ops.Sync fd) (λ _. is_some (entry_of files.now fd) ≡ true) result }
+    ensures { ChecksWithoutReads (session_view_of tree.now files.now) (ops.Sync fd) (λ _. is_some (open_file_at files.now fd) ≡ true) result }
 {
     if tree.has_failed() {
         return Err(Error::Failed);

@@ -10,7 +10,7 @@ ghost use Rattle.lfs_model.specs.Writers.{turns};
 ghost use Rattle.lfs_model.specs.Refusals.{as_path, bad_entry};
 ghost use Rattle.lfs_fs.specs.RenamePaths.{is_in_the_way};
 ghost use Rattle.lfs_tree.specs.TreeState.{TreeState};
-ghost use Rattle.lfs_fs.specs.FileView.{end_in, entry_of, files_view, is_entry_at, is_unsaved_entry, free_entry, held_by_all, held_by_size, held_for, moved_entry, put_entry, reader_in, readers_in, turned_in, writer_in, writers_in};
+ghost use Rattle.lfs_fs.specs.FileView.{end_in, open_file_at, files_view, is_entry_at, is_unsaved_entry, free_entry, held_by_all, held_by_size, held_for, moved_entry, put_entry, reader_in, readers_in, turned_in, writer_in, writers_in};
 
 use crate::owned_path::OwnedPath;
 use lfs_ctz::blocks_for;
@@ -206,7 +206,7 @@ impl Files {
 
     /// Borrows the reader of that number.
     pub fn reader(&self, fd: u32) -> Option<&Reader>
-        ensures { option_map (λ r. r.now) result ≡ reader_in (entry_of self.now fd) }
+        ensures { option_map (λ r. r.now) result ≡ reader_in (open_file_at self.now fd) }
     {
         match self.entries.get(fd as usize) {
             Some(Some(OpenFile::Reading(reader))) => Some(reader),
@@ -216,7 +216,7 @@ impl Files {
 
     // Borrows the writer of that number.
     pub(crate) fn writer(&self, fd: u32) -> Option<&Writer>
-        ensures { option_map (λ w. w.now) result ≡ writer_in (entry_of self.now fd) }
+        ensures { option_map (λ w. w.now) result ≡ writer_in (open_file_at self.now fd) }
     {
         match self.entries.get(fd as usize) {
             Some(Some(OpenFile::Writing(writer))) => Some(writer),
@@ -254,8 +254,8 @@ impl Files {
 
     /// Takes an open file out of the table. Its number is free afterwards.
     pub fn take(&mut self, fd: u32) -> Option<OpenFile>
-        requires { is_some (entry_of self.old fd) ≡ true }
-        ensures file { result ≡ entry_of self.old fd }
+        requires { is_some (open_file_at self.old fd) ≡ true }
+        ensures file { result ≡ open_file_at self.old fd }
         ensures left { self.new ≡ slice_set self.old fd None }
     {
         take_from(&mut self.entries, fd as usize)
@@ -264,7 +264,7 @@ impl Files {
     /// Puts a writer back under the number that it had.
     pub fn put_back(&mut self, fd: u32, writer: Writer)
         requires inside { fd < length self.old }
-        requires free { entry_of self.old fd ≡ None }
+        requires free { open_file_at self.old fd ≡ None }
         requires none { writers_in self.old ≡ [] }
         ensures { self.new ≡ slice_set self.old fd (Some (OpenFile.Writing writer)) }
     {
@@ -272,7 +272,7 @@ impl Files {
     }
 
     pub(crate) fn is_open(&self, fd: u32) -> bool
-        ensures { result ≡ is_some (entry_of self.now fd) }
+        ensures { result ≡ is_some (open_file_at self.now fd) }
     {
         match self.entries.get(fd as usize) {
             Some(entry) => entry.is_some(),
@@ -282,7 +282,7 @@ impl Files {
 
     /// Returns whether the file of that number has changes that aren't in the tree.
     pub fn is_unsaved_at(&self, fd: u32) -> bool
-        ensures { result ≡ is_unsaved_entry (entry_of self.now fd) }
+        ensures { result ≡ is_unsaved_entry (open_file_at self.now fd) }
     {
         match self.entries.get(fd as usize) {
             Some(entry) => is_unsaved(entry),
@@ -292,7 +292,7 @@ impl Files {
 
     /// Returns whether a writer has that number, and contents of that size.
     pub fn has_size(&self, fd: u32, size: u32) -> bool
-        ensures { (w : _) → writer_in (entry_of self.now fd) ≡ Some w → result ≡ (size == w.size) }
+        ensures { (w : _) → writer_in (open_file_at self.now fd) ≡ Some w → result ≡ (size == w.size) }
     {
         match self.writer(fd) {
             Some(writer) => size == writer.size,
@@ -320,15 +320,15 @@ impl Files {
 
     /// Sets the position of an open file.
     pub fn seek(&mut self, fd: u32, position: u32)
-        requires { is_some (entry_of self.old fd) ≡ true }
-        ensures { self.new ≡ slice_set self.old fd (option_map (moved_entry position) (entry_of self.old fd)) }
+        requires { is_some (open_file_at self.old fd) ≡ true }
+        ensures { self.new ≡ slice_set self.old fd (option_map (moved_entry position) (open_file_at self.old fd)) }
     {
         seek_in(&mut self.entries, fd as usize, position);
     }
 
     /// Closes an open file.
     pub fn close(&mut self, fd: u32)
-        requires { is_some (entry_of self.old fd) ≡ true }
+        requires { is_some (open_file_at self.old fd) ≡ true }
         ensures { self.new ≡ slice_set self.old fd None }
     {
         close_in(&mut self.entries, fd as usize);

@@ -7,10 +7,10 @@ ghost use Rattle.lfs_model.specs.Operations.{path_of};
 ghost use Rattle.lfs_model.specs.Refusals.{as_path, bad_entry};
 ghost use Rattle.lfs_model.specs.Session.{refuse_if};
 ghost use Rattle.lfs_lookup.specs.Refusals.{is_refusal, refusal_in};
-ghost use Rattle.lfs_fs.specs.Held.{Checks, IsReady, held_of};
-ghost use Rattle.lfs_fs.specs.RenamePaths.{IsRenaming, goes_on};
+ghost use Rattle.lfs_fs.specs.SessionView.{Checks, IsReady, session_view_of};
+ghost use Rattle.lfs_fs.specs.RenamePaths.{IsRenaming, is_path_prefix};
 
-use crate::check_order::{both, passed};
+use crate::check_order::{both, unless_refused};
 use crate::checks::{is_overcharged_with, lacks, parse_entry};
 use crate::files::Files;
 use crate::owned_path::is_same;
@@ -21,8 +21,8 @@ use lfs_tree::Tree;
 use std::alloc::Global;
 
 // Returns whether the other bytes begin with these, and end there or continue with a slash.
-fn goes_on(bytes: &[u8], other: &[u8]) -> bool
-    ensures { result ≡ goes_on bytes.now other.now }
+fn is_path_prefix(bytes: &[u8], other: &[u8]) -> bool
+    ensures { result ≡ is_path_prefix bytes.now other.now }
 {
     if !other.starts_with(bytes) {
         return false;
@@ -37,7 +37,7 @@ pub(crate) fn is_within(bytes: &[u8], other: &[u8]) -> bool
     requires given { is_some (path_of other.now) ≡ true }
     ensures { result ≡ is_some (rest_after (as_path bytes.now) (as_path other.now)) }
 {
-    goes_on(bytes, other)
+    is_path_prefix(bytes, other)
 }
 
 // Returns whether the bytes are of the same path.
@@ -84,7 +84,7 @@ pub fn check_rename<'a, D: BlockDevice>(
     new: &'a [u8],
 ) -> Result<Renaming<'a>, Error>
     requires { tree.old.failed ≡ false → IsReady tree.old files.now }
-    ensures { Checks (held_of tree.old files.now) (ops.Rename old.now new.now) (IsRenaming old.now new.now) result tree.new }
+    ensures { Checks (session_view_of tree.old files.now) (ops.Rename old.now new.now) (IsRenaming old.now new.now) result tree.new }
 {
     if tree.has_failed() {
         return Err(Error::Failed);
@@ -122,5 +122,5 @@ pub fn check_rename<'a, D: BlockDevice>(
         refuse_replacing(is_same, overfills, Error::EntryFull),
         refuse_if(lacks(tree, files, 2), Error::NoSpace),
     ];
-    passed(&checks, Renaming { from, to, is_same })
+    unless_refused(&checks, Renaming { from, to, is_same })
 }

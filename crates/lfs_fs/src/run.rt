@@ -6,7 +6,7 @@ ghost use Rattle.lfs_lookup.specs.Finds.{list_item_view, stat_view};
 ghost use Rattle.lfs_lookup.specs.Refusals.{is_refusal};
 ghost use Rattle.lfs_fs.specs.GstateView.{gstate_reply};
 ghost use Rattle.lfs_fs.specs.Replies.{reply_in};
-ghost use Rattle.lfs_fs.specs.OpView.{IsNamed, performed};
+ghost use Rattle.lfs_fs.specs.OpView.{NamesRefusal, performed};
 
 use crate::files::Fd;
 use crate::flags::OpenFlags;
@@ -91,9 +91,9 @@ fn is_refusal(error: Error) -> bool
     !matches!(error, Error::Io | Error::NoMemory | Error::Corrupt)
 }
 
-fn refused(error: Error) -> Result<Reply, Error>
+fn refused_reply(error: Error) -> Result<Reply, Error>
     ensures seen { performed result ≡ reply_in (λ r. r) (Err error) }
-    ensures named { IfOk result IsNamed }
+    ensures named { IfOk result NamesRefusal }
 {
     if is_refusal(error) {
         Ok(Reply::Refused(error))
@@ -104,80 +104,80 @@ fn refused(error: Error) -> Result<Reply, Error>
 
 pub(crate) fn done(answer: Result<(), Error>) -> Result<Reply, Error>
     ensures seen { performed result ≡ reply_in (λ _. operations.Done) answer }
-    ensures named { IfOk result IsNamed }
+    ensures named { IfOk result NamesRefusal }
 {
     match answer {
         Ok(()) => Ok(Reply::Done),
-        Err(error) => refused(error),
+        Err(error) => refused_reply(error),
     }
 }
 
 pub(crate) fn fd(answer: Result<Fd, Error>) -> Result<Reply, Error>
     ensures seen { performed result ≡ reply_in operations.Opened answer }
-    ensures named { IfOk result IsNamed }
+    ensures named { IfOk result NamesRefusal }
 {
     match answer {
         Ok(fd) => Ok(Reply::Fd(fd)),
-        Err(error) => refused(error),
+        Err(error) => refused_reply(error),
     }
 }
 
 pub(crate) fn bytes(answer: Result<Vec<u8>, Error>) -> Result<Reply, Error>
     ensures seen { performed result ≡ reply_in (λ v. operations.Bytes v.items) answer }
-    ensures named { IfOk result IsNamed }
+    ensures named { IfOk result NamesRefusal }
 {
     match answer {
         Ok(bytes) => Ok(Reply::Bytes(bytes)),
-        Err(error) => refused(error),
+        Err(error) => refused_reply(error),
     }
 }
 
 pub(crate) fn count(answer: Result<u32, Error>) -> Result<Reply, Error>
     ensures seen { performed result ≡ reply_in operations.Count answer }
-    ensures named { IfOk result IsNamed }
+    ensures named { IfOk result NamesRefusal }
 {
     match answer {
         Ok(count) => Ok(Reply::Count(count)),
-        Err(error) => refused(error),
+        Err(error) => refused_reply(error),
     }
 }
 
 pub(crate) fn items(answer: Result<Vec<Item>, Error>) -> Result<Reply, Error>
     ensures seen { performed result ≡ reply_in (λ items. operations.Items (map list_item_view items.items)) answer }
-    ensures named { IfOk result IsNamed }
+    ensures named { IfOk result NamesRefusal }
 {
     match answer {
         Ok(items) => Ok(Reply::Items(items)),
-        Err(error) => refused(error),
+        Err(error) => refused_reply(error),
     }
 }
 
 pub(crate) fn stat(answer: Result<Stat, Error>) -> Result<Reply, Error>
     ensures seen { performed result ≡ reply_in (λ stat. operations.StatIs (stat_view stat)) answer }
-    ensures named { IfOk result IsNamed }
+    ensures named { IfOk result NamesRefusal }
 {
     match answer {
         Ok(stat) => Ok(Reply::Stat(stat)),
-        Err(error) => refused(error),
+        Err(error) => refused_reply(error),
     }
 }
 
 pub(crate) fn gstate(answer: Result<Gstate, Error>) -> Result<Reply, Error>
     ensures seen { performed result ≡ reply_in gstate_reply answer }
-    ensures named { IfOk result IsNamed }
+    ensures named { IfOk result NamesRefusal }
 {
     match answer {
         Ok(gstate) => Ok(Reply::Gstate(gstate)),
-        Err(error) => refused(error),
+        Err(error) => refused_reply(error),
     }
 }
 
 pub(crate) fn yes(answer: Result<bool, Error>) -> Result<Reply, Error>
     ensures seen { performed result ≡ reply_in operations.Yes answer }
-    ensures named { IfOk result IsNamed }
+    ensures named { IfOk result NamesRefusal }
 {
     match answer {
         Ok(yes) => Ok(Reply::Yes(yes)),
-        Err(error) => refused(error),
+        Err(error) => refused_reply(error),
     }
 }

@@ -10,7 +10,7 @@ ghost use Rattle.lfs_model.specs.History.{faults};
 ghost use Rattle.lfs_model.specs.State.{Healthy, mounted};
 ghost use Rattle.lfs_model.specs.Run.{AreSessionSteps, SystemState};
 ghost use Rattle.lfs_model.specs.Performed.{ArePerformed};
-ghost use Rattle.lfs_model.specs.RepeatedPowerLoss.{IsMounted, MayLosePower, SurvivesPowerLoss};
+ghost use Rattle.lfs_model.specs.RepeatedPowerLoss.{IsJustMounted, MayLosePower, SurvivesPowerLoss};
 ghost use Rattle.lfs_model.specs.PowerLoss.{SurvivesLoss};
 ghost use Rattle.lfs_model.specs.declared.order.NameOrder.{NameOrder};
 ghost use Rattle.lfs_model.specs.declared.order.NameOrder.TheVariants.{LongerFirst, ShorterFirst};
@@ -21,13 +21,13 @@ ghost use Rattle.lfs_thread.specs.Kept.{disk_on, kept_view};
 ghost use Rattle.lfs_model.specs.Thread.{anchor};
 ghost use Rattle.lfs_model.specs.View.{IsAccepted};
 ghost use Rattle.lfs_lookup.specs.Finds.{list_item_view, stat_view};
-ghost use Rattle.lfs_tree.specs.Formatting.{DeviceComesBack, IsFormatted, WritesFirstTwo};
+ghost use Rattle.lfs_tree.specs.Formats.{ReturnsAnyDevice, IsFormatted, WritesFirstTwo};
 ghost use Rattle.lfs_tree.specs.TreeState.{kept_of};
 ghost use Rattle.lfs_fs.specs.GstateView.{gstate_reply};
-ghost use Rattle.lfs_fs.specs.Held.{IsFreshSession, IsEndedBy, system_state_of};
+ghost use Rattle.lfs_fs.specs.SessionView.{IsFreshSession, IsEndedBy, system_state_of};
 ghost use Rattle.lfs_fs.specs.FlagsView.{flags_view};
-ghost use Rattle.lfs_fs.specs.OpView.{IsNamed, op_view, performed, reply_view};
-ghost use Rattle.lfs_fs.specs.Sparing.{IsCall};
+ghost use Rattle.lfs_fs.specs.OpView.{NamesRefusal, op_view, performed, reply_view};
+ghost use Rattle.lfs_fs.specs.CallEffects.{IsCall};
 
 use crate::checks::{
     check_get_attr, check_list, check_mkdir, check_open, check_open_reader, check_open_writer,
@@ -43,7 +43,7 @@ use crate::owned_path::OwnedPath;
 use crate::reads::read_from;
 use crate::rename_checks::check_rename;
 use crate::run::{Op, Reply, bytes, count, done, fd, gstate, items, stat, yes};
-use crate::writers::{begin_new, begin_there, save, truncate_by, write_by};
+use crate::writers::{begin_existing, begin_new, save, truncate_by, write_by};
 use bitflags::Flags;
 use lfs_device::{BlockDevice, Error, NameOrder, Ordered};
 use lfs_lookup::{ListItem as Item, Stat};
@@ -68,12 +68,12 @@ pub struct Session<D: BlockDevice> {
 }
 
 impl<D: BlockDevice> Model for Session<D> {
-    ghost use Rattle.lfs_fs.specs.Held.{Held, held_of};
+    ghost use Rattle.lfs_fs.specs.SessionView.{SessionView, session_view_of};
     ghost use Rattle.lfs_fs.specs.DeviceLaws.{IsBetweenCalls};
 
-    ghost Value = { Held };
+    ghost Value = { SessionView };
 
-    ghost view = { λ s. held_of s.tree s.files };
+    ghost view = { λ s. session_view_of s.tree s.files };
 
     ghost invariant = { λ s. IsBetweenCalls s.tree s.files };
 }
@@ -314,7 +314,7 @@ impl<D: BlockDevice> Session<D> {
         };
         let writer = match found.size {
             Some(size) => {
-                let answer = begin_there(alloc, &mut self.tree, owned, size, flags);
+                let answer = begin_existing(alloc, &mut self.tree, owned, size, flags);
                 device_meets_laws(&self.tree);
                 answer?
             }
@@ -525,7 +525,7 @@ impl<D: BlockDevice> Session<D> {
     // Performs one operation. A refusal is a reply; after an error the session has failed.
     fn perform(&mut self, alloc: Global, op: Op<'_>) -> Result<Reply, Error>
         ensures call { IsCall self.old (op_view op.entry) (performed result) self.new }
-        ensures named { IfOk result IsNamed }
+        ensures named { IfOk result NamesRefusal }
     {
         match op {
             Op::Open(path, flags) => fd(self.open(alloc, path, flags)),
@@ -566,7 +566,7 @@ impl<D: BlockDevice> Session<D> {
     /// the session has failed.
     pub fn run(&mut self, alloc: Global, ops: &[Op<'_>]) -> Result<Vec<Reply>, Error>
         ensures performed { IfOk result (λ replies. ArePerformed None (system_state_of self.old) (map op_view ops.now) (map reply_view replies.items) (system_state_of self.new)) }
-        ensures named { IfOk result (λ replies. All IsNamed replies.items) }
+        ensures named { IfOk result (λ replies. All NamesRefusal replies.items) }
         ensures no_fault { OnOk result (faults self.new.tree.history ≡ faults self.old.tree.history) }
         ensures headline { IfOk result (λ replies. (from : SystemState) (done : List Operation) (answers : List Answer) → AgreesWithDisk from → AreSessionSteps from done answers (system_state_of self.old)
             → IsWhatItsDiskShows from (done ++ map op_view ops.now) (answers ++ map reply_view replies.items) (system_state_of self.new)) }
@@ -598,7 +598,7 @@ impl<D: BlockDevice> Session<D> {
 /// failed. `NoMemory` where memory isn't granted. An error comes with the device.
 pub fn mount<D: BlockDevice>(alloc: Global, device: D) -> Result<Session<D>, (D, Error)>
     ensures begun { IfOk result (λ s. IsFreshSession (ordered s.tree.disk.order (disk_on D.BlockDevice device)) (D.history device) s) }
-    ensures state { IfOk result (λ s. IsMounted (ordered s.tree.disk.order (disk_on D.BlockDevice device)) (system_state_of s)) }
+    ensures state { IfOk result (λ s. IsJustMounted (ordered s.tree.disk.order (disk_on D.BlockDevice device)) (system_state_of s)) }
     ensures longer { IfOk result (λ s. s.tree.disk.order ≡ ShorterFirst → (ps : List Pair) → ¬ IsAccepted (ordered LongerFirst (disk_on D.BlockDevice device)) ps) }
     ensures corrupt { IfErr result (λ e. e.1 ≡ Error.Corrupt → (order : NameOrder) (ps : List Pair) → ¬ IsAccepted (ordered order (disk_on D.BlockDevice device)) ps) }
     ensures errors { IfErr result (λ e. (e.1 ≡ Error.Io) ⊎ (e.1 ≡ Error.Corrupt) ⊎ (e.1 ≡ Error.NoMemory)) }
@@ -627,7 +627,7 @@ pub fn format<D: BlockDevice>(alloc: Global, device: D) -> Result<Session<D>, (D
     ensures state { IfOk result (λ s. (system_state_of s).state ≡ Healthy (mounted empty_tree)) }
     ensures geometry { IfOk result (λ s. SameGeometry (ordered LongerFirst (disk_on D.BlockDevice device)) s.tree.disk) }
     ensures calls { IfOk result (λ s. WritesFirstTwo (kept_view (ordered LongerFirst (disk_on D.BlockDevice device)) (D.history device) [] []) (kept_of s.tree)) }
-    ensures back { IfErr result (λ e. DeviceComesBack D.BlockDevice (two_of anchor) device e.0 e.1) }
+    ensures back { IfErr result (λ e. ReturnsAnyDevice D.BlockDevice (two_of anchor) device e.0 e.1) }
 {
     format_ordered(alloc, device, NameOrder::LongerFirst)
 }
@@ -649,7 +649,7 @@ pub fn format_ordered<D: BlockDevice>(
     ensures state { IfOk result (λ s. (system_state_of s).state ≡ Healthy (mounted empty_tree)) }
     ensures geometry { IfOk result (λ s. SameGeometry (ordered order (disk_on D.BlockDevice device)) s.tree.disk) }
     ensures calls { IfOk result (λ s. WritesFirstTwo (kept_view (ordered order (disk_on D.BlockDevice device)) (D.history device) [] []) (kept_of s.tree)) }
-    ensures back { IfErr result (λ e. DeviceComesBack D.BlockDevice (two_of anchor) device e.0 e.1) }
+    ensures back { IfErr result (λ e. ReturnsAnyDevice D.BlockDevice (two_of anchor) device e.0 e.1) }
 {
     match Tree::format(alloc, Ordered::new(device, order)) {
         Ok(tree) => {

@@ -2,8 +2,8 @@
 use Rattle.std.specs.Prelude.{◌≡◌, ◌≢◌, ◌⊎◌, List, IfOk, IfErr, Result}
 use Rattle.lfs_device.specs.declared.error.Error.{Error}
 use Rattle.lfs_device.specs.declared.error.Error.TheVariants.{Corrupt}
-use Rattle.lfs_fs.specs.Held.{Held, system_state_of}
-use Rattle.lfs_model.specs.Effects.{applied}
+use Rattle.lfs_fs.specs.SessionView.{SessionView, system_state_of}
+use Rattle.lfs_model.specs.Effects.{refusal_or_effect}
 use Rattle.lfs_model.specs.Operations as ops
 use Rattle.lfs_model.specs.Operations.{Operation}
 use Rattle.lfs_model.specs.PowerLoss.{IsAtWork}
@@ -22,11 +22,11 @@ pub record ShowsEither (before after : Tree) (at : SystemState) : Type 0 where
   pub healthy : at.state ≡ Healthy (mounted tree)
 
 -- There is such a session. Where there is none, an image was accepted all the same.
-pub record Recovers (before after : Tree) (result : Result Held Error) : Type 0 where
+pub record Recovers (before after : Tree) (result : Result SessionView Error) : Type 0 where
   pub shows : IfOk result (λ h. ShowsEither before after (system_state_of h))
   pub accepted : IfErr result (λ e. e ≢ Corrupt)
 
 -- The operation of a session at work was cut, and the session that follows has the tree from before the operation or from after it.
-abbrev pub RecoversFrom : SystemState → Operation → Result Held Error → Type 0
+abbrev pub RecoversFrom : SystemState → Operation → Result SessionView Error → Type 0
 RecoversFrom from op result =
-    (s : Session) (ps : List Pair) (around : Surroundings) → IsAtWork from s ps around → Recovers s.tree (applied around s op).1.tree result
+    (s : Session) (ps : List Pair) (around : Surroundings) → IsAtWork from s ps around → Recovers s.tree (refusal_or_effect around s op).1.tree result

@@ -8,20 +8,20 @@ pub use recovery::{recover_from_stop, rename_despite_stop};
 #[cfg(test)]
 mod answers;
 #[cfg(test)]
-mod begun;
-#[cfg(test)]
-mod failing;
+mod failed_sessions;
 #[cfg(test)]
 mod lines;
 #[cfg(test)]
 mod memory;
 #[cfg(test)]
-mod played;
+mod row_runs;
 #[cfg(test)]
 mod scenes;
 #[cfg(test)]
 mod scripts;
 #[cfg(test)]
+mod starts;
+#[cfg(test)]
 mod stopped_rename;
 #[cfg(test)]
-mod stopping;
+mod stops;

@@ -1,9 +1,9 @@
 // A script where any one allocation fails: this holds whichever it is (bench/fail_alloc.py).
 
 use crate::answers::Answer::Done;
-use crate::begun::{Start, device_of, mounted};
-use crate::played::first_wrong;
-use crate::scripts::{LENGTH, carried_out, has_lost_nothing, long_rows, long_script};
+use crate::row_runs::first_wrong;
+use crate::scripts::{LENGTH, carry_out_rows, has_lost_nothing, long_rows, long_script};
+use crate::starts::{Start, device_of, mount_image};
 use lfs_device::Error;
 use lfs_fs::Op::Remount;
 use lfs_fs::OpenFlags;
@@ -14,8 +14,8 @@ use std::test::Fail;
 fn loses_nothing(alloc: Global) -> Result<bool, Error> {
     let rows = long_rows(OpenFlags::WRITE | OpenFlags::CREATE);
     let script = long_script(&rows);
-    let mut session = mounted(alloc, device_of(alloc, Start::Fresh(1024, 128, 64))?)?;
-    match carried_out(alloc, &mut session, script.rows) {
+    let mut session = mount_image(alloc, device_of(alloc, Start::Fresh(1024, 128, 64))?)?;
+    match carry_out_rows(alloc, &mut session, script.rows) {
         (done, None) => Ok(done == LENGTH),
         (done, Some(error)) => Ok(
             error == Error::NoMemory

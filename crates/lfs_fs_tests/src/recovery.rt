@@ -5,12 +5,12 @@ ghost use Rattle.lfs_model.specs.Disk.{Disk};
 ghost use Rattle.lfs_model.specs.Operations as ops;
 ghost use Rattle.lfs_model.specs.PowerLoss.{IsLeftByStop};
 ghost use Rattle.lfs_model.specs.Premises.{MeetsPremises};
-ghost use Rattle.lfs_model.specs.RepeatedPowerLoss.{IsMounted, SameBytes};
+ghost use Rattle.lfs_model.specs.RepeatedPowerLoss.{IsJustMounted, SameBytes};
 ghost use Rattle.lfs_model.specs.Tree.{Tree};
 ghost use Rattle.lfs_model.specs.declared.order.NameOrder.{NameOrder};
 ghost use Rattle.lfs_device.specs.RamDevice.{geometry_of, ram_blocks};
 ghost use Rattle.lfs_device.specs.Shown.{disk_of, ordered};
-ghost use Rattle.lfs_fs.specs.Held.{system_state_of};
+ghost use Rattle.lfs_fs.specs.SessionView.{system_state_of};
 ghost use Rattle.lfs_fs_tests.specs.Recovered.{Recovers, RecoversFrom};
 
 use lfs_device::{Error, FaultDevice, RamDevice, ram_devices_are_reliable};
@@ -23,7 +23,7 @@ fn recover_session(
     alloc: Global,
     mut session: Session<RamDevice>,
 ) -> Result<Session<RamDevice>, Error>
-    ensures { (left other : Disk) (before after : Tree) → IsLeftByStop left before after → SameBytes left other → IsMounted other (system_state_of session)
+    ensures { (left other : Disk) (before after : Tree) → IsLeftByStop left before after → SameBytes left other → IsJustMounted other (system_state_of session)
         → Recovers before after result }
 {
     losses_are_survived();

@@ -2,9 +2,9 @@
 
 use crate::answers::Answer::{Done, Fd, Items};
 use crate::answers::Row;
-use crate::begun::{Start, device_of, mounted};
-use crate::played::first_wrong;
+use crate::row_runs::first_wrong;
 use crate::scripts::{Script, Tree};
+use crate::starts::{Start, device_of, mount_image};
 use lfs_device::{Error, RamDevice};
 use lfs_fixtures::Held;
 use lfs_fs::Op::{Close, List, Mkdir, Open, Recover, Remove, Rename};
@@ -161,7 +161,7 @@ fn with_four(new: OpenFlags) -> [Row<'static>; 8] {
 
 // The device behind these rows.
 fn behind(alloc: Global, start: Start<'_>, rows: &[Row<'_>]) -> Result<RamDevice, Error> {
-    let mut session = mounted(alloc, device_of(alloc, start)?)?;
+    let mut session = mount_image(alloc, device_of(alloc, start)?)?;
     match first_wrong(alloc, &mut session, rows)? {
         None => Ok(session.unmount()),
         Some(_) => Err(Error::Invalid),

@@ -2,7 +2,7 @@
 
 use crate::answers::Answer::{Bytes, Count, Done, Fd, Gstate as GstateIs, Items, Refused};
 use crate::answers::{Answer, Row};
-use crate::played::first_wrong;
+use crate::row_runs::first_wrong;
 use lfs_device::{BlockDevice, Error};
 use lfs_fs::Op::{
     Close, GetAttr, Gstate as AskGstate, List, Mkdir, Open, Read, Recover, Remove, Rename, Seek,
@@ -116,7 +116,7 @@ pub fn long_script<'a>(rows: &'a [Row<'a>]) -> Script<'a> {
 }
 
 /// Carries out rows in turn: how many are answered as they should, and what ends the others.
-pub fn carried_out<D: BlockDevice>(
+pub fn carry_out_rows<D: BlockDevice>(
     alloc: Global,
     session: &mut Session<D>,
     rows: &[Row<'_>],

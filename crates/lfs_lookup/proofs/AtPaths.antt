@@ -12,11 +12,11 @@ use Rattle.lfs_model.specs.Operations as ops
 use Rattle.lfs_model.specs.Session.{directory_fault, parent_fault}
 use Rattle.lfs_model.specs.SlotEdits.{slot_of_path}
 use Rattle.lfs_model.specs.Slots.{Attributes, Slot, Struct, Inline, Ctz, Branch}
-use Rattle.lfs_model.specs.Effects.{size_of}
+use Rattle.lfs_model.specs.Effects.{node_size}
 use Rattle.lfs_model.specs.Thread.{Pair, root_of}
 use Rattle.lfs_model.specs.Tree.{Path, Tree, Node, FileNode, DirectoryNode, branch_of, entry_named, names_at, node_of, root_slot, slot_at}
 use Rattle.lfs_model.specs.View.{IsAccepted, IsListIfCtz}
-use Rattle.lfs_model.specs.Shown.{Leads, all_slots, contents_in, entries_in, tree_in}
+use Rattle.lfs_model.specs.Shown.{PathLeadsTo, all_slots, contents_in, entries_in, tree_in}
 use Rattle.lfs_thread.specs.Kept.{Kept, disk_on}
 use Rattle.lfs_device.specs.declared.device.BlockDevice.{Ghosts}
 use Rattle.lfs_model.specs.Blocks.{IsDivided}
@@ -28,7 +28,7 @@ use Rattle.lfs_lookup.specs.declared.entry.FileStorage.{FileStorage}
 use Rattle.lfs_lookup.specs.declared.entry.FileStorage.TheVariants as contents
 use Rattle.lfs_lookup.specs.Finds.{Finds}
 use Rattle.lfs_lookup.specs.Paths.{ShowsTo}
-use Rattle.lfs_lookup.specs.declared.found_entries.Finding.{Finding}
+use Rattle.lfs_lookup.specs.declared.found_entries.FoundNode.{FoundNode}
 use Rattle.lfs_lookup.specs.declared.paths.Shown.TheVariants as shown
 use Rattle.lfs_lookup.specs.declared.search.Spot.{Spot}
 use Rattle.lfs_lookup.specs.declared.found_entries.Node.TheVariants as node
@@ -48,7 +48,7 @@ sized_on g d disk n e large shape =
 -- ---- by the node
 
 pub finds_nothing : (t : Tree) (p : Path) (fault : Option ops.Refusal) → t p ≡ None → parent_fault t [] p ≡ fault → Finds t p (record { fault = fault; node = node.Nothing })
-finds_nothing t p fault e h = record { parents = h; nothing = ap is_none e; directories = ap is_directory e; files = ap is_file e; sizes = ap size_of e }
+finds_nothing t p fault e h = record { parents = h; nothing = ap is_none e; directories = ap is_directory e; files = ap is_file e; sizes = ap node_size e }
 
 pub finds_file : (t : Tree) (p : Path) (attributes : Attributes) (bytes : List ℕ) (size : ℕ) → t p ≡ Some (FileNode attributes bytes) → parent_fault t [] p ≡ None → length bytes ≡ size
     → Finds t p (record { fault = None; node = node.File size })
@@ -57,7 +57,7 @@ finds_file t p attributes bytes size e h l = record {
   nothing = ap is_none e;
   directories = ap is_directory e;
   files = ap is_file e;
-  sizes = ap size_of e ∙ ap Some l;
+  sizes = ap node_size e ∙ ap Some l;
 }
 
 pub finds_directory : (t : Tree) (p : Path) (attributes : Attributes) (names : List Name) → t p ≡ Some (DirectoryNode attributes names) → parent_fault t [] p ≡ None → Finds t p (record { fault = None; node = node.Directory })
@@ -66,7 +66,7 @@ finds_directory t p attributes names e h = record {
   nothing = ap is_none e;
   directories = ap is_directory e;
   files = ap is_file e;
-  sizes = ap size_of e;
+  sizes = ap node_size e;
 }
 
 -- ---- by the slot
@@ -108,7 +108,7 @@ module _ (disk : Disk) (ps : List Pair) where
     pub attributes : Attributes
     pub is : tree_in disk ps path ≡ Some (DirectoryNode attributes (in_order ShorterFirst (names_at (entries_in ps) at)))
 
-  pub directory_at_path : (path : Path) (at : ℕ × ℕ) → Leads ps path at → IsDirectoryAt path at
+  pub directory_at_path : (path : Path) (at : ℕ × ℕ) → PathLeadsTo ps path at → IsDirectoryAt path at
   directory_at_path path at leads = go (slot_of_path ps path) refl leads
     where
       by_struct : (x : Slot) (s : Struct) → x.struct ≡ s → slot_of_path ps path ≡ Some x → branch_of s ≡ Some at → IsDirectoryAt path at
@@ -141,7 +141,7 @@ each_found Q n (x ∷ xs) u h e = go (same_name n x.name) (each_found Q n xs u h
     go false k f = k f
 
 -- a file's list is well formed
-pub list_at_path : (disk : Disk) (ps : List Pair) (above : Path) (name : Name) (to : ℕ × ℕ) (u : Slot) → IsAccepted disk ps → Leads ps above to → slot_of_path ps (above ++ name ∷ []) ≡ Some u
+pub list_at_path : (disk : Disk) (ps : List Pair) (above : Path) (name : Name) (to : ℕ × ℕ) (u : Slot) → IsAccepted disk ps → PathLeadsTo ps above to → slot_of_path ps (above ++ name ∷ []) ≡ Some u
     → IsListIfCtz disk u.struct
 list_at_path disk ps above name to u ok leads e =
     each_found (λ s. IsListIfCtz disk s.struct) name (entries_in ps to) u
@@ -164,10 +164,10 @@ list_at_path disk ps above name to u ok leads e =
 -- ---- by what is shown
 
 module _ (t : Kept) (path : Path) (ok : IsAccepted t.disk t.pairs) where
-  pub refused_at : (r : ops.Refusal) (f : Finding) → parent_fault (tree_in t.disk t.pairs) [] path ≡ Some r → f ≡ record { fault = Some r; node = node.Nothing } → Finds (tree_in t.disk t.pairs) path f
+  pub refused_at : (r : ops.Refusal) (f : FoundNode) → parent_fault (tree_in t.disk t.pairs) [] path ≡ Some r → f ≡ record { fault = Some r; node = node.Nothing } → Finds (tree_in t.disk t.pairs) path f
   refused_at r f h k = subst (λ z. Finds (tree_in t.disk t.pairs) path z) (sym k) (finds_nothing (tree_in t.disk t.pairs) path (Some r) (nothing_at t.disk t.pairs path (refused_none t.disk t.pairs path [] r h)) h)
 
-  pub file_at : (moved : Option Spot) (spot : Spot) (contents : FileStorage) (f : Finding) → ShowsTo t moved path (shown.File spot contents) → SizedLists t.disk → f ≡ record { fault = None; node = node.File (size_shown contents) }
+  pub file_at : (moved : Option Spot) (spot : Spot) (contents : FileStorage) (f : FoundNode) → ShowsTo t moved path (shown.File spot contents) → SizedLists t.disk → f ≡ record { fault = None; node = node.File (size_shown contents) }
       → Finds (tree_in t.disk t.pairs) path f
   file_at moved spot contents f (h, (s, k)) sized e =
       subst (λ z. Finds (tree_in t.disk t.pairs) path z) (sym e)

@@ -8,7 +8,7 @@ use Rattle.lfs_model.specs.TreeEdits.{attributes_of}
 use Rattle.lfs_model.specs.Content.{RawSlot, attribute_of, complete, kind_named, slot_of_id, struct_typed}
 use Rattle.lfs_model.specs.Disk.{Disk}
 use Rattle.lfs_model.specs.LoggedContent.{Ascend, HasParts, HaveParts}
-use Rattle.lfs_model.specs.Lookup.{bytes_in, bytes_typed}
+use Rattle.lfs_model.specs.Lookup.{slot_bytes, bytes_typed}
 use Rattle.lfs_model.specs.Operations as ops
 use Rattle.lfs_model.specs.Slots.{Attributes, Slot, Struct, Inline, Ctz, Branch}
 use Rattle.lfs_model.specs.SlotEdits.{slot_of_path}
@@ -19,7 +19,7 @@ use Rattle.lfs_thread.specs.Kept.{Kept, State}
 use Rattle.lfs_thread.specs.CachedLog.{cached_log}
 use Rattle.lfs_thread.specs.Steps.{no_pair}
 use Rattle.lfs_lookup.specs.AtPath.{ShowsAt}
-use Rattle.lfs_lookup.specs.AttributeAt.{AreHeld, IsPairCached, IsAttribute, IsShort, slot_shown}
+use Rattle.lfs_lookup.specs.AttributeAt.{AreAttributesOf, IsPairCached, IsAttribute, IsShortAttribute, slot_shown}
 use Rattle.lfs_lookup.specs.BytesAt.{IsSlotAt}
 use Rattle.lfs_lookup.specs.Paths.{IsSlotOf}
 use Rattle.lfs_lookup.specs.declared.found_entries.FoundAttribute.{FoundAttribute}
@@ -31,7 +31,7 @@ use Rattle.lfs_lookup.proofs.BytesAtSlots.{behind_below, slot_stands}
 
 -- ---- in a block
 
-attribute_kind : (s : RawSlot) (kind : ℕ) → kind < 2 ^ 8 → bytes_in (0x300 + kind) s ≡ attribute_of kind s.attributes
+attribute_kind : (s : RawSlot) (kind : ℕ) → kind < 2 ^ 8 → slot_bytes (0x300 + kind) s ≡ attribute_of kind s.attributes
 attribute_kind s kind l =
     let d : (0x300 + kind) / 2 ^ 8 ≡ 3 = omega (arith, l) in
     let m : (0x300 + kind) % 2 ^ 8 ≡ kind = omega (arith, l) in
@@ -46,8 +46,8 @@ same_attributes s t e = go s.name s.struct e
     go (Some n) None k = absurd (cc)
     go (Some n) (Some p) k = ap (λ (x : Slot). x.attributes) (same_Some (record { kind = kind_named n.0; name = n.1; struct = struct_typed p.0 p.1; attributes = s.attributes }) t k)
 
-pub attribute_held : (s : RawSlot) (t : Slot) (kind : ℕ) → kind < 2 ^ 8 → complete s ≡ Some t → bytes_in (0x300 + kind) s ≡ attribute_of kind t.attributes
-attribute_held s t kind l e = attribute_kind s kind l ∙ ap (attribute_of kind) (same_attributes s t e)
+pub attribute_if_slot : (s : RawSlot) (t : Slot) (kind : ℕ) → kind < 2 ^ 8 → complete s ≡ Some t → slot_bytes (0x300 + kind) s ≡ attribute_of kind t.attributes
+attribute_if_slot s t kind l e = attribute_kind s kind l ∙ ap (attribute_of kind) (same_attributes s t e)
 
 pub parts_of_id : (raw : List RawSlot) (id : ℕ) → HaveParts raw → HasParts (slot_of_id raw id)
 parts_of_id [] zero h = record { name = tt; struct = tt; attributes = tt }
@@ -63,7 +63,7 @@ short_one low (a ∷ xs) kind h = go (a.0 == kind) (short_one (a.0 + 1) xs kind 
     go true r = let l = h.2 in omega (arith, l)
     go false r = r
 
-pub short_in : (raw : List RawSlot) (id kind : ℕ) → kind < 2 ^ 8 → HaveParts raw → IfSome (bytes_in (0x300 + kind) (slot_of_id raw id)) (λ b. length b ≤ 1022)
+pub short_in : (raw : List RawSlot) (id kind : ℕ) → kind < 2 ^ 8 → HaveParts raw → IfSome (slot_bytes (0x300 + kind) (slot_of_id raw id)) (λ b. length b ≤ 1022)
 short_in raw id kind l h =
     subst (λ o. IfSome o (λ b. length b ≤ 1022)) (sym (attribute_kind (slot_of_id raw id) kind l)) (short_one 0 (slot_of_id raw id).attributes kind (parts_of_id raw id h).attributes)
 
@@ -71,7 +71,7 @@ pub short_result : (r : Option (Bor (List ℕ))) (o : Option (List ℕ)) → opt
 short_result None o e h = tt
 short_result (Some x) o e h = subst (λ z. IfSome z (λ b. length b ≤ 1022)) (sym e) h
 
-pub short_copy : (r : Option (Bor (List ℕ))) (found : Option (Vec ℕ Global)) → option_map (λ (v : Vec ℕ Global). v.items) found ≡ option_copied r → IfSome r (λ x. length x.now ≤ 1022) → IsShort found
+pub short_copy : (r : Option (Bor (List ℕ))) (found : Option (Vec ℕ Global)) → option_map (λ (v : Vec ℕ Global). v.items) found ≡ option_copied r → IfSome r (λ x. length x.now ≤ 1022) → IsShortAttribute found
 short_copy r None e h = tt
 short_copy None (Some v) e h = absurd (cc)
 short_copy (Some x) (Some v) e h = subst (λ b. length b ≤ 1022) (sym (same_Some v.items x.now e)) h
@@ -121,11 +121,11 @@ no_slot t path shown.ParentIsFile s e = ap attributes_of (nothing_at t.disk t.pa
 no_slot t path shown.ParentIsMissing s e = ap attributes_of (nothing_at t.disk t.pairs path (refused_none t.disk t.pairs path [] ops.NoEnt s.shows))
 
 -- the attributes of what is shown at a path are those of its slot
-pub are_held : (t : Kept) (path : Path) (x : Shown) (slot : Option Spot) → ShowsAt t path x → slot ≡ slot_shown x → AreHeld t slot (attributes_of (tree_in t.disk t.pairs path))
+pub are_held : (t : Kept) (path : Path) (x : Shown) (slot : Option Spot) → ShowsAt t path x → slot ≡ slot_shown x → AreAttributesOf t slot (attributes_of (tree_in t.disk t.pairs path))
 are_held t path x None s e = no_slot t path x s (sym e)
 are_held t path x (Some spot) s e = let f = slot_for t path x spot s (sym e) in (f.held, (f.there, f.attributes))
 
-pub held_later : (a b : Kept) (slot : Option Spot) (attributes : Attributes) → b.pairs ≡ a.pairs → AreHeld a slot attributes → AreHeld b slot attributes
+pub held_later : (a b : Kept) (slot : Option Spot) (attributes : Attributes) → b.pairs ≡ a.pairs → AreAttributesOf a slot attributes → AreAttributesOf b slot attributes
 held_later a b None attributes e h = h
 held_later a b (Some spot) attributes e h = (h.0, (subst (λ ps. slice_get (slice_index_or ps spot.pair no_pair).content.slots spot.id ≡ Some h.0) (sym e) h.1.0, h.1.1))
 
@@ -142,7 +142,7 @@ attribute_same kind old new r e h = subst (λ a. IfOk r (IsAttribute kind a)) e 
 pub attribute_then : (kind : ℕ) (old new : Attributes) (r : Result FoundAttribute Error) → old ≡ new → IfOk r (λ f. IsAttribute kind old f.bytes) → IfOk r (λ f. IsAttribute kind new f.bytes)
 attribute_then kind old new r e h = subst (λ a. IfOk r (λ f. IsAttribute kind a f.bytes)) e h
 
-pub attribute_given : (kind : ℕ) (attributes : Attributes) (r : Result FoundAttribute Error) → IfOk r (λ f. IsAttribute kind attributes f.bytes) → IfOk r (λ f. IsShort f.bytes)
+pub attribute_given : (kind : ℕ) (attributes : Attributes) (r : Result FoundAttribute Error) → IfOk r (λ f. IsAttribute kind attributes f.bytes) → IfOk r (λ f. IsShortAttribute f.bytes)
     → IfOk r (λ f. (option_map (λ (v : Vec ℕ Global). v.items) f.bytes ≡ attribute_of kind attributes) × IfSome f.bytes (λ v. length v.items ≤ 1022))
 attribute_given kind attributes (Ok found) is short = (is, short)
 attribute_given kind attributes (Err e) is short = tt

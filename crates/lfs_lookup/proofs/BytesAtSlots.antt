@@ -8,9 +8,9 @@ use Rattle.lfs_model.specs.TreeEdits.{bytes_at, is_file}
 use Rattle.lfs_model.specs.Content.{RawSlot, complete, complete_all, kind_named, slot_of_id, struct_typed}
 use Rattle.lfs_model.specs.EntryTypes.{inline_struct_type, directory_struct_type, pair_at}
 use Rattle.lfs_model.specs.Disk.{Disk, inline_limit}
-use Rattle.lfs_model.specs.InDirectory.{IsBehind, Stands}
+use Rattle.lfs_model.specs.InDirectory.{IsPairOfDirectory, HasNameAtPlace}
 use Rattle.lfs_model.specs.SkipLists.{data_of, blocks_back, blocks_for}
-use Rattle.lfs_model.specs.Lookup.{bytes_in, bytes_typed}
+use Rattle.lfs_model.specs.Lookup.{slot_bytes, bytes_typed}
 use Rattle.lfs_model.specs.Names.{Name}
 use Rattle.lfs_model.specs.Slots.{Slot, Struct, Inline, Ctz, Branch}
 use Rattle.lfs_model.specs.SlotEdits.{slot_of_path}
@@ -24,7 +24,7 @@ use Rattle.std.proofs.lemmas.List.Elements.{recursion_from_All}
 use Rattle.lfs_model.proofs.Counts.{Each, each_right}
 use Rattle.lfs_model.specs.Profile.{FitsSlot, HasInline, IsWritable}
 use Rattle.lfs_model.specs.View.{IsAccepted, IsListIfCtz}
-use Rattle.lfs_model.specs.Shown.{Leads, contents_in, entries_in, tree_in}
+use Rattle.lfs_model.specs.Shown.{PathLeadsTo, contents_in, entries_in, tree_in}
 use Rattle.lfs_model.proofs.Completed.{complete_parts}
 use Rattle.lfs_thread.specs.Kept.{Kept}
 use Rattle.lfs_thread.specs.Steps.{no_pair}
@@ -55,7 +55,7 @@ raw_slot (s ∷ raw) slots (suc id) t e is =
 same_inline : (a b : List ℕ) → Inline a ≡ Inline b → a ≡ b
 same_inline a b e = cc
 
-pub inline_held : (s : RawSlot) (t : Slot) (bytes : List ℕ) → complete s ≡ Some t → t.struct ≡ Inline bytes → bytes_in inline_struct_type s ≡ Some bytes
+pub inline_held : (s : RawSlot) (t : Slot) (bytes : List ℕ) → complete s ≡ Some t → t.struct ≡ Inline bytes → slot_bytes inline_struct_type s ≡ Some bytes
 inline_held s t bytes e h = go s.name s.struct e
   where
     by_type : (held : List ℕ) (to : ℕ × ℕ) (head size : ℕ) (a b : Bool) → cond a (Inline held) (cond b (Branch to) (Ctz head size)) ≡ Inline bytes → cond a (Some held) None ≡ Some bytes
@@ -81,19 +81,19 @@ slot_behind : (left : List Slot) (s : Slot) (right : List Slot) → slice_get (l
 slot_behind [] s right = refl
 slot_behind (x ∷ left) s right = slot_behind left s right
 
-pub behind_below : (ps : List Pair) (first index : ℕ) (pair : Pair) (rest : List Pair) → IsBehind ps first index pair rest → index < length ps
+pub behind_below : (ps : List Pair) (first index : ℕ) (pair : Pair) (rest : List Pair) → IsPairOfDirectory ps first index pair rest → index < length ps
 behind_below ps first index pair rest b =
     let l = ap length b.parts ∙ length-append b.front (b.left ++ pair ∷ rest) in
     let m = length-append b.left (pair ∷ rest) in
     let n = b.number in
     omega (arith, l, m, n)
 
-pub pair_is : (ps : List Pair) (first index : ℕ) (pair : Pair) (rest : List Pair) (d : Pair) → IsBehind ps first index pair rest → get_or ps index d ≡ pair
+pub pair_is : (ps : List Pair) (first index : ℕ) (pair : Pair) (rest : List Pair) (d : Pair) → IsPairOfDirectory ps first index pair rest → get_or ps index d ≡ pair
 pair_is ps first index pair rest d b =
     let n : length (b.front ++ b.left) ≡ index = length-append b.front b.left ∙ b.number in
     ap₂ (λ qs i. get_or qs i d) (b.parts ∙ sym (append_assoc b.front b.left (pair ∷ rest))) (sym n) ∙ pair_behind (b.front ++ b.left) pair rest d
 
-pub slot_stands : (ps : List Pair) (first : ℕ) (name : Name) (index id : ℕ) (s : Stands ps first name index id) → slice_get (get_or ps index no_pair).content.slots id ≡ Some s.stands.slot
+pub slot_stands : (ps : List Pair) (first : ℕ) (name : Name) (index id : ℕ) (s : HasNameAtPlace ps first name index id) → slice_get (get_or ps index no_pair).content.slots id ≡ Some s.stands.slot
 slot_stands ps first name index id s =
     ap (λ (p : Pair). slice_get p.content.slots id) (pair_is ps first index s.pair s.rest no_pair s.place)
     ∙ ap₂ (λ xs i. slice_get xs i) s.stands.held (sym s.stands.number) ∙ slot_behind s.stands.left s.stands.slot s.stands.right
@@ -151,7 +151,7 @@ module _ (t : Kept) (path : Path) where
   not_file shown.ParentIsMissing s e = ap is_file (nothing_at t.disk t.pairs path (refused_none t.disk t.pairs path [] ops.NoEnt s.shows))
 
 -- an entry of the writing profile has few bytes in its slot
-inline_within : (disk : Disk) (ps : List Pair) (first : ℕ) (name : Name) (index id : ℕ) (s : Stands ps first name index id) → IsWritable disk ps → HasInline (inline_limit disk.block_size) s.stands.slot.struct
+inline_within : (disk : Disk) (ps : List Pair) (first : ℕ) (name : Name) (index id : ℕ) (s : HasNameAtPlace ps first name index id) → IsWritable disk ps → HasInline (inline_limit disk.block_size) s.stands.slot.struct
 inline_within disk ps first name index id s fits =
     let fit : Slot → Type 0 = FitsSlot disk.block_size disk.page in
     let all = recursion_from_All (λ (p : Pair). All fit p.content.slots) ps fits.slots in

@@ -17,10 +17,10 @@ use Rattle.lfs_model.specs.Slots.{Slot, Struct, Inline, Ctz, Branch}
 use Rattle.lfs_model.specs.Thread.{gstate_of}
 use Rattle.lfs_model.specs.Tree.{Path, Tree, branch_of, node_of}
 use Rattle.lfs_model.specs.View.{IsAccepted}
-use Rattle.lfs_model.specs.Shown.{Leads, contents_in, entries_in, tree_in}
+use Rattle.lfs_model.specs.Shown.{PathLeadsTo, contents_in, entries_in, tree_in}
 use Rattle.lfs_thread.specs.Kept.{Kept}
 use Rattle.lfs_thread.specs.Steps.{IsOnlyRead}
-use Rattle.lfs_lookup.specs.Paths.{BeginsOnPath, Descends, Enters, IsHiding, IsShownAt, IsThere, LeadsTo, ShowsTo}
+use Rattle.lfs_lookup.specs.Paths.{BeginsOnPath, Descends, Enters, HidesOnly, IsShownAt, IsEntryOfName, LeadsTo, ShowsTo}
 use Rattle.lfs_lookup.specs.Search.{HidesFrom}
 use Rattle.lfs_lookup.specs.declared.search.Spot.{Spot}
 use Rattle.lfs_lookup.specs.declared.paths.Shown.{Shown}
@@ -85,7 +85,7 @@ fault_step t above n [] name = refl
 fault_step t above n (r ∷ rest) name = refl
 
 -- a directory refuses nothing
-pub directory_is : (t : Kept) (path : Path) (at : ℕ × ℕ) → Leads t.pairs path at → directory_fault (tree_in t.disk t.pairs path) ≡ None
+pub directory_is : (t : Kept) (path : Path) (at : ℕ × ℕ) → PathLeadsTo t.pairs path at → directory_fault (tree_in t.disk t.pairs path) ≡ None
 directory_is t path at leads = go (slot_of_path t.pairs path) leads
   where
     by_struct : (f : Slot) (s : Struct) → branch_of s ≡ Some at → directory_fault (Some (node_of (contents_in t.disk) (entries_in t.pairs) f.attributes s)) ≡ None
@@ -174,7 +174,7 @@ pub sum_is : (f : Path → ℕ) (path above : Path) (n : Name) → path ≡ abov
 sum_is f path above n e = ap (λ p. sum_by f (parents p)) e ∙ sum_on f above n
 
 module _ (t : Kept) (path above : Path) (n : Name) (is : path ≡ above ++ n ∷ []) where
-  pub leads_there : (found : Found) → parent_fault (tree_in t.disk t.pairs) [] (above ++ n ∷ []) ≡ None → IsThere t.disk.order t.pairs above n found → LeadsTo t path found
+  pub leads_there : (found : Found) → parent_fault (tree_in t.disk t.pairs) [] (above ++ n ∷ []) ≡ None → IsEntryOfName t.disk.order t.pairs above n found → LeadsTo t path found
   leads_there (found.Directory parent slot first) e there = record { parents = ap (parent_fault (tree_in t.disk t.pairs) []) is ∙ e; there = record { above = above; name = n; is = is; there = there } }
   leads_there (found.File parent slot contents) e there = record { parents = ap (parent_fault (tree_in t.disk t.pairs) []) is ∙ e; there = record { above = above; name = n; is = is; there = there } }
   leads_there (found.Nothing parent place) e there = record { parents = ap (parent_fault (tree_in t.disk t.pairs) []) is ∙ e; there = record { above = above; name = n; is = is; there = there } }
@@ -189,11 +189,11 @@ module _ (t : Kept) (path above : Path) (n : Name) (is : path ≡ above ++ n ∷
   leads_past_nothing d = record { parents = ap (parent_fault (tree_in t.disk t.pairs) []) is ∙ d.fault n; there = tt }
 
 pub looked_in : (t next : Kept) → IsOnlyRead t next → (above : Path) (n : Name) (first : ℕ) (result : Result Found Error) → BeginsOnPath t.pairs above first
-    → IfOk result (λ found. (above : Path) → BeginsOnPath next.pairs above first → IsThere next.disk.order next.pairs above n found) → (path : Path) → path ≡ above ++ n ∷ []
+    → IfOk result (λ found. (above : Path) → BeginsOnPath next.pairs above first → IsEntryOfName next.disk.order next.pairs above n found) → (path : Path) → path ≡ above ++ n ∷ []
     → parent_fault (tree_in t.disk t.pairs) [] (above ++ n ∷ []) ≡ None → IfOk result (LeadsTo t path)
 looked_in t next r above n first (Err e) on answer path is fault = tt
 looked_in t next r above n first (Ok found) on answer path is fault =
-    leads_there t path above n is found fault (subst₂ (λ (d : Disk) ps. IsThere d.order ps above n found) r.disk r.pairs (answer above (begins_same t next r above first on)))
+    leads_there t path above n is found fault (subst₂ (λ (d : Disk) ps. IsEntryOfName d.order ps above n found) r.disk r.pairs (answer above (begins_same t next r above first on)))
 
 shows_there : (t : Kept) (moved : Option Spot) (path : Path) (s : Shown) → parent_fault (tree_in t.disk t.pairs) [] path ≡ None → IsShownAt t.pairs moved path s → ShowsTo t moved path s
 shows_there t moved path (shown.Directory spot first) e there = (e, there)
@@ -210,7 +210,7 @@ showed_in t next moved r above n first (Err e) on answer path is fault = tt
 showed_in t next moved r above n first (Ok s) on answer path is fault =
     subst (λ p. ShowsTo t moved p s) (sym is) (shows_there t moved (above ++ n ∷ []) s fault (subst (λ ps. IsShownAt ps moved (above ++ n ∷ []) s) r.pairs (answer above (begins_same t next r above first on))))
 
-pub hiding_same : (a b : Kept) (moved : Option Spot) → IsOnlyRead a b → IsHiding a moved → IsHiding b moved
+pub hiding_same : (a b : Kept) (moved : Option Spot) → IsOnlyRead a b → HidesOnly a moved → HidesOnly b moved
 hiding_same a b moved r h = record {
   accepted = subst (λ d. IsAccepted d b.pairs) (sym r.disk) (subst (IsAccepted a.disk) (sym r.pairs) h.accepted);
   hides = subst (λ ps. HidesFrom (gstate_of ps) moved 0 ps) (sym r.pairs) h.hides;

@@ -9,10 +9,10 @@ use Rattle.std.proofs.lemmas.Option.{same_Some, slice_get_within}
 use Rattle.lfs_model.specs.Frame.{pairs_at}
 use Rattle.lfs_model.specs.Disk.{Disk}
 use Rattle.lfs_model.specs.Slots.{Gstate, same_pair}
-use Rattle.lfs_model.specs.Thread.{Pair, blocks_of, directories_of, directory_pairs, entries_of, gstate_of, is_hard, superblocks_before, visible}
+use Rattle.lfs_model.specs.Thread.{Pair, blocks_of, directories_of, directory_pairs, entries_of, gstate_of, is_hard, superblocks_before, entries_not_moved}
 use Rattle.lfs_model.specs.Tree.{Path}
 use Rattle.lfs_model.specs.View.{IsAccepted}
-use Rattle.lfs_model.specs.Shown.{Leads, entries_in}
+use Rattle.lfs_model.specs.Shown.{PathLeadsTo, entries_in}
 use Rattle.lfs_model.specs.InDirectory.{BeginsAt, run_length}
 use Rattle.lfs_model.proofs.Counts.{Each}
 use Rattle.lfs_model.proofs.Pairs.{pair_back, pair_on}
@@ -21,60 +21,60 @@ use Rattle.lfs_model.proofs.Searches.{directory_pairs_at, same_number}
 use Rattle.lfs_model.proofs.Found.{HasDirectory, chain_of_thread, led_directory}
 use Rattle.lfs_lookup.specs.AtPath.{has_entries_from}
 use Rattle.lfs_lookup.specs.Items.{Shape, shape_of}
-use Rattle.lfs_lookup.specs.Listed.{joined_run, length_from, run_from, shapes_from}
+use Rattle.lfs_lookup.specs.Listed.{hard_tail_run, hard_tail_run_length, hard_tail_run_from, shapes_from}
 
 -- ---- along the hard tails
 
 pub run_on : (ps : List Pair) (index : ℕ) (d : Pair) → index < length ps →
-    joined_run (drop index ps) ≡ get_or ps index d ∷ cond (is_hard (get_or ps index d).content.tail) (joined_run (drop (index + 1) ps)) []
+    hard_tail_run (drop index ps) ≡ get_or ps index d ∷ cond (is_hard (get_or ps index d).content.tail) (hard_tail_run (drop (index + 1) ps)) []
 run_on [] index d l = absurd (omega arith)
 run_on (p ∷ ps) zero d l = refl
 run_on (p ∷ ps) (suc index) d l =
     let e : suc index + 1 ≡ suc (index + 1) = omega arith in
-    run_on ps index d (omega arith) ∙ ap (λ n. get_or ps index d ∷ cond (is_hard (get_or ps index d).content.tail) (joined_run (drop n (p ∷ ps))) []) (sym e)
+    run_on ps index d (omega arith) ∙ ap (λ n. get_or ps index d ∷ cond (is_hard (get_or ps index d).content.tail) (hard_tail_run (drop n (p ∷ ps))) []) (sym e)
 
 -- where it has a hard tail, the next ones follow
 pub run_hard_on : (ps : List Pair) (index next : ℕ) (d : Pair) → index < length ps → is_hard (get_or ps index d).content.tail ≡ true → next ≡ index + 1 →
-    joined_run (drop index ps) ≡ get_or ps index d ∷ joined_run (drop next ps)
+    hard_tail_run (drop index ps) ≡ get_or ps index d ∷ hard_tail_run (drop next ps)
 run_hard_on ps index next d l hard e =
-    run_on ps index d l ∙ ap (λ b. get_or ps index d ∷ cond b (joined_run (drop (index + 1) ps)) []) hard ∙ ap (λ (n : ℕ). get_or ps index d ∷ joined_run (drop n ps)) (sym e)
+    run_on ps index d l ∙ ap (λ b. get_or ps index d ∷ cond b (hard_tail_run (drop (index + 1) ps)) []) hard ∙ ap (λ (n : ℕ). get_or ps index d ∷ hard_tail_run (drop n ps)) (sym e)
 
-pub run_some_on : (ps : List Pair) (index : ℕ) (d : Pair) → index < length ps → 1 ≤ length (joined_run (drop index ps))
+pub run_some_on : (ps : List Pair) (index : ℕ) (d : Pair) → index < length ps → 1 ≤ length (hard_tail_run (drop index ps))
 run_some_on ps index d l = let e = ap length (run_on ps index d l) in omega (arith, e)
 
 -- the one of that number, and those that follow; qs are the cached pairs then
 pub run_next : (ps qs : List Pair) (index : ℕ) (d : Pair) (from next : Option ℕ) → qs ≡ ps → from ≡ Some index → index < length ps → next ≡ cond (is_hard (get_or qs index d).content.tail) (Some (index + 1)) None →
-    run_from ps from ≡ get_or qs index d ∷ run_from ps next
+    hard_tail_run_from ps from ≡ get_or qs index d ∷ hard_tail_run_from ps next
 run_next ps qs index d from next same at l e =
-    ap (run_from ps) at ∙ run_on ps index d l ∙ ap (λ p. p ∷ cond (is_hard p.content.tail) (joined_run (drop (index + 1) ps)) []) (sym (ap (λ rs. get_or rs index d) same))
-    ∙ ap (λ run. get_or qs index d ∷ run) (go (is_hard (get_or qs index d).content.tail) ∙ ap (run_from ps) (sym e))
+    ap (hard_tail_run_from ps) at ∙ run_on ps index d l ∙ ap (λ p. p ∷ cond (is_hard p.content.tail) (hard_tail_run (drop (index + 1) ps)) []) (sym (ap (λ rs. get_or rs index d) same))
+    ∙ ap (λ run. get_or qs index d ∷ run) (go (is_hard (get_or qs index d).content.tail) ∙ ap (hard_tail_run_from ps) (sym e))
   where
-    go : (b : Bool) → cond b (joined_run (drop (index + 1) ps)) [] ≡ run_from ps (cond b (Some (index + 1)) None)
+    go : (b : Bool) → cond b (hard_tail_run (drop (index + 1) ps)) [] ≡ hard_tail_run_from ps (cond b (Some (index + 1)) None)
     go true = refl
     go false = refl
 
 -- what the pairs from a number on show is what the pair of that number shows, and what those show that follow
 pub shapes_on : (ps : List Pair) (index : ℕ) (d : Pair) (next : Option ℕ) → index < length ps → next ≡ cond (is_hard (get_or ps index d).content.tail) (Some (index + 1)) None →
-    shapes_from ps (Some index) ≡ map shape_of (visible (gstate_of ps) (get_or ps index d)) ++ shapes_from ps next
+    shapes_from ps (Some index) ≡ map shape_of (entries_not_moved (gstate_of ps) (get_or ps index d)) ++ shapes_from ps next
 shapes_on ps index d next l e =
-    ap (λ run. map shape_of (flat_map (visible (gstate_of ps)) run)) (run_on ps index d l)
-    ∙ map-append shape_of (visible (gstate_of ps) (get_or ps index d)) (flat_map (visible (gstate_of ps)) (cond (is_hard (get_or ps index d).content.tail) (joined_run (drop (index + 1) ps)) []))
-    ∙ ap (λ run. map shape_of (visible (gstate_of ps) (get_or ps index d)) ++ map shape_of (flat_map (visible (gstate_of ps)) run))
-    (go (is_hard (get_or ps index d).content.tail) ∙ ap (run_from ps) (sym e))
+    ap (λ run. map shape_of (flat_map (entries_not_moved (gstate_of ps)) run)) (run_on ps index d l)
+    ∙ map-append shape_of (entries_not_moved (gstate_of ps) (get_or ps index d)) (flat_map (entries_not_moved (gstate_of ps)) (cond (is_hard (get_or ps index d).content.tail) (hard_tail_run (drop (index + 1) ps)) []))
+    ∙ ap (λ run. map shape_of (entries_not_moved (gstate_of ps) (get_or ps index d)) ++ map shape_of (flat_map (entries_not_moved (gstate_of ps)) run))
+    (go (is_hard (get_or ps index d).content.tail) ∙ ap (hard_tail_run_from ps) (sym e))
   where
-    go : (b : Bool) → cond b (joined_run (drop (index + 1) ps)) [] ≡ run_from ps (cond b (Some (index + 1)) None)
+    go : (b : Bool) → cond b (hard_tail_run (drop (index + 1) ps)) [] ≡ hard_tail_run_from ps (cond b (Some (index + 1)) None)
     go true = refl
     go false = refl
 
 -- one pair more was listed; qs are the cached pairs then
 pub list_on : (ps qs : List Pair) (first index : ℕ) (d : Pair) (from next : Option ℕ) (olds more news : List Shape) → qs ≡ ps → from ≡ Some index → index < length ps →
-    more ≡ map shape_of (visible (gstate_of qs) (get_or qs index d)) → next ≡ cond (is_hard (get_or qs index d).content.tail) (Some (index + 1)) None → news ≡ olds ++ more →
+    more ≡ map shape_of (entries_not_moved (gstate_of qs) (get_or qs index d)) → next ≡ cond (is_hard (get_or qs index d).content.tail) (Some (index + 1)) None → news ≡ olds ++ more →
     olds ++ shapes_from ps from ≡ shapes_from ps (Some first) → news ++ shapes_from ps next ≡ shapes_from ps (Some first)
 list_on ps qs first index d from next olds more news same at l m n o before =
-    let shown = m ∙ ap (λ rs. map shape_of (visible (gstate_of rs) (get_or rs index d))) same in
+    let shown = m ∙ ap (λ rs. map shape_of (entries_not_moved (gstate_of rs) (get_or rs index d))) same in
     let goes = n ∙ ap (λ rs. cond (is_hard (get_or rs index d).content.tail) (Some (index + 1)) None) same in
     ap (λ z. z ++ shapes_from ps next) (o ∙ ap (λ z. olds ++ z) shown)
-    ∙ append_assoc olds (map shape_of (visible (gstate_of ps) (get_or ps index d))) (shapes_from ps next)
+    ∙ append_assoc olds (map shape_of (entries_not_moved (gstate_of ps) (get_or ps index d))) (shapes_from ps next)
     ∙ ap (λ z. olds ++ z) (sym (shapes_on ps index d next l goes) ∙ ap (shapes_from ps) (sym at))
     ∙ before
 
@@ -89,25 +89,25 @@ run_step (p ∷ ps) (suc index) d l =
 
 -- one is read, the others are left
 pub length_on : (ps qs : List Pair) (index : ℕ) (d : Pair) (from next : Option ℕ) → qs ≡ ps → from ≡ Some index → index < length ps →
-    next ≡ cond (is_hard (get_or qs index d).content.tail) (Some (index + 1)) None → length_from ps from ≡ 1 + length_from ps next
+    next ≡ cond (is_hard (get_or qs index d).content.tail) (Some (index + 1)) None → hard_tail_run_length ps from ≡ 1 + hard_tail_run_length ps next
 length_on ps qs index d from next same at l n =
-    ap (length_from ps) at ∙ run_step ps index d l ∙ go (is_hard (get_or ps index d).content.tail)
-    ∙ ap (λ o. 1 + length_from ps o) (sym (n ∙ ap (λ rs. cond (is_hard (get_or rs index d).content.tail) (Some (index + 1)) None) same))
+    ap (hard_tail_run_length ps) at ∙ run_step ps index d l ∙ go (is_hard (get_or ps index d).content.tail)
+    ∙ ap (λ o. 1 + hard_tail_run_length ps o) (sym (n ∙ ap (λ rs. cond (is_hard (get_or rs index d).content.tail) (Some (index + 1)) None) same))
   where
-    go : (b : Bool) → cond b (1 + run_length (drop (index + 1) ps)) 1 ≡ 1 + length_from ps (cond b (Some (index + 1)) None)
+    go : (b : Bool) → cond b (1 + run_length (drop (index + 1) ps)) 1 ≡ 1 + hard_tail_run_length ps (cond b (Some (index + 1)) None)
     go true = refl
     go false = refl
 
-pub length_some : (ps : List Pair) (index : ℕ) (d : Pair) (from : Option ℕ) → from ≡ Some index → index < length ps → 1 ≤ length_from ps from
+pub length_some : (ps : List Pair) (index : ℕ) (d : Pair) (from : Option ℕ) → from ≡ Some index → index < length ps → 1 ≤ hard_tail_run_length ps from
 length_some ps index d from at l =
     let next = cond (is_hard (get_or ps index d).content.tail) (Some (index + 1)) None in
     let e = length_on ps ps index d from next refl at l refl in
     omega (arith, e)
 
 -- a run of pairs, cut out of the thread
-pub run_is : (p : Pair) (run after : List Pair) → IsRun (p ∷ run) → joined_run (p ∷ run ++ after) ≡ p ∷ run
-run_is p [] after h = ap (λ b. p ∷ cond b (joined_run after) []) h
-run_is p (q ∷ run) after h = ap (λ b. p ∷ cond b (joined_run (q ∷ run ++ after)) []) h.0 ∙ ap (λ ps. p ∷ ps) (run_is q run after h.1)
+pub run_is : (p : Pair) (run after : List Pair) → IsRun (p ∷ run) → hard_tail_run (p ∷ run ++ after) ≡ p ∷ run
+run_is p [] after h = ap (λ b. p ∷ cond b (hard_tail_run after) []) h
+run_is p (q ∷ run) after h = ap (λ b. p ∷ cond b (hard_tail_run (q ∷ run ++ after)) []) h.0 ∙ ap (λ ps. p ∷ ps) (run_is q run after h.1)
 
 -- ---- numbers
 
@@ -129,7 +129,7 @@ pub record IsCutAt (ps : List Pair) (a : ℕ × ℕ) : Type 0 where
   pub first_is : ps ≡ chain ++ directory_pairs ps
   pub is : ps ≡ (chain ++ directory.before) ++ (directory.first ∷ directory.run ++ directory.after)
 
-pub cut_at : (disk : Disk) (ps : List Pair) (P : Path) (a : ℕ × ℕ) → IsAccepted disk ps → Leads ps P a → IsCutAt ps a
+pub cut_at : (disk : Disk) (ps : List Pair) (P : Path) (a : ℕ × ℕ) → IsAccepted disk ps → PathLeadsTo ps P a → IsCutAt ps a
 cut_at disk ps P a ok leads =
     let d = led_directory disk ps P a ok leads in
     let c = chain_of_thread ps in
@@ -141,7 +141,7 @@ cut_at disk ps P a ok leads =
     }
 
 -- the directory begins with a pair of the thread
-pub begins_with : (disk : Disk) (ps : List Pair) (P : Path) (a : ℕ × ℕ) → IsAccepted disk ps → Leads ps P a → (n : ℕ) × BeginsAt ps a n
+pub begins_with : (disk : Disk) (ps : List Pair) (P : Path) (a : ℕ × ℕ) → IsAccepted disk ps → PathLeadsTo ps P a → (n : ℕ) × BeginsAt ps a n
 begins_with disk ps P a ok leads =
     let c = cut_at disk ps P a ok leads in (
       length (c.chain ++ c.directory.before),
@@ -153,26 +153,26 @@ begins_with disk ps P a ok leads =
     )
 
 -- the pairs from a number on are those of the directory that begins there
-module _ (disk : Disk) (ps : List Pair) (P : Path) (a : ℕ × ℕ) (n : ℕ) (ok : IsAccepted disk ps) (leads : Leads ps P a) (b : BeginsAt ps a n) where
+module _ (disk : Disk) (ps : List Pair) (P : Path) (a : ℕ × ℕ) (n : ℕ) (ok : IsAccepted disk ps) (leads : PathLeadsTo ps P a) (b : BeginsAt ps a n) where
   abbrev cut_here : IsCutAt ps a
   cut_here = cut_at disk ps P a ok leads
 
-  run_here : joined_run (drop n ps) ≡ cut_here.directory.first ∷ cut_here.directory.run
+  run_here : hard_tail_run (drop n ps) ≡ cut_here.directory.first ∷ cut_here.directory.run
   run_here =
       let c = cut_at disk ps P a ok leads in
       let d = c.directory in
       let number = same_number ps (length (c.chain ++ d.before)) n d.first b.pair ok.thread.distinct
       (ap (λ z. slice_get z (length (c.chain ++ d.before))) c.is ∙ get_first (c.chain ++ d.before) d.first (d.run ++ d.after)) b.there (pair_on d.first.at a b.pair.at d.at (pair_back b.pair.at a b.same)) in
-      ap₂ (λ k z. joined_run (drop k z)) (sym number) c.is ∙ ap joined_run (drop-append_seam (c.chain ++ d.before) (d.first ∷ d.run ++ d.after)) ∙ run_is d.first d.run d.after d.is_run
+      ap₂ (λ k z. hard_tail_run (drop k z)) (sym number) c.is ∙ ap hard_tail_run (drop-append_seam (c.chain ++ d.before) (d.first ∷ d.run ++ d.after)) ∙ run_is d.first d.run d.after d.is_run
 
-  pub own_pairs : joined_run (drop n ps) ≡ pairs_at ps a
+  pub own_pairs : hard_tail_run (drop n ps) ≡ pairs_at ps a
   own_pairs = run_here ∙ sym (directory_pairs_at disk ps P a ok leads cut_here.directory)
 
-pub own_run : (disk : Disk) (ps : List Pair) (P : Path) (a : ℕ × ℕ) (n : ℕ) → IsAccepted disk ps → Leads ps P a → BeginsAt ps a n →
-    flat_map (visible (gstate_of ps)) (joined_run (drop n ps)) ≡ entries_in ps a
+pub own_run : (disk : Disk) (ps : List Pair) (P : Path) (a : ℕ × ℕ) (n : ℕ) → IsAccepted disk ps → PathLeadsTo ps P a → BeginsAt ps a n →
+    flat_map (entries_not_moved (gstate_of ps)) (hard_tail_run (drop n ps)) ≡ entries_in ps a
 own_run disk ps P a n ok leads b =
-    ap (flat_map (visible g)) (run_here disk ps P a n ok leads b)
-    ∙ sym (ap (λ ds. entries_of ds a) directories_are ∙ entries_own (directories_of g d.before) (listing d.first.at (flat_map (visible g) (d.first ∷ d.run))) (directories_of g d.after) a apart d.at)
+    ap (flat_map (entries_not_moved g)) (run_here disk ps P a n ok leads b)
+    ∙ sym (ap (λ ds. entries_of ds a) directories_are ∙ entries_own (directories_of g d.before) (listing d.first.at (flat_map (entries_not_moved g) (d.first ∷ d.run))) (directories_of g d.after) a apart d.at)
   where
     g : Gstate
     g = gstate_of ps
@@ -183,13 +183,13 @@ own_run disk ps P a n ok leads b =
     d : HasDirectory (directory_pairs ps) a
     d = c.directory
 
-    directories_are : directories_of g (directory_pairs ps) ≡ directories_of g d.before ++ listing d.first.at (flat_map (visible g) (d.first ∷ d.run)) ∷ directories_of g d.after
+    directories_are : directories_of g (directory_pairs ps) ≡ directories_of g d.before ++ listing d.first.at (flat_map (entries_not_moved g) (d.first ∷ d.run)) ∷ directories_of g d.after
     directories_are = ap (directories_of g) d.is ∙ run_directories g d.before d.first d.run d.after d.ends d.is_run
 
-    apart : Apart (directories_of g d.before ++ listing d.first.at (flat_map (visible g) (d.first ∷ d.run)) ∷ directories_of g d.after)
+    apart : Apart (directories_of g d.before ++ listing d.first.at (flat_map (entries_not_moved g) (d.first ∷ d.run)) ∷ directories_of g d.after)
     apart = subst Apart directories_are (distinct_apart g (directory_pairs ps) (distinct_right c.chain (directory_pairs ps) (subst (λ z. IsDistinct nat_eq (blocks_of z)) c.first_is ok.thread.distinct)))
 
-pub own_shapes : (disk : Disk) (ps : List Pair) (P : Path) (a : ℕ × ℕ) (n : ℕ) → IsAccepted disk ps → Leads ps P a → BeginsAt ps a n →
+pub own_shapes : (disk : Disk) (ps : List Pair) (P : Path) (a : ℕ × ℕ) (n : ℕ) → IsAccepted disk ps → PathLeadsTo ps P a → BeginsAt ps a n →
     shapes_from ps (Some n) ≡ map shape_of (entries_in ps a)
 own_shapes disk ps P a n ok leads b = ap (map shape_of) (own_run disk ps P a n ok leads b)
 

@@ -3,7 +3,7 @@ use Rattle.std.proofs.Common.{refl, ℕ, ◌≡◌, ◌+◌, false, List, [], �
 use Rattle.std.specs.Prelude.{IfNone, IsSome}
 use Rattle.std.specs.List.{AllByRecursion}
 use Rattle.std.specs.Option.{option_and_then, option_map}
-use Rattle.lfs_model.specs.InDirectory.{Belongs, HaveNoSuperblock, Stands}
+use Rattle.lfs_model.specs.InDirectory.{BelongsInDirectory, HaveNoSuperblock, HasNameAtPlace}
 use Rattle.lfs_model.specs.Names.{Name}
 use Rattle.lfs_model.specs.Operations.{NoEnt, NotDir}
 use Rattle.lfs_model.specs.Session.{directory_fault}
@@ -12,7 +12,7 @@ use Rattle.lfs_model.specs.Slots.{Slot, Branch, same_pair, no_gstate}
 use Rattle.lfs_model.specs.Thread.{Pair, directory_pairs}
 use Rattle.lfs_model.specs.Tree.{Path, branch_of, node_of}
 use Rattle.lfs_model.specs.View.{IsAccepted}
-use Rattle.lfs_model.specs.Shown.{Leads, contents_in, entries_in, tree_in}
+use Rattle.lfs_model.specs.Shown.{PathLeadsTo, contents_in, entries_in, tree_in}
 use Rattle.lfs_model.proofs.Committed.{no_move_from}
 use Rattle.lfs_model.proofs.Counts.{each_right}
 use Rattle.lfs_model.proofs.Found.{chain_of_thread, led_directory}
@@ -22,13 +22,13 @@ use Rattle.lfs_thread.specs.Kept.{Kept}
 use Rattle.lfs_lookup.specs.Entry.{ShowsContents}
 use Rattle.lfs_lookup.specs.declared.entry.FileStorage.{FileStorage}
 use Rattle.lfs_lookup.specs.declared.entry.FileStorage.TheVariants as contents
-use Rattle.lfs_lookup.specs.Paths.{BeginsOnPath, IsHiding, HasNothingSet}
+use Rattle.lfs_lookup.specs.Paths.{BeginsOnPath, HidesOnly, HasNothingToRecover}
 use Rattle.lfs_lookup.specs.Search.{HidesFrom, IsAbsentAlong, IsShown}
 use Rattle.lfs_lookup.specs.declared.entry.Entry.{Entry}
 use Rattle.lfs_lookup.specs.declared.search.Spot.{Spot}
 use Rattle.lfs_lookup.proofs.ShownSlots.{shown_is, absent_is_shown}
 
-module _ (t : Kept) (ok : HasNothingSet t) (path : Path) (first : ℕ) (on : BeginsOnPath t.pairs path first) where
+module _ (t : Kept) (ok : HasNothingToRecover t) (path : Path) (first : ℕ) (on : BeginsOnPath t.pairs path first) where
   pub plain_on : HaveNoSuperblock (drop (first + 1) t.pairs)
   plain_on =
       let i = begins_directory t.disk t.pairs path on.at first ok.accepted on.leads on.begins in
@@ -36,21 +36,21 @@ module _ (t : Kept) (ok : HasNothingSet t) (path : Path) (first : ℕ) (on : Beg
 
   -- ---- a name that stands there
 
-  module _ (name : Name) (pair id : ℕ) (s : Stands t.pairs first name pair id) where
+  module _ (name : Name) (pair id : ℕ) (s : HasNameAtPlace t.pairs first name pair id) where
     pub slot_is : slot_of_path t.pairs (path ++ name ∷ []) ≡ Some s.stands.slot
     slot_is = slot_of_stands t.disk t.pairs path on.at ok.accepted on.leads first pair id name (no_move_from t.pairs ok.settled) s on.begins
 
-    pub leads_to : (to : ℕ × ℕ) → s.stands.slot.struct ≡ Branch to → Leads t.pairs (path ++ name ∷ []) to
+    pub leads_to : (to : ℕ × ℕ) → s.stands.slot.struct ≡ Branch to → PathLeadsTo t.pairs (path ++ name ∷ []) to
     leads_to to e = ap (option_and_then (λ (f : Slot). branch_of f.struct)) slot_is ∙ ap branch_of e
 
   -- ---- a name that belongs there
 
-  pub absent_is : (name : Name) (pair id : ℕ) → Belongs t.disk.order t.pairs first name pair id → slot_of_path t.pairs (path ++ name ∷ []) ≡ None
+  pub absent_is : (name : Name) (pair id : ℕ) → BelongsInDirectory t.disk.order t.pairs first name pair id → slot_of_path t.pairs (path ++ name ∷ []) ≡ None
   absent_is name pair id b = (nothing_there t.disk t.pairs path on.at _ name on.leads (place_of_belongs t.disk t.pairs path on.at ok.accepted on.leads first pair id name (no_move_from t.pairs ok.settled) b on.begins)).0
 
 -- ---- a directory that a path leads to is at its address
 
-pub is_somewhere : (t : Kept) → IsAccepted t.disk t.pairs → (path : Path) (at : ℕ × ℕ) → Leads t.pairs path at → AllByRecursion (λ p. same_pair p.at at ≡ false) t.pairs → ⊥
+pub is_somewhere : (t : Kept) → IsAccepted t.disk t.pairs → (path : Path) (at : ℕ × ℕ) → PathLeadsTo t.pairs path at → AllByRecursion (λ p. same_pair p.at at ≡ false) t.pairs → ⊥
 is_somewhere t ok path at leads none =
     let d = led_directory t.disk t.pairs path at ok leads in
     let chain = (chain_of_thread t.pairs).0 in
@@ -65,7 +65,7 @@ some_there (Some x) P h not_so = search rules
 -- ---- by the slot at a path
 
 module _ (t : Kept) (path : Path) (slot : Slot) (is : slot_of_path t.pairs path ≡ Some slot) where
-  pub leads_by : (to : ℕ × ℕ) → slot.struct ≡ Branch to → Leads t.pairs path to
+  pub leads_by : (to : ℕ × ℕ) → slot.struct ≡ Branch to → PathLeadsTo t.pairs path to
   leads_by to e = ap (option_and_then (λ (f : Slot). branch_of f.struct)) is ∙ ap branch_of e
 
   node_by : tree_in t.disk t.pairs path ≡ Some (node_of (contents_in t.disk) (entries_in t.pairs) slot.attributes slot.struct)
@@ -80,7 +80,7 @@ nothing_by t path is = ap directory_fault (ap (option_map (λ (f : Slot). node_o
 
 -- ---- where a slot counts as deleted
 
-module _ (t : Kept) (moved : Option Spot) (h : IsHiding t moved) (path : Path) (first : ℕ) (on : BeginsOnPath t.pairs path first) (name : Name) where
+module _ (t : Kept) (moved : Option Spot) (h : HidesOnly t moved) (path : Path) (first : ℕ) (on : BeginsOnPath t.pairs path first) (name : Name) where
   pub shown_slot : (spot : Spot) (entry : Entry) (s : IsShown t.pairs moved first name spot entry) → slot_of_path t.pairs (path ++ name ∷ []) ≡ Some s.stands.stands.slot
   shown_slot spot entry s = shown_is t.disk t.pairs path on.at moved first name spot entry h.accepted h.hides on.leads on.begins s
 
@@ -93,5 +93,5 @@ hides_none : (index : ℕ) (ps : List Pair) → HidesFrom no_gstate None index p
 hides_none index [] = tt
 hides_none index (p ∷ ps) = (refl, hides_none (index + 1) ps)
 
-pub hiding_none : (t : Kept) → HasNothingSet t → IsHiding t None
+pub hiding_none : (t : Kept) → HasNothingToRecover t → HidesOnly t None
 hiding_none t ok = record { accepted = ok.accepted; hides = subst (λ g. HidesFrom g None 0 t.pairs) (sym ok.settled) (hides_none 0 t.pairs) }

@@ -6,7 +6,7 @@ use Rattle.std.proofs.lemmas.List.Concat.{flat_map-append}
 use Rattle.std.proofs.lemmas.List.Elements.{filter-append}
 use Rattle.std.proofs.Math.Seq.{drop-append_seam}
 use Rattle.lfs_model.specs.declared.order.NameOrder.{NameOrder}
-use Rattle.lfs_model.specs.InDirectory.{Belongs, BeginsAbove, HaveNoSuperblock, IsJoined, PlaceAt, Runs, Stands, StandsAt, entries_only, last_is_joined, run_length, slots_in}
+use Rattle.lfs_model.specs.InDirectory.{BelongsInDirectory, BeginsAbove, HaveNoSuperblock, HasHardTail, PlaceAt, IsHardTailRun, HasNameAtPlace, IsNameAt, entries_only, last_is_joined, run_length, slots_in}
 use Rattle.lfs_model.specs.Names.{Name, name_cmp}
 use Rattle.lfs_model.specs.Slots.{Slot, is_superblock}
 use Rattle.lfs_model.specs.Thread.{Pair, is_hard, starts_with_superblock}
@@ -14,50 +14,50 @@ use Rattle.lfs_model.proofs.Counts.{each_left, each_right}
 use Rattle.lfs_lookup.specs.Entry.{EntryShows}
 use Rattle.lfs_lookup.specs.declared.entry.Entry.{Entry}
 use Rattle.lfs_lookup.specs.Halves.{EndsSoft}
-use Rattle.lfs_lookup.specs.Listed.{joined_run}
+use Rattle.lfs_lookup.specs.Listed.{hard_tail_run}
 use Rattle.lfs_lookup.proofs.Directories.{run_hard_on, run_on as run_here_on}
 use Rattle.lfs_lookup.proofs.Walked.{at_index, run_some}
 
 -- ---- the pairs of a directory
 
-pub run_part : (xs : List Pair) → (after : List Pair) × (xs ≡ joined_run xs ++ after)
+pub run_part : (xs : List Pair) → (after : List Pair) × (xs ≡ hard_tail_run xs ++ after)
 run_part [] = ([], refl)
 run_part (p ∷ ps) = go (is_hard p.content.tail) (run_part ps)
   where
-    go : (b : Bool) → ((after : List Pair) × (ps ≡ joined_run ps ++ after)) → (after : List Pair) × (p ∷ ps ≡ (p ∷ cond b (joined_run ps) []) ++ after)
+    go : (b : Bool) → ((after : List Pair) × (ps ≡ hard_tail_run ps ++ after)) → (after : List Pair) × (p ∷ ps ≡ (p ∷ cond b (hard_tail_run ps) []) ++ after)
     go true r = (r.0, ap (λ z. p ∷ z) r.1)
     go false r = (ps, refl)
 
-pub run_count : (xs : List Pair) → length (joined_run xs) ≡ run_length xs
+pub run_count : (xs : List Pair) → length (hard_tail_run xs) ≡ run_length xs
 run_count [] = refl
 run_count (p ∷ ps) = go (is_hard p.content.tail) (run_count ps)
   where
-    go : (b : Bool) → length (joined_run ps) ≡ run_length ps → length (p ∷ cond b (joined_run ps) []) ≡ cond b (1 + run_length ps) 1
+    go : (b : Bool) → length (hard_tail_run ps) ≡ run_length ps → length (p ∷ cond b (hard_tail_run ps) []) ≡ cond b (1 + run_length ps) 1
     go true e = omega (arith, e)
     go false e = refl
 
 abbrev Chained : List Pair → Type 0
 Chained [] = Unit {0}
-Chained (p ∷ ps) = Runs p ps
+Chained (p ∷ ps) = IsHardTailRun p ps
 
-chain_more : (p : Pair) (qs : List Pair) → IsJoined p → Chained qs → Runs p qs
+chain_more : (p : Pair) (qs : List Pair) → HasHardTail p → Chained qs → IsHardTailRun p qs
 chain_more p [] h k = tt
 chain_more p (q ∷ qs) h k = (h, k)
 
-run_chained : (xs : List Pair) → Chained (joined_run xs)
+run_chained : (xs : List Pair) → Chained (hard_tail_run xs)
 run_chained [] = tt
 run_chained (p ∷ ps) = go (is_hard p.content.tail) refl (run_chained ps)
   where
-    go : (b : Bool) → is_hard p.content.tail ≡ b → Chained (joined_run ps) → Runs p (cond b (joined_run ps) [])
-    go true e k = chain_more p (joined_run ps) e k
+    go : (b : Bool) → is_hard p.content.tail ≡ b → Chained (hard_tail_run ps) → IsHardTailRun p (cond b (hard_tail_run ps) [])
+    go true e k = chain_more p (hard_tail_run ps) e k
     go false e k = tt
 
-chain_left : (left : List Pair) (p : Pair) (rest : List Pair) → Chained (left ++ p ∷ rest) → AllByRecursion IsJoined left × Runs p rest
+chain_left : (left : List Pair) (p : Pair) (rest : List Pair) → Chained (left ++ p ∷ rest) → AllByRecursion HasHardTail left × IsHardTailRun p rest
 chain_left [] p rest h = (tt, h)
 chain_left (x ∷ []) p rest h = ((h.0, tt), h.1)
 chain_left (x ∷ y ∷ left) p rest h = let r = chain_left (y ∷ left) p rest h.1 in ((h.0, r.0), r.1)
 
-runs_front : (p : Pair) (later rest : List Pair) → Runs p (later ++ rest) → Runs p later
+runs_front : (p : Pair) (later rest : List Pair) → IsHardTailRun p (later ++ rest) → IsHardTailRun p later
 runs_front p [] rest h = tt
 runs_front p (q ∷ later) rest h = (h.0, runs_front q later rest h.1)
 
@@ -75,7 +75,7 @@ same_behind xs zs ys ws e l = sym (drop-append_seam xs zs) ∙ ap₂ (λ (n : �
 
 -- ---- where they end
 
-pub soft_on : (ps : List Pair) (index next : ℕ) (d : Pair) → next < length ps → is_hard (get_or ps index d).content.tail ≡ true → next ≡ index + 1 → EndsSoft (joined_run (drop next ps)) → EndsSoft (joined_run (drop index ps))
+pub soft_on : (ps : List Pair) (index next : ℕ) (d : Pair) → next < length ps → is_hard (get_or ps index d).content.tail ≡ true → next ≡ index + 1 → EndsSoft (hard_tail_run (drop next ps)) → EndsSoft (hard_tail_run (drop index ps))
 soft_on ps index next d l hard e h = subst EndsSoft (sym (run_hard_on ps index next d (omega arith) hard e ∙ ap (λ z. get_or ps index d ∷ z) (run_here_on ps next d l))) (subst EndsSoft (run_here_on ps next d l) h)
 
 -- ---- a pair by its number
@@ -86,20 +86,20 @@ pub record IsAt (run : List Pair) (first index : ℕ) (q : Pair) : Type 0 where
   pub parts : run ≡ before ++ q ∷ behind
   pub number : first + length before ≡ index
 
-pub at_run : (ps : List Pair) (first index : ℕ) (d : Pair) → first ≤ index → index < first + run_length (drop first ps) → IsAt (joined_run (drop first ps)) first index (get_or ps index d)
+pub at_run : (ps : List Pair) (first index : ℕ) (d : Pair) → first ≤ index → index < first + run_length (drop first ps) → IsAt (hard_tail_run (drop first ps)) first index (get_or ps index d)
 at_run ps first index d from below =
     let part = run_part (drop first ps) in
     let n = run_count (drop first ps) in
-    let small : index - first < length (joined_run (drop first ps)) = omega arith in
-    let a = at_index (joined_run (drop first ps)) (index - first) d small in
+    let small : index - first < length (hard_tail_run (drop first ps)) = omega arith in
+    let a = at_index (hard_tail_run (drop first ps)) (index - first) d small in
     let same : first + (index - first) ≡ index = omega arith in
-    let is : get_or (joined_run (drop first ps)) (index - first) d ≡ get_or ps index d =
-    sym (get_or_append_left (joined_run (drop first ps)) part.0 d (index - first) small) ∙ ap (λ z. get_or z (index - first) d) (sym part.1)
+    let is : get_or (hard_tail_run (drop first ps)) (index - first) d ≡ get_or ps index d =
+    sym (get_or_append_left (hard_tail_run (drop first ps)) part.0 d (index - first) small) ∙ ap (λ z. get_or z (index - first) d) (sym part.1)
     ∙ get_or-drop first ps (index - first) d ∙ ap (λ (i : ℕ). get_or ps i d) same in
-    subst (IsAt (joined_run (drop first ps)) first index) is (record { before = a.front; behind = a.rest; parts = a.parts; number = (let b = a.begins in omega arith) })
+    subst (IsAt (hard_tail_run (drop first ps)) first index) is (record { before = a.front; behind = a.rest; parts = a.parts; number = (let b = a.begins in omega arith) })
 
 -- the directory's pairs in the thread
-parts_of : (ps : List Pair) (first : ℕ) (left later more : List Pair) (q : Pair) → joined_run (drop first ps) ≡ left ++ q ∷ (later ++ more)
+parts_of : (ps : List Pair) (first : ℕ) (left later more : List Pair) (q : Pair) → hard_tail_run (drop first ps) ≡ left ++ q ∷ (later ++ more)
     → ps ≡ take first ps ++ (left ++ q ∷ (later ++ (more ++ (run_part (drop first ps)).0)))
 parts_of ps first left later more q e =
     sym (take-append-drop first ps)
@@ -121,7 +121,7 @@ abbrev IsPlain : Pair → Type 0
 IsPlain p = AllByRecursion (λ s. is_superblock s ≡ false) p.content.slots
 
 -- a pair behind the directory's first one has no superblock
-plain_at : (ps : List Pair) (first : ℕ) (x : Pair) (left : List Pair) (q : Pair) (behind : List Pair) → HaveNoSuperblock (drop (first + 1) ps) → joined_run (drop first ps) ≡ x ∷ (left ++ q ∷ behind) → IsPlain q
+plain_at : (ps : List Pair) (first : ℕ) (x : Pair) (left : List Pair) (q : Pair) (behind : List Pair) → HaveNoSuperblock (drop (first + 1) ps) → hard_tail_run (drop first ps) ≡ x ∷ (left ++ q ∷ behind) → IsPlain q
 plain_at ps first x left q behind plain e =
     let part = run_part (drop first ps) in
     let is = drop_more first ps x ((left ++ q ∷ behind) ++ part.0) (part.1 ∙ ap (λ z. z ++ part.0) e) in
@@ -135,11 +135,11 @@ some_entries (s ∷ left) right plain l e =
     absurd (cc)
 
 -- the pair is the directory's first, or these slots of it have an entry
-not_before_here : (ps : List Pair) (first index : ℕ) (q : Pair) (a : IsAt (joined_run (drop first ps)) first index q) → HaveNoSuperblock (drop (first + 1) ps) → (left right : List Slot) → q.content.slots ≡ left ++ right
+not_before_here : (ps : List Pair) (first index : ℕ) (q : Pair) (a : IsAt (hard_tail_run (drop first ps)) first index q) → HaveNoSuperblock (drop (first + 1) ps) → (left right : List Slot) → q.content.slots ≡ left ++ right
     → (index ≡ first) ⊎ (0 < length left) → (a.before ≡ []) ⊎ (entries_only left ≢ [])
 not_before_here ps first index q a plain left right held why = go a.before a.parts a.number why
   where
-    go : (before : List Pair) → joined_run (drop first ps) ≡ before ++ q ∷ a.behind → first + length before ≡ index → (index ≡ first) ⊎ (0 < length left) → (before ≡ []) ⊎ (entries_only left ≢ [])
+    go : (before : List Pair) → hard_tail_run (drop first ps) ≡ before ++ q ∷ a.behind → first + length before ≡ index → (index ≡ first) ⊎ (0 < length left) → (before ≡ []) ⊎ (entries_only left ≢ [])
     go [] e n w = inl refl
     go (x ∷ before) e n (inl is) = absurd (omega arith)
     go (x ∷ before) e n (inr some) = inr (some_entries left right (subst (AllByRecursion (λ s. is_superblock s ≡ false)) held (plain_at ps first x before q a.behind plain e)) some)
@@ -195,15 +195,15 @@ pub data IsHigh (by : NameOrder) (run : List Pair) (first : ℕ) (name : Name) (
   ends : high ≡ first + length run → IsHigh by run first name high
   starts : HasGreater by run first name high → IsHigh by run first name high
 
-module _ (by : NameOrder) (ps : List Pair) (first : ℕ) (name : Name) (index : ℕ) (q : Pair) (a : IsAt (joined_run (drop first ps)) first index q) where
+module _ (by : NameOrder) (ps : List Pair) (first : ℕ) (name : Name) (index : ℕ) (q : Pair) (a : IsAt (hard_tail_run (drop first ps)) first index q) where
   abbrev run : List Pair
-  run = joined_run (drop first ps)
+  run = hard_tail_run (drop first ps)
 
-  joined_here : AllByRecursion IsJoined a.before
+  joined_here : AllByRecursion HasHardTail a.before
   joined_here = (chain_left a.before q a.behind (subst Chained a.parts (run_chained (drop first ps)))).0
 
   -- the name stands here
-  pub stands_at : (below : first < length ps) (id : ℕ) (entry : Entry) (s : StandsAt q.content.slots name id) → EntryShows entry s.slot.struct → (t : Stands ps first name index id) × EntryShows entry t.stands.slot.struct
+  pub stands_at : (below : first < length ps) (id : ℕ) (entry : Entry) (s : IsNameAt q.content.slots name id) → EntryShows entry s.slot.struct → (t : HasNameAtPlace ps first name index id) × EntryShows entry t.stands.slot.struct
   stands_at below id entry s shows = (
     record {
       pair = q;
@@ -272,7 +272,7 @@ module _ (by : NameOrder) (ps : List Pair) (first : ℕ) (name : Name) (index : 
       go (inr b) = subst (λ z. BeginsAbove by name (entries_only z)) (sym is) b
 
   -- the name belongs here, before one of its slots
-  pub belongs_inside : (below : first < length ps) (plain : HaveNoSuperblock (drop (first + 1) ps)) (id : ℕ) → PlaceAt by q.content.slots name id → (index ≡ first) ⊎ (0 < id) → id < length q.content.slots → Belongs by ps first name index id
+  pub belongs_inside : (below : first < length ps) (plain : HaveNoSuperblock (drop (first + 1) ps)) (id : ℕ) → PlaceAt by q.content.slots name id → (index ≡ first) ⊎ (0 < id) → id < length q.content.slots → BelongsInDirectory by ps first name index id
   belongs_inside below plain id pl why some = record {
     pair = q;
     later = [];
@@ -329,15 +329,15 @@ module _ (by : NameOrder) (ps : List Pair) (first : ℕ) (name : Name) (index : 
 
 -- ---- where they meet
 
-module _ (by : NameOrder) (ps : List Pair) (first : ℕ) (name : Name) (below : first < length ps) (soft : EndsSoft (joined_run (drop first ps))) where
+module _ (by : NameOrder) (ps : List Pair) (first : ℕ) (name : Name) (below : first < length ps) (soft : EndsSoft (hard_tail_run (drop first ps))) where
   abbrev whole_run : List Pair
-  whole_run = joined_run (drop first ps)
+  whole_run = hard_tail_run (drop first ps)
 
   chained : Chained whole_run
   chained = run_chained (drop first ps)
 
   -- it belongs before all
-  at_front : (high : ℕ) → HasGreater by whole_run first name high → high ≡ first → Belongs by ps first name first 0
+  at_front : (high : ℕ) → HasGreater by whole_run first name high → high ≡ first → BelongsInDirectory by ps first name first 0
   at_front high h e =
       let none = empty_list h.before (let n = h.number in omega arith) in
       let is : whole_run ≡ h.pair ∷ h.behind = h.parts ∙ ap (λ z. z ++ h.pair ∷ h.behind) none in
@@ -365,7 +365,7 @@ module _ (by : NameOrder) (ps : List Pair) (first : ℕ) (name : Name) (below : 
       }
 
   -- behind a pair, where no entry is left
-  at_end : (at id low : ℕ) → HasLess by whole_run first name at id low → low ≡ first + length whole_run → Belongs by ps first name at id
+  at_end : (at id low : ℕ) → HasLess by whole_run first name at id low → low ≡ first + length whole_run → BelongsInDirectory by ps first name at id
   at_end at id low h e =
       let none : h.more ≡ [] = empty_list h.more (let k = ap length h.parts in let l = length-append h.left (h.pair ∷ (h.empty ++ h.more)) in let m = length-append h.empty h.more in let n = h.next in let b = h.number in omega arith) in
       let parts = h.parts in
@@ -396,7 +396,7 @@ module _ (by : NameOrder) (ps : List Pair) (first : ℕ) (name : Name) (below : 
       }
 
   -- behind a pair, where a greater name comes first
-  at_seam : (at id low high : ℕ) → HasLess by whole_run first name at id low → (g : HasGreater by whole_run first name high) → low ≡ high → Belongs by ps first name at id
+  at_seam : (at id low high : ℕ) → HasLess by whole_run first name at id low → (g : HasGreater by whole_run first name high) → low ≡ high → BelongsInDirectory by ps first name at id
   at_seam at id low high h g e =
       let counts : length (h.left ++ h.pair ∷ h.empty) ≡ length g.before = (let l = length-append h.left (h.pair ∷ h.empty) in let n = h.next in let m = h.number in let k = g.number in omega arith) in
       let is : h.more ≡ g.pair ∷ g.behind = same_behind (h.left ++ h.pair ∷ h.empty) h.more g.before (g.pair ∷ g.behind) (append_assoc h.left (h.pair ∷ h.empty) h.more ∙ sym h.parts ∙ g.parts) counts in
@@ -426,9 +426,9 @@ module _ (by : NameOrder) (ps : List Pair) (first : ℕ) (name : Name) (below : 
         not_behind = inl (subst (BeginsAbove by name) (sym (entries_on h.empty g.pair h.none)) g.above);
       }
 
-  pub belongs_between : (at id low high : ℕ) → IsLow by whole_run first name at id low → IsHigh by whole_run first name high → low ≡ high → Belongs by ps first name at id
+  pub belongs_between : (at id low high : ℕ) → IsLow by whole_run first name at id low → IsHigh by whole_run first name high → low ≡ high → BelongsInDirectory by ps first name at id
   belongs_between at id low high (begun e f g) (ends k) m = absurd (let some = run_some ps first below in let n = run_count (drop first ps) in omega arith)
   belongs_between at id low high (begun e f g) (starts h) m =
-      subst (λ (n : ℕ). Belongs by ps first name n id) (sym f) (subst (λ (n : ℕ). Belongs by ps first name first n) (sym g) (at_front high h (sym m ∙ e)))
+      subst (λ (n : ℕ). BelongsInDirectory by ps first name n id) (sym f) (subst (λ (n : ℕ). BelongsInDirectory by ps first name first n) (sym g) (at_front high h (sym m ∙ e)))
   belongs_between at id low high (passed h) (ends k) m = at_end at id low h (m ∙ k)
   belongs_between at id low high (passed h) (starts g) m = at_seam at id low high h g m

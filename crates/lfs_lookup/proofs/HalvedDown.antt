@@ -10,7 +10,7 @@ use Rattle.lfs_model.specs.View.{IsAccepted}
 use Rattle.lfs_model.proofs.Counts.{each_left, each_right}
 use Rattle.lfs_thread.specs.Kept.{State}
 use Rattle.lfs_thread.specs.Steps.{IsOnlyRead}
-use Rattle.lfs_lookup.specs.CachedPairs.{pairs_on}
+use Rattle.lfs_lookup.specs.CachedPairs.{pairs_of_directory_at}
 use Rattle.lfs_lookup.specs.Halves.{HaveSlots, HaveSlotsOn, ReadsByHalves, ReadsByHalvesFrom, halvings, halvings_of_path}
 use Rattle.lfs_lookup.specs.Paths.{BeginsOnPath}
 use Rattle.lfs_lookup.proofs.Descended.{few_same, parents_on, sum_is, sum_more, sum_on, take_on, take_whole}
@@ -18,7 +18,7 @@ use Rattle.lfs_lookup.proofs.LoadedDown.{parent_at, run_same}
 
 -- one directory more
 one_more : (old now new : State) (path : Path) (first : ℕ) → IsAccepted old.kept.disk old.kept.pairs → IsOnlyRead old.kept now.kept → BeginsOnPath old.kept.pairs path first
-    → HaveSlots (pairs_on old.kept.pairs path) → ReadsByHalvesFrom now new first → reads new.kept.history ≤ reads now.kept.history + halvings_of_path old.kept.pairs path
+    → HaveSlots (pairs_of_directory_at old.kept.pairs path) → ReadsByHalvesFrom now new first → reads new.kept.history ≤ reads now.kept.history + halvings_of_path old.kept.pairs path
 one_more old now new path first ok only on slots by =
     let k = by (subst HaveSlots (sym (run_same old.kept now.kept path first ok only on)) slots) in
     let e = ap halvings (few_same old.kept now.kept ok only path first on) in
@@ -30,7 +30,7 @@ module _ (old now new : State) (path : Path) (i first : ℕ) (n : Name) (ok : Is
   pub halved_step : reads new.kept.history ≤ reads old.kept.history + sum_by (halvings_of_path old.kept.pairs) (parents (take (i + 1) path))
   halved_step =
       let f = halvings_of_path old.kept.pairs in
-      let k = one_more old now new (take i path) first ok only on (parent_at (λ p. HaveSlots (pairs_on old.kept.pairs p)) path i n at slots) by in
+      let k = one_more old now new (take i path) first ok only on (parent_at (λ p. HaveSlots (pairs_of_directory_at old.kept.pairs p)) path i n at slots) by in
       let sum : sum_by (halvings_of_path old.kept.pairs) (parents (take (i + 1) path)) ≡ sum_by (halvings_of_path old.kept.pairs) (parents (take i path)) + halvings_of_path old.kept.pairs (take i path) =
       ap (λ p. sum_by (halvings_of_path old.kept.pairs) (parents p)) (take_on path i n at) ∙ sum_on (halvings_of_path old.kept.pairs) (take i path) n in
       omega (arith, k, sum, before)
@@ -56,14 +56,14 @@ module _ (old mid : State) (path above : Path) (name : Name) (is : path ≡ abov
 
   pub halved_short : ReadsByHalves old mid (parents path)
   halved_short slots =
-      let k = by (each_left (λ p. HaveSlots (pairs_on old.kept.pairs p)) (parents above) (above ∷ []) (both_slots slots)) in
+      let k = by (each_left (λ p. HaveSlots (pairs_of_directory_at old.kept.pairs p)) (parents above) (above ∷ []) (both_slots slots)) in
       let s = sum_is (halvings_of_path old.kept.pairs) path above name is in
       omega (arith, k, s)
 
   pub halved_last : (new : State) (first : ℕ) → IsAccepted old.kept.disk old.kept.pairs → IsOnlyRead old.kept mid.kept → BeginsOnPath old.kept.pairs above first → ReadsByHalvesFrom mid new first → ReadsByHalves old new (parents path)
   halved_last new first ok only on last slots =
-      let k = by (each_left (λ p. HaveSlots (pairs_on old.kept.pairs p)) (parents above) (above ∷ []) (both_slots slots)) in
-      let here = (each_right (λ p. HaveSlots (pairs_on old.kept.pairs p)) (parents above) (above ∷ []) (both_slots slots)).0 in
+      let k = by (each_left (λ p. HaveSlots (pairs_of_directory_at old.kept.pairs p)) (parents above) (above ∷ []) (both_slots slots)) in
+      let here = (each_right (λ p. HaveSlots (pairs_of_directory_at old.kept.pairs p)) (parents above) (above ∷ []) (both_slots slots)).0 in
       let m = one_more old mid new above first ok only on here last in
       let s = sum_is (halvings_of_path old.kept.pairs) path above name is in
       omega (arith, k, m, s)

@@ -8,7 +8,7 @@ use Rattle.lfs_model.specs.Thread.{Pair}
 use Rattle.lfs_model.proofs.Counts.{each_right}
 use Rattle.lfs_pair.specs.Pair.{active_at}
 use Rattle.lfs_thread.specs.Kept.{State}
-use Rattle.lfs_lookup.specs.CachedPairs.{AreCached, LoadsAlong, IsLoaded}
+use Rattle.lfs_lookup.specs.CachedPairs.{AreCached, LoadsPairs, IsLoaded}
 use Rattle.lfs_lookup.specs.Halves.{HaveSlots, halved_within, halvings}
 use Rattle.lfs_lookup.proofs.Halved.{IsAt}
 use Rattle.lfs_lookup.proofs.RecentBlocks.{HasBrought, HasKept, Passes, kept_none, loads_to_here, on_ok}
@@ -94,7 +94,7 @@ pub loaded_nothing : (run : List Pair) (first high : ℕ) (old : State) → firs
 loaded_nothing run first high old some = record { kept = kept_none run old; lone = λ e. waits refl some refl }
 
 module _ {X : Type 0} (run : List Pair) (first low high index : ℕ) (q : Pair) (old now new : State) (r : Result X Error) (a : IsAt run first index q) (h : HasLoaded run first low high old now) (some : low < high)
-    (b : LoadsAlong (q ∷ []) now new r) where
+    (b : LoadsPairs (q ∷ []) now new r) where
   -- it is one of them, and where there is one alone it is still to be loaded
   brought_to : HasBrought run (q ∷ []) old now
   brought_to = record {
@@ -123,7 +123,7 @@ module _ {X : Type 0} (run : List Pair) (first low high index : ℕ) (q : Pair) 
           a.parts ∙ ap (λ z. z ++ q ∷ a.behind) before ∙ ap (λ z. q ∷ z) behind
 
   -- the search ends here
-  pub loads_here : {Y : Type 0} (s : Result Y Error) → Passes r s → LoadsAlong run old new s
+  pub loads_here : {Y : Type 0} (s : Result Y Error) → Passes r s → LoadsPairs run old new s
   loads_here s pass = loads_to_here run (q ∷ []) [] q old now new r brought_to refl b s pass
 
   -- or goes on
@@ -144,7 +144,7 @@ loaded_past run first low high old now h some later = record { kept = h.kept; lo
     go (done l k) = absurd (omega arith)
 
 -- it ends where none is left
-pub loads_all : {X : Type 0} (run : List Pair) (first low high : ℕ) (old now : State) (s : Result X Error) (x : X) → s ≡ Ok x → HasLoaded run first low high old now → high ≤ low → LoadsAlong run old now s
+pub loads_all : {X : Type 0} (run : List Pair) (first low high : ℕ) (old now : State) (s : Result X Error) (x : X) → s ≡ Ok x → HasLoaded run first low high old now → high ≤ low → LoadsPairs run old now s
 loads_all {X = X} run first low high old now s x is h none = record {
   none = h.kept.none;
   stay = λ there. back _ (h.kept.stay there);

@@ -7,10 +7,10 @@ use Rattle.std.proofs.lemmas.List.Elements.{filter-append}
 use Rattle.std.proofs.lemmas.Option.{same_Some}
 use Rattle.std.proofs.Math.Seq.{drop-append_seam}
 use Rattle.lfs_model.specs.declared.order.NameOrder.{NameOrder}
-use Rattle.lfs_model.specs.InDirectory.{BeginsAbove, Belongs, IsJoined, Runs, entries_only, last_is_joined, slots_in}
+use Rattle.lfs_model.specs.InDirectory.{BeginsAbove, BelongsInDirectory, HasHardTail, IsHardTailRun, entries_only, last_is_joined, slots_in}
 use Rattle.lfs_model.specs.Names.{Name, name_cmp}
 use Rattle.lfs_model.specs.Slots.{Gstate, Slot, is_superblock, same_pair}
-use Rattle.lfs_model.specs.Thread.{Pair, gstate_of, is_hard, visible}
+use Rattle.lfs_model.specs.Thread.{Pair, gstate_of, is_hard, entries_not_moved}
 use Rattle.lfs_model.specs.Tree.{Path}
 use Rattle.lfs_model.proofs.Counts.{Each, each_append, each_left, each_right, each_weaker}
 use Rattle.lfs_model.proofs.Indexes.{greater_behind, less_before, rise_right}
@@ -18,9 +18,9 @@ use Rattle.lfs_model.proofs.Names.{Rise}
 use Rattle.lfs_model.proofs.Orders.{less_differs}
 use Rattle.lfs_model.proofs.Searches.{begins_directory, plain_behind}
 use Rattle.lfs_thread.specs.Kept.{Kept}
-use Rattle.lfs_lookup.specs.Listed.{joined_run}
-use Rattle.lfs_lookup.specs.Paths.{BeginsOnPath, IsHiding}
-use Rattle.lfs_lookup.specs.Search.{HidesFrom, IsAbsentAlong, IsInOrder, IsShown, SearchFinds, hidden_in, passed_in}
+use Rattle.lfs_lookup.specs.Listed.{hard_tail_run}
+use Rattle.lfs_lookup.specs.Paths.{BeginsOnPath, HidesOnly}
+use Rattle.lfs_lookup.specs.Search.{HidesFrom, IsAbsentAlong, IsInOrder, IsShown, SearchFinds, hidden_in, skipped_id_in}
 use Rattle.lfs_lookup.specs.declared.entry.Entry.{Entry}
 use Rattle.lfs_lookup.specs.declared.search.Sought.TheVariants.{Found, Place}
 use Rattle.lfs_lookup.specs.declared.search.Spot.{Spot}
@@ -35,22 +35,22 @@ slots_append ps qs = flat_map-append (λ (p : Pair). p.content.slots) ps qs
 
 -- ---- the directory's pairs
 
-joined_before : (left : List Pair) (rest : List Pair) → AllByRecursion IsJoined left → joined_run (left ++ rest) ≡ left ++ joined_run rest
+joined_before : (left : List Pair) (rest : List Pair) → AllByRecursion HasHardTail left → hard_tail_run (left ++ rest) ≡ left ++ hard_tail_run rest
 joined_before [] rest h = refl
-joined_before (x ∷ left) rest h = ap (λ b. x ∷ cond b (joined_run (left ++ rest)) []) h.0 ∙ ap (λ z. x ∷ z) (joined_before left rest h.1)
+joined_before (x ∷ left) rest h = ap (λ b. x ∷ cond b (hard_tail_run (left ++ rest)) []) h.0 ∙ ap (λ z. x ∷ z) (joined_before left rest h.1)
 
-joined_through : (p : Pair) (later rest : List Pair) → Runs p later → joined_run (p ∷ (later ++ rest)) ≡ p ∷ (later ++ cond (last_is_joined p later) (joined_run rest) [])
+joined_through : (p : Pair) (later rest : List Pair) → IsHardTailRun p later → hard_tail_run (p ∷ (later ++ rest)) ≡ p ∷ (later ++ cond (last_is_joined p later) (hard_tail_run rest) [])
 joined_through p [] rest h = refl
-joined_through p (q ∷ later) rest h = ap (λ b. p ∷ cond b (joined_run (q ∷ (later ++ rest))) []) h.0 ∙ ap (λ z. p ∷ z) (joined_through q later rest h.1)
+joined_through p (q ∷ later) rest h = ap (λ b. p ∷ cond b (hard_tail_run (q ∷ (later ++ rest))) []) h.0 ∙ ap (λ z. p ∷ z) (joined_through q later rest h.1)
 
 -- ---- a name that belongs at a place is absent
 
 abbrev IsOther : Name → Slot → Type 0
 IsOther name s = s.name ≡ name → ⊥
 
-module _ (by : NameOrder) (ps : List Pair) (first : ℕ) (name : Name) (index id : ℕ) (b : Belongs by ps first name index id) where
+module _ (by : NameOrder) (ps : List Pair) (first : ℕ) (name : Name) (index id : ℕ) (b : BelongsInDirectory by ps first name index id) where
   tail_pairs : List Pair
-  tail_pairs = cond (last_is_joined b.pair b.later) (joined_run b.rest) []
+  tail_pairs = cond (last_is_joined b.pair b.later) (hard_tail_run b.rest) []
 
   -- what is before the place and behind it, in the directory
   abbrev before : List Slot
@@ -59,15 +59,15 @@ module _ (by : NameOrder) (ps : List Pair) (first : ℕ) (name : Name) (index id
   abbrev behind : List Slot
   behind = entries_only (b.right ++ slots_in b.later)
 
-  run_is : joined_run (drop first ps) ≡ b.place.left ++ b.pair ∷ (b.later ++ tail_pairs)
+  run_is : hard_tail_run (drop first ps) ≡ b.place.left ++ b.pair ∷ (b.later ++ tail_pairs)
   unfolding tail_pairs
   run_is =
-      ap₂ (λ (n : ℕ) z. joined_run (drop n z)) (sym b.place.begins) b.place.parts
-      ∙ ap joined_run (drop-append_seam b.place.front (b.place.left ++ b.pair ∷ (b.later ++ b.rest)))
+      ap₂ (λ (n : ℕ) z. hard_tail_run (drop n z)) (sym b.place.begins) b.place.parts
+      ∙ ap hard_tail_run (drop-append_seam b.place.front (b.place.left ++ b.pair ∷ (b.later ++ b.rest)))
       ∙ joined_before b.place.left (b.pair ∷ (b.later ++ b.rest)) b.place.joined
       ∙ ap (λ z. b.place.left ++ z) (joined_through b.pair b.later b.rest b.runs)
 
-  entries_are : entries_only (slots_in (joined_run (drop first ps))) ≡ before ++ (entries_only b.left ++ (behind ++ entries_only (slots_in tail_pairs)))
+  entries_are : entries_only (slots_in (hard_tail_run (drop first ps))) ≡ before ++ (entries_only b.left ++ (behind ++ entries_only (slots_in tail_pairs)))
   entries_are =
       ap (λ z. entries_only (slots_in z)) run_is
       ∙ ap entries_only (slots_append b.place.left (b.pair ∷ (b.later ++ tail_pairs)))
@@ -80,7 +80,7 @@ module _ (by : NameOrder) (ps : List Pair) (first : ℕ) (name : Name) (index id
       ap entries_only (sym (append_assoc b.right (slots_in b.later) (slots_in tail_pairs)))
       ∙ entries_append (b.right ++ slots_in b.later) (slots_in tail_pairs)))
 
-  module _ (rise : Rise by (entries_only (slots_in (joined_run (drop first ps))))) where
+  module _ (rise : Rise by (entries_only (slots_in (hard_tail_run (drop first ps))))) where
     rises : Rise by (before ++ (entries_only b.left ++ (behind ++ entries_only (slots_in tail_pairs))))
     rises = subst (Rise by) entries_are rise
 
@@ -108,9 +108,9 @@ module _ (by : NameOrder) (ps : List Pair) (first : ℕ) (name : Name) (index id
             subst (Each (IsOther name)) (sym are)
             (each_weaker (λ s. name_cmp by name s.name ≡ Less) (IsOther name) (λ s l e. less_differs by name s.name l (sym e)) (a.first ∷ (a.rest ++ entries_only (slots_in tail_pairs)))
             (a.above, greater_behind by a.first (a.rest ++ entries_only (slots_in tail_pairs)) name (subst (Rise by) are rise_here) a.above))
-        go (inr (e, f)) = subst (Each (IsOther name)) (sym (ap₂ (λ x y. x ++ entries_only (slots_in (cond y (joined_run b.rest) []))) e f)) tt
+        go (inr (e, f)) = subst (Each (IsOther name)) (sym (ap₂ (λ x y. x ++ entries_only (slots_in (cond y (hard_tail_run b.rest) []))) e f)) tt
 
-    none_of_all : Each (IsOther name) (entries_only (slots_in (joined_run (drop first ps))))
+    none_of_all : Each (IsOther name) (entries_only (slots_in (hard_tail_run (drop first ps))))
     none_of_all =
         subst (Each (IsOther name)) (sym entries_are)
         (each_append (IsOther name) before (entries_only b.left ++ (behind ++ entries_only (slots_in tail_pairs))) none_before
@@ -129,17 +129,17 @@ each_entry P (x ∷ slots) (suc id) s h e plain = each_entry P slots id s (go (i
     go true k = k
     go false k = k.1
 
-absent_along : (index : ℕ) (ps : List Pair) (name : Name) → Each (IsOther name) (entries_only (slots_in (joined_run ps))) → IsAbsentAlong None index ps name
+absent_along : (index : ℕ) (ps : List Pair) (name : Name) → Each (IsOther name) (entries_only (slots_in (hard_tail_run ps))) → IsAbsentAlong None index ps name
 absent_along index [] name h = tt
 absent_along index (p ∷ ps) name h =
-    let whole = subst (Each (IsOther name)) (entries_append p.content.slots (slots_in (cond (is_hard p.content.tail) (joined_run ps) []))) h in (
-      λ id s at plain kept same. each_entry (IsOther name) p.content.slots id s (each_left (IsOther name) (entries_only p.content.slots) (entries_only (slots_in (cond (is_hard p.content.tail) (joined_run ps) []))) whole) at plain same,
+    let whole = subst (Each (IsOther name)) (entries_append p.content.slots (slots_in (cond (is_hard p.content.tail) (hard_tail_run ps) []))) h in (
+      λ id s at plain kept same. each_entry (IsOther name) p.content.slots id s (each_left (IsOther name) (entries_only p.content.slots) (entries_only (slots_in (cond (is_hard p.content.tail) (hard_tail_run ps) []))) whole) at plain same,
       λ hard. absent_along (index + 1) ps name
-          (subst (λ b. Each (IsOther name) (entries_only (slots_in (cond b (joined_run ps) [])))) hard
-          (each_right (IsOther name) (entries_only p.content.slots) (entries_only (slots_in (cond (is_hard p.content.tail) (joined_run ps) []))) whole)),
+          (subst (λ b. Each (IsOther name) (entries_only (slots_in (cond b (hard_tail_run ps) [])))) hard
+          (each_right (IsOther name) (entries_only p.content.slots) (entries_only (slots_in (cond (is_hard p.content.tail) (hard_tail_run ps) []))) whole)),
     )
 
-pub absent_by_order : (by : NameOrder) (ps : List Pair) (first : ℕ) (name : Name) (index id : ℕ) → IsInOrder by ps first → Belongs by ps first name index id → IsAbsentAlong None first (drop first ps) name
+pub absent_by_order : (by : NameOrder) (ps : List Pair) (first : ℕ) (name : Name) (index id : ℕ) → IsInOrder by ps first → BelongsInDirectory by ps first name index id → IsAbsentAlong None first (drop first ps) name
 absent_by_order by ps first name index id h b = absent_along first (drop first ps) name (none_of_all by ps first name index id b h.rise)
 
 -- ---- what is shown where no slot is passed over
@@ -148,7 +148,7 @@ pub found_shown : (by : NameOrder) (ps : List Pair) (moved : Option Spot) (first
 found_shown by ps moved first name spot entry none found = record {
   stands = found.0;
   shows = found.1;
-  kept = λ e. let k = sym (ap (λ m. passed_in m spot.pair) none) ∙ e in absurd (cc);
+  kept = λ e. let k = sym (ap (λ m. skipped_id_in m spot.pair) none) ∙ e in absurd (cc);
 }
 
 pub nothing_shown : (by : NameOrder) (ps : List Pair) (moved : Option Spot) (first : ℕ) (name : Name) (spot : Spot) → moved ≡ None → IsInOrder by ps first → SearchFinds by ps first name (Place spot) → IsAbsentAlong moved first (drop first ps) name
@@ -160,10 +160,10 @@ hides_each : (g : Gstate) (index : ℕ) (ps : List Pair) → HidesFrom g None in
 hides_each g index [] h = tt
 hides_each g index (p ∷ ps) h = (sym h.0, hides_each g (index + 1) ps h.1)
 
-shown_whole : (g : Gstate) (ps : List Pair) → Each (λ p. hidden_in g p ≡ None) ps → flat_map (visible g) ps ≡ entries_only (slots_in ps)
+shown_whole : (g : Gstate) (ps : List Pair) → Each (λ p. hidden_in g p ≡ None) ps → flat_map (entries_not_moved g) ps ≡ entries_only (slots_in ps)
 shown_whole g [] h = refl
 shown_whole g (p ∷ ps) h =
-    ap (λ z. visible g p ++ z) (shown_whole g ps h.1)
+    ap (λ z. entries_not_moved g p ++ z) (shown_whole g ps h.1)
     ∙ ap (λ z. z ++ entries_only (slots_in ps)) (one (g.kind == 0x4ff && same_pair g.pair p.at) h.0)
     ∙ sym (entries_append p.content.slots (slots_in ps))
   where
@@ -171,14 +171,14 @@ shown_whole g (p ∷ ps) h =
     one true e = absurd (cc)
     one false e = refl
 
-module _ (t : Kept) (path : Path) (first : ℕ) (h : IsHiding t None) (on : BeginsOnPath t.pairs path first) where
-  here : flat_map (visible (gstate_of t.pairs)) (joined_run (drop first t.pairs)) ≡ entries_only (slots_in (joined_run (drop first t.pairs)))
+module _ (t : Kept) (path : Path) (first : ℕ) (h : HidesOnly t None) (on : BeginsOnPath t.pairs path first) where
+  here : flat_map (entries_not_moved (gstate_of t.pairs)) (hard_tail_run (drop first t.pairs)) ≡ entries_only (slots_in (hard_tail_run (drop first t.pairs)))
   here =
       let part = run_part (drop first t.pairs) in
       let all = hides_each (gstate_of t.pairs) 0 t.pairs h.hides in
       let some = each_right (λ p. hidden_in (gstate_of t.pairs) p ≡ None) (take first t.pairs) (drop first t.pairs) (subst (Each (λ p. hidden_in (gstate_of t.pairs) p ≡ None)) (sym (take-append-drop first t.pairs)) all) in
-      shown_whole (gstate_of t.pairs) (joined_run (drop first t.pairs))
-      (each_left (λ p. hidden_in (gstate_of t.pairs) p ≡ None) (joined_run (drop first t.pairs)) part.0 (subst (Each (λ p. hidden_in (gstate_of t.pairs) p ≡ None)) part.1 some))
+      shown_whole (gstate_of t.pairs) (hard_tail_run (drop first t.pairs))
+      (each_left (λ p. hidden_in (gstate_of t.pairs) p ≡ None) (hard_tail_run (drop first t.pairs)) part.0 (subst (Each (λ p. hidden_in (gstate_of t.pairs) p ≡ None)) part.1 some))
 
   pub in_order_on : IsInOrder t.disk.order t.pairs first
   in_order_on =
@@ -188,5 +188,5 @@ module _ (t : Kept) (path : Path) (first : ℕ) (h : IsHiding t None) (on : Begi
         plain = plain_behind t.disk t.pairs first h.accepted (let n = i.number in omega (arith, n));
       }
 
-pub in_order_if : (t : Kept) (moved : Option Spot) (path : Path) (first : ℕ) → IsHiding t moved → BeginsOnPath t.pairs path first → moved ≡ None → IsInOrder t.disk.order t.pairs first
-in_order_if t moved path first h on none = in_order_on t path first (subst (IsHiding t) none h) on
+pub in_order_if : (t : Kept) (moved : Option Spot) (path : Path) (first : ℕ) → HidesOnly t moved → BeginsOnPath t.pairs path first → moved ≡ None → IsInOrder t.disk.order t.pairs first
+in_order_if t moved path first h on none = in_order_on t path first (subst (HidesOnly t) none h) on

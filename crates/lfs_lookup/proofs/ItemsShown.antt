@@ -5,7 +5,7 @@ use Rattle.lfs_model.specs.Slots.{Slot, is_superblock}
 use Rattle.lfs_model.specs.Content.{RawSlot, complete_all}
 use Rattle.lfs_model.specs.LoggedContent.{HasParts, HaveParts}
 use Rattle.lfs_model.proofs.Completed.{complete_parts, complete_remove}
-use Rattle.lfs_lookup.specs.Items.{Shape, listed, shape_of, shapes_in, shown_among, shown_of, without}
+use Rattle.lfs_lookup.specs.Items.{Shape, shape_list, shape_of, shapes_in, shapes_among, shape_if_entry, without_id}
 
 -- ---- parts
 
@@ -23,7 +23,7 @@ parts_remove [] (suc id) h = tt
 parts_remove (x ∷ xs) zero h = h.1
 parts_remove (x ∷ xs) (suc id) h = (h.0, parts_remove xs id h.1)
 
-pub parts_without : (moved : Option ℕ) (xs : List RawSlot) → HaveParts xs → HaveParts (without moved xs)
+pub parts_without : (moved : Option ℕ) (xs : List RawSlot) → HaveParts xs → HaveParts (without_id moved xs)
 parts_without None xs h = h
 parts_without (Some id) xs h = parts_remove xs id h
 
@@ -35,31 +35,31 @@ map_remove f [] (suc id) = refl
 map_remove f (x ∷ xs) zero = refl
 map_remove f (x ∷ xs) (suc id) = ap (λ ys. f x ∷ ys) (map_remove f xs id)
 
-pub complete_without : (moved : Option ℕ) (xs : List RawSlot) (us : List Slot) → complete_all xs ≡ Some us → complete_all (without moved xs) ≡ Some (without moved us)
+pub complete_without : (moved : Option ℕ) (xs : List RawSlot) (us : List Slot) → complete_all xs ≡ Some us → complete_all (without_id moved xs) ≡ Some (without_id moved us)
 complete_without None xs us h = h
 complete_without (Some id) xs us h = complete_remove xs us id h
 
 -- ---- complete slots show their entries
 
-shown_first : (s : Slot) (slots : List Slot) → listed (shown_of s) ++ map shape_of (filter (λ t. not (is_superblock t)) slots) ≡ map shape_of (filter (λ t. not (is_superblock t)) (s ∷ slots))
+shown_first : (s : Slot) (slots : List Slot) → shape_list (shape_if_entry s) ++ map shape_of (filter (λ t. not (is_superblock t)) slots) ≡ map shape_of (filter (λ t. not (is_superblock t)) (s ∷ slots))
 shown_first s slots = go (is_superblock s) refl
   where
     go : (b : Bool) → is_superblock s ≡ b →
-        listed (cond b None (Some (shape_of s))) ++ map shape_of (filter (λ t. not (is_superblock t)) slots) ≡ map shape_of (cond (not b) (s ∷ filter (λ t. not (is_superblock t)) slots) (filter (λ t. not (is_superblock t)) slots))
+        shape_list (cond b None (Some (shape_of s))) ++ map shape_of (filter (λ t. not (is_superblock t)) slots) ≡ map shape_of (cond (not b) (s ∷ filter (λ t. not (is_superblock t)) slots) (filter (λ t. not (is_superblock t)) slots))
     go true e = refl
     go false e = refl
 
-pub shown_complete : (raw : List RawSlot) (all : List Slot) → complete_all raw ≡ Some all → shown_among raw ≡ map shape_of (filter (λ s. not (is_superblock s)) all)
+pub shown_complete : (raw : List RawSlot) (all : List Slot) → complete_all raw ≡ Some all → shapes_among raw ≡ map shape_of (filter (λ s. not (is_superblock s)) all)
 shown_complete [] all h = ap (λ us. map shape_of (filter (λ s. not (is_superblock s)) us)) (same_Some [] all h)
 shown_complete (x ∷ xs) all h =
     let p = complete_parts x xs all h in
-    ap₂ (λ o rest. listed (option_shown o) ++ rest) p.is_first (shown_complete xs p.others p.are_others)
+    ap₂ (λ o rest. shape_list (option_shown o) ++ rest) p.is_first (shown_complete xs p.others p.are_others)
     ∙ shown_first p.first p.others
     ∙ ap (λ us. map shape_of (filter (λ s. not (is_superblock s)) us)) (sym p.all_are)
   where
     option_shown : Option Slot → Option Shape
     option_shown None = None
-    option_shown (Some s) = shown_of s
+    option_shown (Some s) = shape_if_entry s
 
-pub shown_shapes : (moved : Option ℕ) (raw : List RawSlot) (all : List Slot) → complete_all raw ≡ Some all → shown_among (without moved raw) ≡ shapes_in moved all
-shown_shapes moved raw all h = shown_complete (without moved raw) (without moved all) (complete_without moved raw all h)
+pub shown_shapes : (moved : Option ℕ) (raw : List RawSlot) (all : List Slot) → complete_all raw ≡ Some all → shapes_among (without_id moved raw) ≡ shapes_in moved all
+shown_shapes moved raw all h = shown_complete (without_id moved raw) (without_id moved all) (complete_without moved raw all h)

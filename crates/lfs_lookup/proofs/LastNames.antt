@@ -6,7 +6,7 @@ use Rattle.lfs_model.specs.TreeEdits.{last_name}
 use Rattle.lfs_model.specs.Names.{Name, is_component, slash}
 use Rattle.lfs_model.specs.Operations.{path_of}
 use Rattle.lfs_model.specs.Refusals.{as_path, is_root}
-use Rattle.lfs_lookup.specs.NameLengths.{behind_slash}
+use Rattle.lfs_lookup.specs.NameLengths.{length_after_slash}
 
 abbrev parts_of : List ℕ → List Name
 parts_of bytes = slice_split (λ c. c == slash) bytes
@@ -48,12 +48,12 @@ last_step : (n b : ℕ) (bytes : List ℕ) (c : Bool) → last_len n (if c then 
 last_step n b bytes true = last_behind n bytes ∙ sym (last_none (parts_of bytes))
 last_step n b bytes false = last_onto n b (parts_of bytes)
 
-behind_is : (n : ℕ) (bytes : List ℕ) → behind_slash n bytes ≡ last_len n (parts_of bytes)
+behind_is : (n : ℕ) (bytes : List ℕ) → length_after_slash n bytes ≡ last_len n (parts_of bytes)
 behind_is n [] = omega arith
 behind_is n (b ∷ bytes) = behind_is (if b == slash then 0 else n + 1) bytes ∙ sym (last_step n b bytes (b == slash))
 
 -- for the bytes of a path
-pub last_name_len : (bytes : List ℕ) → is_some (path_of bytes) ≡ true → behind_slash 0 bytes ≡ length (last_name (as_path bytes))
+pub last_name_len : (bytes : List ℕ) → is_some (path_of bytes) ≡ true → length_after_slash 0 bytes ≡ length (last_name (as_path bytes))
 last_name_len [] h = absurd (cc)
 last_name_len (b ∷ bytes) h = first (b == slash) refl h
   where
@@ -61,11 +61,11 @@ last_name_len (b ∷ bytes) h = first (b == slash) refl h
     whole rest = if nat_lt 0 (length rest) then (if list_all is_component (parts_of rest) then Some (parts_of rest) else None) else Some []
 
     cut : (rest : List ℕ) (c : Bool) → list_all is_component (parts_of rest) ≡ c → is_some (if c then Some (parts_of rest) else None) ≡ true
-        → behind_slash 0 rest ≡ length (last_name (unwrap_or (if c then Some (parts_of rest) else None) []))
+        → length_after_slash 0 rest ≡ length (last_name (unwrap_or (if c then Some (parts_of rest) else None) []))
     cut rest true e k = behind_is 0 rest ∙ last_none (parts_of rest)
     cut rest false e k = absurd (cc)
 
-    rest_of : (rest : List ℕ) → is_some (whole rest) ≡ true → behind_slash 0 rest ≡ length (last_name (unwrap_or (whole rest) []))
+    rest_of : (rest : List ℕ) → is_some (whole rest) ≡ true → length_after_slash 0 rest ≡ length (last_name (unwrap_or (whole rest) []))
     rest_of [] k = refl
     rest_of (x ∷ xs) k = go (nat_lt 0 (length (x ∷ xs))) refl k
       where
@@ -73,12 +73,12 @@ last_name_len (b ∷ bytes) h = first (b == slash) refl h
         shown = if list_all is_component (parts_of (x ∷ xs)) then Some (parts_of (x ∷ xs)) else None
 
         go : (d : Bool) → nat_lt 0 (length (x ∷ xs)) ≡ d → is_some (if d then shown else Some []) ≡ true
-            → behind_slash 0 (x ∷ xs) ≡ length (last_name (unwrap_or (if d then shown else Some []) []))
+            → length_after_slash 0 (x ∷ xs) ≡ length (last_name (unwrap_or (if d then shown else Some []) []))
         go true e k = cut (x ∷ xs) (list_all is_component (parts_of (x ∷ xs))) refl k
         go false e k = absurd (let t = sym (lt-ltb 0 (length (x ∷ xs)) (omega arith)) ∙ e in cc)
 
     first : (c : Bool) → (b == slash) ≡ c → is_some (if not c then None else whole bytes) ≡ true
-        → behind_slash (if c then 0 else 0 + 1) bytes ≡ length (last_name (unwrap_or (if not c then None else whole bytes) []))
+        → length_after_slash (if c then 0 else 0 + 1) bytes ≡ length (last_name (unwrap_or (if not c then None else whole bytes) []))
     first true e k = rest_of bytes k
     first false e k = absurd (cc)
 

@@ -8,17 +8,17 @@ use Rattle.lfs_model.specs.Disk.{Disk}
 use Rattle.lfs_model.specs.Operations as ops
 use Rattle.lfs_model.specs.SlotEdits.{slot_of_path}
 use Rattle.lfs_model.specs.Slots.{Slot, Struct, Inline, Ctz, Branch}
-use Rattle.lfs_model.specs.Effects.{items_in, size_of}
+use Rattle.lfs_model.specs.Effects.{items_in, node_size}
 use Rattle.lfs_model.specs.Thread.{Pair}
 use Rattle.lfs_model.specs.Tree.{Path, node_of}
 use Rattle.lfs_model.specs.View.{IsAccepted, IsListIfCtz}
-use Rattle.lfs_model.specs.Shown.{Leads, all_slots, contents_in, entries_in, tree_in}
+use Rattle.lfs_model.specs.Shown.{PathLeadsTo, all_slots, contents_in, entries_in, tree_in}
 use Rattle.lfs_model.proofs.Counts.{Each, each_both}
 use Rattle.lfs_model.proofs.OneCommit.{slot_there}
 use Rattle.lfs_thread.specs.Kept.{Kept, disk_on}
 use Rattle.lfs_lookup.specs.ByName.{AreByName}
 use Rattle.lfs_lookup.specs.Items.{Shape, shape_of}
-use Rattle.lfs_lookup.specs.ListAt.{AreShort, IsShortEntry, item_listed, size_listed}
+use Rattle.lfs_lookup.specs.ListAt.{AreShortEntries, IsShortEntry, item_listed, size_listed}
 use Rattle.lfs_lookup.specs.Listed.{shapes_from}
 use Rattle.lfs_lookup.specs.Paths.{BeginsOnPath}
 use Rattle.lfs_lookup.proofs.AtPaths.{SizedLists, directory_at_path}
@@ -35,36 +35,36 @@ each_got P (x ∷ xs) h = (h 0 x refl, each_got P xs (λ k y e. h (suc k) y e))
 
 module _ (disk : Disk) (ps : List Pair) (path : Path) where
   abbrev IsSized : Slot → Type 0
-  IsSized s = size_of (tree_in disk ps (path ++ s.name ∷ [])) ≡ size_listed s.struct
+  IsSized s = node_size (tree_in disk ps (path ++ s.name ∷ [])) ≡ size_listed s.struct
 
   sized : (s : Slot) → SizedLists disk → slot_of_path ps (path ++ s.name ∷ []) ≡ Some s → IsListIfCtz disk s.struct → IsSized s
-  sized s lists e list = ap (λ o. size_of (option_map (λ (f : Slot). node_of (contents_in disk) (entries_in ps) f.attributes f.struct) o)) e ∙ go s.struct list
+  sized s lists e list = ap (λ o. node_size (option_map (λ (f : Slot). node_of (contents_in disk) (entries_in ps) f.attributes f.struct) o)) e ∙ go s.struct list
     where
-      go : (z : Struct) → IsListIfCtz disk z → size_of (Some (node_of (contents_in disk) (entries_in ps) s.attributes z)) ≡ size_listed z
+      go : (z : Struct) → IsListIfCtz disk z → node_size (Some (node_of (contents_in disk) (entries_in ps) s.attributes z)) ≡ size_listed z
       go (Inline bytes) l = refl
       go (Ctz head size) l = ap Some (lists head size l)
       go (Branch to) l = refl
 
-  rows : (slots : List Slot) → Each IsSized slots → map (λ name. let item : ops.Item = record { name = name; size = size_of (tree_in disk ps (path ++ name ∷ [])) } in item) (map (λ (s : Slot). s.name) slots) ≡ map item_listed (map shape_of slots)
+  rows : (slots : List Slot) → Each IsSized slots → map (λ name. let item : ops.Item = record { name = name; size = node_size (tree_in disk ps (path ++ name ∷ [])) } in item) (map (λ (s : Slot). s.name) slots) ≡ map item_listed (map shape_of slots)
   rows [] h = refl
   rows (s ∷ slots) h = ap₂ (λ z zs. let item : ops.Item = record { name = s.name; size = z } in item ∷ zs) h.0 (rows slots h.1)
 
-  pub items_listed : (at : ℕ × ℕ) (slots : List Slot) → IsAccepted disk ps → Leads ps path at → SizedLists disk → AreRows (entries_in ps at) slots → map item_listed (map shape_of slots) ≡ items_in (tree_in disk ps) path
+  pub items_listed : (at : ℕ × ℕ) (slots : List Slot) → IsAccepted disk ps → PathLeadsTo ps path at → SizedLists disk → AreRows (entries_in ps at) slots → map item_listed (map shape_of slots) ≡ items_in (tree_in disk ps) path
   items_listed at slots ok leads lists r =
       let d = directory_at_path disk ps path at leads in
-      sym (ap (λ o. map (λ name. let item : ops.Item = record { name = name; size = size_of (tree_in disk ps (path ++ name ∷ [])) } in item) (names_of o)) d.is
-      ∙ ap (map (λ name. let item : ops.Item = record { name = name; size = size_of (tree_in disk ps (path ++ name ∷ [])) } in item)) (sym r.names)
+      sym (ap (λ o. map (λ name. let item : ops.Item = record { name = name; size = node_size (tree_in disk ps (path ++ name ∷ [])) } in item) (names_of o)) d.is
+      ∙ ap (map (λ name. let item : ops.Item = record { name = name; size = node_size (tree_in disk ps (path ++ name ∷ [])) } in item)) (sym r.names)
       ∙ rows slots (each_row IsSized (entries_in ps at) slots r (each_both (λ s. slot_of_path ps (path ++ s.name ∷ []) ≡ Some s) (λ s. IsListIfCtz disk s.struct) IsSized (λ s e l. sized s lists e l) (entries_in ps at)
       (each_got (λ s. slot_of_path ps (path ++ s.name ∷ []) ≡ Some s) (entries_in ps at) (λ k u g. slot_there disk ps path at k u ok leads g))
       (each_entry (λ s. IsListIfCtz disk s.struct) disk ps path at ok leads (recursion_from_All (λ (s : Slot). IsListIfCtz disk s.struct) (all_slots ps) ok.lists)))))
 
 -- ---- of a thread
 
-each_short : (slots : List Slot) → AreShort (map shape_of slots) → Each (λ s. IsShortEntry (shape_of s)) slots
+each_short : (slots : List Slot) → AreShortEntries (map shape_of slots) → Each (λ s. IsShortEntry (shape_of s)) slots
 each_short [] h = tt
 each_short (s ∷ slots) h = (h.0, each_short slots h.1)
 
-short_each : (slots : List Slot) → Each (λ s. IsShortEntry (shape_of s)) slots → AreShort (map shape_of slots)
+short_each : (slots : List Slot) → Each (λ s. IsShortEntry (shape_of s)) slots → AreShortEntries (map shape_of slots)
 short_each [] h = tt
 short_each (s ∷ slots) h = (h.0, short_each slots h.1)
 
@@ -76,10 +76,10 @@ module _ (t : Kept) (path : Path) (ok : IsAccepted t.disk t.pairs) (now : List P
       let own = are ∙ ap (λ ps. shapes_from ps (Some first)) same ∙ own_shapes t.disk t.pairs path on.at first ok on.leads on.begins in
       rows_by_name (entries_in t.pairs on.at) shapes (subst (λ (z : List Shape). AreByName z shapes) own by_name)
 
-  pub short_there : HasBytes t.disk.blocks → AreShort shapes
+  pub short_there : HasBytes t.disk.blocks → AreShortEntries shapes
   short_there bytes =
       let (slots, (r, is)) = slots_there in
-      subst AreShort (sym is)
+      subst AreShortEntries (sym is)
       (short_each slots (each_row (λ s. IsShortEntry (shape_of s)) (entries_in t.pairs on.at) slots r (each_short (entries_in t.pairs on.at) (short_entries t.disk t.pairs path on.at bytes ok on.leads))))
 
   pub listed_there : (listed : List ops.Item) → SizedLists t.disk → listed ≡ map item_listed shapes → listed ≡ items_in (tree_in t.disk t.pairs) path

@@ -7,10 +7,10 @@ use Rattle.std.proofs.lemmas.List.Elements.{recursion_from_All}
 use Rattle.lfs_model.specs.Disk.{Disk}
 use Rattle.lfs_model.specs.Names.{is_component, name_limit}
 use Rattle.lfs_model.specs.Slots.{Gstate, Slot, is_superblock, same_pair}
-use Rattle.lfs_model.specs.Thread.{Pair, gstate_of, superblocks_before, unmoved, visible}
+use Rattle.lfs_model.specs.Thread.{Pair, gstate_of, superblocks_before, slots_not_moved, entries_not_moved}
 use Rattle.lfs_model.specs.Tree.{Path}
 use Rattle.lfs_model.specs.View.{IsAccepted, IsEntry, MayHaveSuperblock}
-use Rattle.lfs_model.specs.Shown.{Leads, entries_in}
+use Rattle.lfs_model.specs.Shown.{PathLeadsTo, entries_in}
 use Rattle.lfs_model.proofs.Counts.{Each, each_weaker}
 use Rattle.lfs_lookup.proofs.Visits.{each_visible}
 
@@ -60,7 +60,7 @@ fit_removed [] (suc id) h = tt
 fit_removed (x ∷ xs) zero h = h.1
 fit_removed (x ∷ xs) (suc id) h = (h.0, fit_removed xs id h.1)
 
-fit_unmoved : (g : Gstate) (p : Pair) → Each may_fit p.content.slots → Each may_fit (unmoved g p)
+fit_unmoved : (g : Gstate) (p : Pair) → Each may_fit p.content.slots → Each may_fit (slots_not_moved g p)
 fit_unmoved g p h = go (g.kind == 0x4ff && same_pair g.pair p.at)
   where
     go : (b : Bool) → Each may_fit (cond b (remove p.content.slots g.id) p.content.slots)
@@ -77,8 +77,8 @@ fit_shown (s ∷ slots) h = go (is_superblock s) refl (fit_shown slots h.1)
     go false e rest = (h.0 e, rest)
 
 -- each entry of a directory has a short name
-pub fitting_names : (disk : Disk) (ps : List Pair) (path : Path) (at : ℕ × ℕ) → IsAccepted disk ps → Leads ps path at → Each name_fits (entries_in ps at)
+pub fitting_names : (disk : Disk) (ps : List Pair) (path : Path) (at : ℕ × ℕ) → IsAccepted disk ps → PathLeadsTo ps path at → Each name_fits (entries_in ps at)
 fitting_names disk ps path at ok leads =
     each_visible name_fits disk ps path at ok leads
-    (each_weaker (λ (p : Pair). Each may_fit p.content.slots) (λ (p : Pair). Each name_fits (visible (gstate_of ps) p))
-    (λ p h. fit_shown (unmoved (gstate_of ps) p) (fit_unmoved (gstate_of ps) p h)) ps (pairs_fit disk ps ok))
+    (each_weaker (λ (p : Pair). Each may_fit p.content.slots) (λ (p : Pair). Each name_fits (entries_not_moved (gstate_of ps) p))
+    (λ p h. fit_shown (slots_not_moved (gstate_of ps) p) (fit_unmoved (gstate_of ps) p h)) ps (pairs_fit disk ps ok))

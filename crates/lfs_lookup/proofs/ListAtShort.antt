@@ -9,30 +9,30 @@ use Rattle.lfs_model.specs.Disk.{Disk, block_at}
 use Rattle.lfs_model.specs.Log.{log_entries, revision_of}
 use Rattle.lfs_model.specs.LoggedContent.{HasParts, HaveParts, IsPartIfSome}
 use Rattle.lfs_model.specs.Slots.{Gstate, Slot, Inline, Ctz, Branch, same_pair}
-use Rattle.lfs_model.specs.Thread.{Pair, gstate_of, unmoved}
+use Rattle.lfs_model.specs.Thread.{Pair, gstate_of, slots_not_moved}
 use Rattle.lfs_model.specs.Tree.{Path}
 use Rattle.lfs_model.specs.View.{IsAccepted}
-use Rattle.lfs_model.specs.Shown.{Leads, entries_in}
+use Rattle.lfs_model.specs.Shown.{PathLeadsTo, entries_in}
 use Rattle.lfs_model.proofs.Completed.{complete_parts, completed_parts}
 use Rattle.lfs_model.proofs.Counts.{Each, each_joined, each_weaker}
 use Rattle.lfs_model.proofs.Logged.{logged}
 use Rattle.lfs_device.specs.Bytes.{AreBytes, HasBytes}
 use Rattle.lfs_lookup.specs.Items.{shape_of}
-use Rattle.lfs_lookup.specs.ListAt.{AreShort, IsShort, IsShortEntry}
+use Rattle.lfs_lookup.specs.ListAt.{AreShortEntries, FitsInline, IsShortEntry}
 use Rattle.lfs_lookup.proofs.ListAtNames.{name_fits, fitting_names}
 use Rattle.lfs_lookup.proofs.Visits.{each_both, each_entry}
 
 abbrev short_slot : Slot → Type 0
-short_slot s = IsShort s.struct
+short_slot s = FitsInline s.struct
 
 -- ---- the slots of a log
 
-short_of : (a b : Bool) (bytes : List ℕ) (to : ℕ × ℕ) (head size : ℕ) → length bytes < 0x3ff → IsShort (cond a (Inline bytes) (cond b (Branch to) (Ctz head size)))
+short_of : (a b : Bool) (bytes : List ℕ) (to : ℕ × ℕ) (head size : ℕ) → length bytes < 0x3ff → FitsInline (cond a (Inline bytes) (cond b (Branch to) (Ctz head size)))
 short_of true b bytes to head size l = l
 short_of false true bytes to head size l = tt
 short_of false false bytes to head size l = tt
 
-short_typed : (kind : ℕ) (bytes : List ℕ) → length bytes < 0x3ff → IsShort (struct_typed kind bytes)
+short_typed : (kind : ℕ) (bytes : List ℕ) → length bytes < 0x3ff → FitsInline (struct_typed kind bytes)
 short_typed kind bytes l = short_of (kind == inline_struct_type) (kind == directory_struct_type) bytes (pair_at bytes) _ _ l
 
 short_complete : (s : RawSlot) (t : Slot) → HasParts s → complete s ≡ Some t → short_slot t
@@ -81,7 +81,7 @@ each_remove [] (suc id) h = tt
 each_remove (x ∷ xs) zero h = h.1
 each_remove (x ∷ xs) (suc id) h = (h.0, each_remove xs id h.1)
 
-short_unmoved : (g : Gstate) (p : Pair) → Each short_slot p.content.slots → Each short_slot (unmoved g p)
+short_unmoved : (g : Gstate) (p : Pair) → Each short_slot p.content.slots → Each short_slot (slots_not_moved g p)
 short_unmoved g p h = go (g.kind == 0x4ff && same_pair g.pair p.at)
   where
     go : (b : Bool) → Each short_slot (cond b (remove p.content.slots g.id) p.content.slots)
@@ -90,14 +90,14 @@ short_unmoved g p h = go (g.kind == 0x4ff && same_pair g.pair p.at)
 
 -- ---- the entries of a directory
 
-short_shapes : (slots : List Slot) → Each (λ s. IsShortEntry (shape_of s)) slots → AreShort (map shape_of slots)
+short_shapes : (slots : List Slot) → Each (λ s. IsShortEntry (shape_of s)) slots → AreShortEntries (map shape_of slots)
 short_shapes [] h = tt
 short_shapes (s ∷ slots) h = (h.0, short_shapes slots h.1)
 
-pub short_entries : (disk : Disk) (ps : List Pair) (path : Path) (at : ℕ × ℕ) → HasBytes disk.blocks → IsAccepted disk ps → Leads ps path at → AreShort (map shape_of (entries_in ps at))
+pub short_entries : (disk : Disk) (ps : List Pair) (path : Path) (at : ℕ × ℕ) → HasBytes disk.blocks → IsAccepted disk ps → PathLeadsTo ps path at → AreShortEntries (map shape_of (entries_in ps at))
 short_entries disk ps path at bytes ok leads =
-    let pairs : Each (λ p. Each short_slot (unmoved (gstate_of ps) p)) ps =
-    each_weaker (λ p. content_at disk p.at ≡ Some p.content) (λ p. Each short_slot (unmoved (gstate_of ps) p)) (λ p e. short_unmoved (gstate_of ps) p (short_pair disk p bytes e)) ps
+    let pairs : Each (λ p. Each short_slot (slots_not_moved (gstate_of ps) p)) ps =
+    each_weaker (λ p. content_at disk p.at ≡ Some p.content) (λ p. Each short_slot (slots_not_moved (gstate_of ps) p)) (λ p e. short_unmoved (gstate_of ps) p (short_pair disk p bytes e)) ps
     (recursion_from_All (λ (p : Pair). content_at disk p.at ≡ Some p.content) ps ok.thread.contents) in
     short_shapes (entries_in ps at) (each_both short_slot name_fits (λ s. IsShortEntry (shape_of s)) (entries_in ps at) (λ s k l. (k, l))
-    (each_entry short_slot disk ps path at ok leads (each_joined short_slot (unmoved (gstate_of ps)) ps pairs)) (fitting_names disk ps path at ok leads))
+    (each_entry short_slot disk ps path at ok leads (each_joined short_slot (slots_not_moved (gstate_of ps)) ps pairs)) (fitting_names disk ps path at ok leads))

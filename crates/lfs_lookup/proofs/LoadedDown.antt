@@ -18,8 +18,8 @@ use Rattle.lfs_model.proofs.Counts.{each_append, each_left, each_right, each_wea
 use Rattle.lfs_pair.specs.Pair.{active_at}
 use Rattle.lfs_thread.specs.Kept.{Kept, State}
 use Rattle.lfs_thread.specs.Steps.{IsOnlyRead}
-use Rattle.lfs_lookup.specs.CachedPairs.{AreCached, AreCachedBeneath, AreRecent, AreRecentOn, AreSmall, LoadsAlong, LoadsDown, IsLoaded, IsRecent, StayCached, pairs_on}
-use Rattle.lfs_lookup.specs.Listed.{joined_run, run_from}
+use Rattle.lfs_lookup.specs.CachedPairs.{AreCached, AreCachedBeneath, AreRecent, AreRecentOn, AreSmall, LoadsPairs, LoadsDirectories, IsLoaded, IsRecent, StayCached, pairs_of_directory_at}
+use Rattle.lfs_lookup.specs.Listed.{hard_tail_run, hard_tail_run_from}
 use Rattle.lfs_lookup.specs.Paths.{BeginsOnPath}
 use Rattle.lfs_lookup.proofs.Descended.{parents_on, take_on, take_whole}
 use Rattle.lfs_lookup.proofs.Directories.{own_pairs}
@@ -32,19 +32,19 @@ abbrev many_at : List Pair → Option (ℕ × ℕ) → ℕ
 many_at ps None = 0
 many_at ps (Some at) = length (pairs_at ps at)
 
-pub length-pairs_on : (ps : List Pair) (path : Path) → length (pairs_on ps path) ≡ pairs_of_path ps path
+pub length-pairs_on : (ps : List Pair) (path : Path) → length (pairs_of_directory_at ps path) ≡ pairs_of_path ps path
 length-pairs_on ps path = go (directory_at (entries_in ps) (root_of ps) path)
   where
     go : (o : Option (ℕ × ℕ)) → length (option_map_or (pairs_at ps) o []) ≡ many_at ps o
     go None = refl
     go (Some at) = refl
 
-pub run_on_path : (t : Kept) (path : Path) (first : ℕ) → IsAccepted t.disk t.pairs → BeginsOnPath t.pairs path first → joined_run (drop first t.pairs) ≡ pairs_on t.pairs path
+pub run_on_path : (t : Kept) (path : Path) (first : ℕ) → IsAccepted t.disk t.pairs → BeginsOnPath t.pairs path first → hard_tail_run (drop first t.pairs) ≡ pairs_of_directory_at t.pairs path
 run_on_path t path first ok on = own_pairs t.disk t.pairs path on.at first ok on.leads on.begins ∙ sym (ap (λ o. option_map_or (pairs_at t.pairs) o []) on.leads)
 
 -- and behind calls that only read
-pub run_same : (a b : Kept) (path : Path) (first : ℕ) → IsAccepted a.disk a.pairs → IsOnlyRead a b → BeginsOnPath a.pairs path first → joined_run (drop first b.pairs) ≡ pairs_on a.pairs path
-run_same a b path first ok r on = ap (λ ps. joined_run (drop first ps)) r.pairs ∙ run_on_path a path first ok on
+pub run_same : (a b : Kept) (path : Path) (first : ℕ) → IsAccepted a.disk a.pairs → IsOnlyRead a b → BeginsOnPath a.pairs path first → hard_tail_run (drop first b.pairs) ≡ pairs_of_directory_at a.pairs path
+run_same a b path first ok r on = ap (λ ps. hard_tail_run (drop first ps)) r.pairs ∙ run_on_path a path first ok on
 
 -- ---- the directories above
 
@@ -63,13 +63,13 @@ parent_at P (x ∷ path) (suc i) n e h = parent_at (λ q. P (x ∷ q)) path i n 
 
 -- ---- one directory more
 
-module _ (disk : Disk) (ps : List Pair) (q : Path) (run : List Pair) (is : run ≡ pairs_on ps q) (now : State) (same : now.kept.disk ≡ disk) where
-  pub on_hand : (cache : CachedBlocks) → AreRecent cache_limit disk cache (pairs_on ps q) → StayCached cache now.cache → AreCached now run
+module _ (disk : Disk) (ps : List Pair) (q : Path) (run : List Pair) (is : run ≡ pairs_of_directory_at ps q) (now : State) (same : now.kept.disk ≡ disk) where
+  pub on_hand : (cache : CachedBlocks) → AreRecent cache_limit disk cache (pairs_of_directory_at ps q) → StayCached cache now.cache → AreCached now run
   on_hand cache there stay =
-      subst (AreCached now) (sym is) (subst (λ d. AreRecent cache_limit d now.cache (pairs_on ps q)) (sym same)
-      (each_weaker (λ (p : Pair). IsRecent cache_limit cache (active_at disk p.at)) (λ (p : Pair). IsRecent cache_limit now.cache (active_at disk p.at)) (λ p k. stay (active_at disk p.at) k) (pairs_on ps q) there))
+      subst (AreCached now) (sym is) (subst (λ d. AreRecent cache_limit d now.cache (pairs_of_directory_at ps q)) (sym same)
+      (each_weaker (λ (p : Pair). IsRecent cache_limit cache (active_at disk p.at)) (λ (p : Pair). IsRecent cache_limit now.cache (active_at disk p.at)) (λ p k. stay (active_at disk p.at) k) (pairs_of_directory_at ps q) there))
 
-  module _ {X : Type 0} (new : State) (x : X) (b : LoadsAlong run now new (Ok x)) (n : ℕ) (few : n < cache_limit) (small : pairs_of_path ps q ≡ 1) where
+  module _ {X : Type 0} (new : State) (x : X) (b : LoadsPairs run now new (Ok x)) (n : ℕ) (few : n < cache_limit) (small : pairs_of_path ps q ≡ 1) where
     one_is : length run ≡ 1
     one_is = ap length is ∙ length-pairs_on ps q ∙ small
 
@@ -83,11 +83,11 @@ module _ (disk : Disk) (ps : List Pair) (q : Path) (run : List Pair) (is : run �
     further_of (p ∷ qs) e h = λ c k. h.0.others n c few k
 
     pub recent_more : (qs : List Path) → AreRecentOn n disk now.cache ps qs → AreRecentOn (suc n) disk new.cache ps (qs ++ q ∷ [])
-    recent_more qs h = each_append (λ (p : Path). AreRecent (suc n) disk new.cache (pairs_on ps p)) qs (q ∷ [])
-        (each_weaker (λ (p : Path). AreRecent n disk now.cache (pairs_on ps p)) (λ (p : Path). AreRecent (suc n) disk new.cache (pairs_on ps p))
+    recent_more qs h = each_append (λ (p : Path). AreRecent (suc n) disk new.cache (pairs_of_directory_at ps p)) qs (q ∷ [])
+        (each_weaker (λ (p : Path). AreRecent n disk now.cache (pairs_of_directory_at ps p)) (λ (p : Path). AreRecent (suc n) disk new.cache (pairs_of_directory_at ps p))
         (λ p k. each_weaker (λ (r : Pair). IsRecent n now.cache (active_at disk r.at)) (λ (r : Pair). IsRecent (suc n) new.cache (active_at disk r.at))
-        (λ r z. further_of run one_is (b.one one_is) (active_at disk r.at) z) (pairs_on ps p) k) qs h)
-        (subst (λ d. AreRecent (suc n) d new.cache (pairs_on ps q)) same (subst (AreRecent (suc n) now.kept.disk new.cache) is (last_of run one_is (b.one one_is))), tt)
+        (λ r z. further_of run one_is (b.one one_is) (active_at disk r.at) z) (pairs_of_directory_at ps p) k) qs h)
+        (subst (λ d. AreRecent (suc n) d new.cache (pairs_of_directory_at ps q)) same (subst (AreRecent (suc n) now.kept.disk new.cache) is (last_of run one_is (b.one one_is))), tt)
 
 -- ---- on the way
 
@@ -106,19 +106,19 @@ pub stops_none : {Y : Type 0} (through : Y → Type 0) (s : Result Y Error) (e :
 stops_none through s e is = λ Q. subst (λ z. IfOk z (λ x. through x → Q)) (sym is) tt
 
 module _ (old now : State) (path : Path) (i : ℕ) (name : Name) (at : slice_get path i ≡ Some name) (h : HasSearched path i old now)
-    (run : List Pair) (is : run ≡ pairs_on old.kept.pairs (take i path)) (new : State) where
+    (run : List Pair) (is : run ≡ pairs_of_directory_at old.kept.pairs (take i path)) (new : State) where
   there_now : AreCachedBeneath old (parents path) → AreCached now run
   there_now there = on_hand old.kept.disk old.kept.pairs (take i path) run is now h.disk old.cache
-      (parent_at (λ p. AreRecent cache_limit old.kept.disk old.cache (pairs_on old.kept.pairs p)) path i name at there) (h.stay there)
+      (parent_at (λ p. AreRecent cache_limit old.kept.disk old.cache (pairs_of_directory_at old.kept.pairs p)) path i name at there) (h.stay there)
 
-  pub searched_to_here : {X Y : Type 0} (r : Result X Error) (s : Result Y Error) (through : Y → Type 0) → LoadsAlong run now new r → Passes r s → StopsShort through s → LoadsDown through (parents path) old new s
+  pub searched_to_here : {X Y : Type 0} (r : Result X Error) (s : Result Y Error) (through : Y → Type 0) → LoadsPairs run now new r → Passes r s → StopsShort through s → LoadsDirectories through (parents path) old new s
   searched_to_here r s through b pass short = record {
     none = λ there. b.none (there_now there) ∙ h.none there;
     stay = λ there. pass _ (after r (λ st x k. st x (h.stay there x k)) (b.stay (there_now there)));
     recent = λ small. short _;
   }
 
-  pub searched_on : {X : Type 0} (x : X) → LoadsAlong run now new (Ok x) → new.kept.disk ≡ now.kept.disk → i < length path → HasSearched path (i + 1) old new
+  pub searched_on : {X : Type 0} (x : X) → LoadsPairs run now new (Ok x) → new.kept.disk ≡ now.kept.disk → i < length path → HasSearched path (i + 1) old new
   searched_on x b same within = record {
     disk = same ∙ h.disk;
     none = λ there. b.none (there_now there) ∙ h.none there;
@@ -133,7 +133,7 @@ module _ (old now : State) (path : Path) (i : ℕ) (name : Name) (at : slice_get
         );
   }
 
-pub searched_all : {Y : Type 0} (old now : State) (path : Path) (i : ℕ) (y : Y) (through : Y → Type 0) → HasSearched path i old now → length path ≤ i → i ≤ length path → LoadsDown through (parents path) old now (Ok y)
+pub searched_all : {Y : Type 0} (old now : State) (path : Path) (i : ℕ) (y : Y) (through : Y → Type 0) → HasSearched path i old now → length path ≤ i → i ≤ length path → LoadsDirectories through (parents path) old now (Ok y)
 searched_all old now path i y through h past within = record {
   none = h.none;
   stay = h.stay;
@@ -148,14 +148,14 @@ searched_all old now path i y through h past within = record {
 
 -- the way ends before the last directory
 pub down_short : {X Y : Type 0} (enters : X → Type 0) (through : Y → Type 0) (old new : State) (path above : Path) (name : Name) (r : Result X Error) (s : Result Y Error) → path ≡ above ++ name ∷ [] → Passes r s → StopsShort through s
-    → LoadsDown enters (parents above) old new r → LoadsDown through (parents path) old new s
+    → LoadsDirectories enters (parents above) old new r → LoadsDirectories through (parents path) old new s
 down_short enters through old new path above name r s is pass short b = record { none = λ there. b.none (upper there); stay = λ there. pass _ (b.stay (upper there)); recent = λ small. short _ }
   where
     upper : AreCachedBeneath old (parents path) → AreCachedBeneath old (parents above)
-    upper there = each_left (λ p. AreRecent cache_limit old.kept.disk old.cache (pairs_on old.kept.pairs p)) (parents above) (above ∷ []) (subst (AreCachedBeneath old) (ap parents is ∙ parents_on above name) there)
+    upper there = each_left (λ p. AreRecent cache_limit old.kept.disk old.cache (pairs_of_directory_at old.kept.pairs p)) (parents above) (above ∷ []) (subst (AreCachedBeneath old) (ap parents is ∙ parents_on above name) there)
 
 pub down_last : {X Y : Type 0} (enters : X → Type 0) (through : Y → Type 0) (old mid new : State) (path above : Path) (name : Name) (x : X) (s : Result Y Error) (run : List Pair) → path ≡ above ++ name ∷ []
-    → LoadsDown enters (parents above) old mid (Ok x) → enters x → mid.kept.disk ≡ old.kept.disk → run ≡ pairs_on old.kept.pairs above → LoadsAlong run mid new s → LoadsDown through (parents path) old new s
+    → LoadsDirectories enters (parents above) old mid (Ok x) → enters x → mid.kept.disk ≡ old.kept.disk → run ≡ pairs_of_directory_at old.kept.pairs above → LoadsPairs run mid new s → LoadsDirectories through (parents path) old new s
 down_last {Y = Y} enters through old mid new path above name x s run is a all same are b = record {
   none = λ there. (let p = parted there in b.none (on_hand old.kept.disk old.kept.pairs above run are mid same old.cache p.1 (a.stay p.0)) ∙ a.none p.0);
   stay = λ there. (let p = parted there in after s (λ st c k. st c (a.stay p.0 c k)) (b.stay (on_hand old.kept.disk old.kept.pairs above run are mid same old.cache p.1 (a.stay p.0))));
@@ -165,13 +165,13 @@ down_last {Y = Y} enters through old mid new path above name x s run is a all sa
     parents_are : parents path ≡ parents above ++ above ∷ []
     parents_are = ap parents is ∙ parents_on above name
 
-    parted : AreCachedBeneath old (parents path) → AreCachedBeneath old (parents above) × AreRecent cache_limit old.kept.disk old.cache (pairs_on old.kept.pairs above)
+    parted : AreCachedBeneath old (parents path) → AreCachedBeneath old (parents above) × AreRecent cache_limit old.kept.disk old.cache (pairs_of_directory_at old.kept.pairs above)
     parted there =
         let k = subst (AreCachedBeneath old) parents_are there in
-        let P : Path → Type 0 = λ p. AreRecent cache_limit old.kept.disk old.cache (pairs_on old.kept.pairs p) in
+        let P : Path → Type 0 = λ p. AreRecent cache_limit old.kept.disk old.cache (pairs_of_directory_at old.kept.pairs p) in
         (each_left P (parents above) (above ∷ []) k, (each_right P (parents above) (above ∷ []) k).0)
 
-    ended : AreSmall old.kept.pairs (parents path) → (s : Result Y Error) → LoadsAlong run mid new s → IfOk s (λ y. through y → AreRecentOn (length (parents path)) old.kept.disk new.cache old.kept.pairs (parents path))
+    ended : AreSmall old.kept.pairs (parents path) → (s : Result Y Error) → LoadsPairs run mid new s → IfOk s (λ y. through y → AreRecentOn (length (parents path)) old.kept.disk new.cache old.kept.pairs (parents path))
     ended small (Err e) b = tt
     ended small (Ok y) b = λ ends.
         let n = ap length parents_are ∙ length-append (parents above) (above ∷ []) in
@@ -187,22 +187,22 @@ down_last {Y = Y} enters through old mid new path above name x s run is a all sa
 -- ---- a directory's own pairs
 
 pub on_hand_above : (t : State) (path : Path) → AreCachedBeneath t (parents path ++ path ∷ []) → AreCachedBeneath t (parents path)
-on_hand_above t path there = each_left (λ p. AreRecent cache_limit t.kept.disk t.cache (pairs_on t.kept.pairs p)) (parents path) (path ∷ []) there
+on_hand_above t path there = each_left (λ p. AreRecent cache_limit t.kept.disk t.cache (pairs_of_directory_at t.kept.pairs p)) (parents path) (path ∷ []) there
 
 pub first_on_hand : (old mid : State) (path : Path) → IsAccepted old.kept.disk old.kept.pairs → IsOnlyRead old.kept mid.kept → (from : Option ℕ) → IsFirstAt old.kept path from → StayCached old.cache mid.cache
-    → AreCachedBeneath old (parents path ++ path ∷ []) → AreCached mid (run_from mid.kept.pairs from)
+    → AreCachedBeneath old (parents path ++ path ∷ []) → AreCached mid (hard_tail_run_from mid.kept.pairs from)
 first_on_hand old mid path ok r None at stay there = tt
 first_on_hand old mid path ok r (Some first) at stay there =
-    on_hand old.kept.disk old.kept.pairs path (joined_run (drop first mid.kept.pairs)) (run_same old.kept mid.kept path first ok r at) mid r.disk old.cache
-    (each_right (λ p. AreRecent cache_limit old.kept.disk old.cache (pairs_on old.kept.pairs p)) (parents path) (path ∷ []) there).0 stay
+    on_hand old.kept.disk old.kept.pairs path (hard_tail_run (drop first mid.kept.pairs)) (run_same old.kept mid.kept path first ok r at) mid r.disk old.cache
+    (each_right (λ p. AreRecent cache_limit old.kept.disk old.cache (pairs_of_directory_at old.kept.pairs p)) (parents path) (path ∷ []) there).0 stay
 
 -- ---- at the end
 
-pub hand_after : {X : Type 0} (a b : State) (through : X → Type 0) (paths : List Path) (r : Result X Error) → LoadsDown through paths a b r → IsOnlyRead a.kept b.kept → AreSmall a.kept.pairs paths
+pub hand_after : {X : Type 0} (a b : State) (through : X → Type 0) (paths : List Path) (r : Result X Error) → LoadsDirectories through paths a b r → IsOnlyRead a.kept b.kept → AreSmall a.kept.pairs paths
     → IfOk r (λ x. through x → AreRecentOn cache_limit b.kept.disk b.cache b.kept.pairs paths)
 hand_after a b through paths (Err e) d only small = tt
 hand_after a b through paths (Ok x) d only small = λ ends.
     subst (λ ps. AreRecentOn cache_limit b.kept.disk b.cache ps paths) (sym only.pairs) (subst (λ disk. AreRecentOn cache_limit disk b.cache a.kept.pairs paths) (sym only.disk)
-    (each_weaker (λ (p : Path). AreRecent (length paths) a.kept.disk b.cache (pairs_on a.kept.pairs p)) (λ (p : Path). AreRecent cache_limit a.kept.disk b.cache (pairs_on a.kept.pairs p))
+    (each_weaker (λ (p : Path). AreRecent (length paths) a.kept.disk b.cache (pairs_of_directory_at a.kept.pairs p)) (λ (p : Path). AreRecent cache_limit a.kept.disk b.cache (pairs_of_directory_at a.kept.pairs p))
     (λ p k. each_weaker (λ (q : Pair). IsRecent (length paths) b.cache (active_at a.kept.disk q.at)) (λ (q : Pair). IsRecent cache_limit b.cache (active_at a.kept.disk q.at))
-    (λ q z. wider (length paths) cache_limit _ b.cache small.few z) (pairs_on a.kept.pairs p) k) paths (d.recent small ends)))
+    (λ q z. wider (length paths) cache_limit _ b.cache small.few z) (pairs_of_directory_at a.kept.pairs p) k) paths (d.recent small ends)))

@@ -15,11 +15,11 @@ use Rattle.lfs_model.specs.Content.{RawSlot, RawContent, completed, complete, co
 use Rattle.lfs_model.specs.EntryTypes.{file_name_type, directory_name_type, superblock_name_type}
 use Rattle.lfs_model.specs.Thread.{starts_with_superblock}
 use Rattle.lfs_model.specs.LoggedContent.{IsPart, IsPartIfSome, HasParts, HaveParts, IsLogged}
-use Rattle.lfs_model.specs.Lookup.{entry_name, is_named, is_behind, IsFound, IsPlace}
+use Rattle.lfs_model.specs.Lookup.{entry_name, is_named, is_name_after, IsLeastIdOf, IsPlace}
 use Rattle.lfs_model.proofs.Completed.{complete_parts, completed_parts}
 use Rattle.lfs_model.proofs.Paths.{name_from_same, same_itself}
 use Rattle.lfs_model.proofs.FirstEntries.{superblock_type}
-use Rattle.lfs_model.specs.InDirectory.{entries_only, StandsAt, BeginsAbove, PlaceAt}
+use Rattle.lfs_model.specs.InDirectory.{entries_only, IsNameAt, BeginsAbove, PlaceAt}
 use Rattle.lfs_lookup.specs.Search.{IsAbsentBut}
 use Rattle.lfs_tag.specs.ContentView.{part_view}
 use Rattle.lfs_tag.specs.declared.content.Part.{Part}
@@ -82,7 +82,7 @@ not_passed passes t h e = sym (ap (λ b. cond b false (passes t.name)) e) ∙ h
 
 -- ---- found
 
-pub stands : (name : Name) (raw : List RawSlot) (slots : List Slot) (id : ℕ) → HaveParts raw → complete_all raw ≡ Some slots → is_named (same_name name) None raw id ≡ true → StandsAt slots name id
+pub stands : (name : Name) (raw : List RawSlot) (slots : List Slot) (id : ℕ) → HaveParts raw → complete_all raw ≡ Some slots → is_named (same_name name) None raw id ≡ true → IsNameAt slots name id
 stands name [] slots id h e k = absurd (cc)
 stands name (s ∷ raw) slots zero h e k =
     let p = complete_parts s raw slots e in
@@ -105,24 +105,24 @@ is_below Less e = refl
 is_below Equal e = absurd (cc)
 is_below Greater e = absurd (cc)
 
-less_first : (by : NameOrder) (name : Name) (t : Slot) (slots : List Slot) → passing (same_name name) t ≡ false → passing (is_behind by name) t ≡ false
+less_first : (by : NameOrder) (name : Name) (t : Slot) (slots : List Slot) → passing (same_name name) t ≡ false → passing (is_name_after by name) t ≡ false
     → AllByRecursion (λ s. name_cmp by s.name name ≡ Less) (entries_only slots) → AllByRecursion (λ s. name_cmp by s.name name ≡ Less) (entries_only (t ∷ slots))
 less_first by name t slots same behind rest = go (is_superblock t) refl
   where
     go : (b : Bool) → is_superblock t ≡ b → AllByRecursion (λ s. name_cmp by s.name name ≡ Less) (cond (not b) (t ∷ entries_only slots) (entries_only slots))
     go true e = rest
     go false e =
-        let g = is_greater (name_cmp by name t.name) (same_by by name t.name ∙ not_passed (same_name name) t same e) (not_passed (is_behind by name) t behind e) in
+        let g = is_greater (name_cmp by name t.name) (same_by by name t.name ∙ not_passed (same_name name) t same e) (not_passed (is_name_after by name) t behind e) in
         ((name_order by).antisymm t.name name ∙ ap ordering_reverse g, rest)
 
 pub belongs : {by : NameOrder} (name : Name) (raw : List RawSlot) (slots : List Slot) (id : ℕ) → HaveParts raw → complete_all raw ≡ Some slots → IsPlace by name None raw id → PlaceAt by slots name id
 belongs {by} name raw slots zero h e p = record { left = []; right = slots; held = refl; number = refl; less = tt; greater = go raw slots h e p.greater; fronted = plain raw slots h e p.greater }
   where
-    go : (raw : List RawSlot) (slots : List Slot) → HaveParts raw → complete_all raw ≡ Some slots → (0 < length raw → is_named (is_behind by name) None raw 0 ≡ true) → (slots ≡ []) ⊎ BeginsAbove by name (entries_only slots)
+    go : (raw : List RawSlot) (slots : List Slot) → HaveParts raw → complete_all raw ≡ Some slots → (0 < length raw → is_named (is_name_after by name) None raw 0 ≡ true) → (slots ≡ []) ⊎ BeginsAbove by name (entries_only slots)
     go [] slots h e k = inl (sym (same_Some [] slots e))
     go (s ∷ raw) slots h e k =
         let p = complete_parts s raw slots e in
-        let ok = passed (is_behind by name) p.first (sym (named_first (is_behind by name) s raw p.first h.0 p.is_first) ∙ k (omega arith)) in
+        let ok = passed (is_name_after by name) p.first (sym (named_first (is_name_after by name) s raw p.first h.0 p.is_first) ∙ k (omega arith)) in
         inr (record {
           first = p.first;
           rest = entries_only p.others;
@@ -130,11 +130,11 @@ belongs {by} name raw slots zero h e p = record { left = []; right = slots; held
           above = is_below (name_cmp by name p.first.name) ok.named;
         })
 
-    plain : (raw : List RawSlot) (slots : List Slot) → HaveParts raw → complete_all raw ≡ Some slots → (0 < length raw → is_named (is_behind by name) None raw 0 ≡ true) → starts_with_superblock slots ≡ false
+    plain : (raw : List RawSlot) (slots : List Slot) → HaveParts raw → complete_all raw ≡ Some slots → (0 < length raw → is_named (is_name_after by name) None raw 0 ≡ true) → starts_with_superblock slots ≡ false
     plain [] slots h e k = ap starts_with_superblock (sym (same_Some [] slots e))
     plain (s ∷ raw) slots h e k =
         let p = complete_parts s raw slots e in
-        let ok = passed (is_behind by name) p.first (sym (named_first (is_behind by name) s raw p.first h.0 p.is_first) ∙ k (omega arith)) in
+        let ok = passed (is_name_after by name) p.first (sym (named_first (is_name_after by name) s raw p.first h.0 p.is_first) ∙ k (omega arith)) in
         ap starts_with_superblock p.all_are ∙ ok.entry
 belongs {by} name [] slots (suc id) h e p = absurd (let w = p.within in omega arith)
 belongs {by} name (s ∷ raw) slots (suc id) h e p =
@@ -150,7 +150,7 @@ belongs {by} name (s ∷ raw) slots (suc id) h e p =
       right = r.right;
       held = c.all_are ∙ ap (λ z. c.first ∷ z) r.held;
       number = ap suc r.number;
-      less = less_first by name c.first r.left (sym (named_first (same_name name) s raw c.first h.0 c.is_first) ∙ p.absent 0) (sym (named_first (is_behind by name) s raw c.first h.0 c.is_first) ∙ p.least 0 (omega arith)) r.less;
+      less = less_first by name c.first r.left (sym (named_first (same_name name) s raw c.first h.0 c.is_first) ∙ p.absent 0) (sym (named_first (is_name_after by name) s raw c.first h.0 c.is_first) ∙ p.least 0 (omega arith)) r.less;
       greater = r.greater;
       fronted = r.fronted;
     }
@@ -228,12 +228,12 @@ skip_false None id h = refl
 skip_false (Some k) id h = ne_eqb k id (λ e. h (ap Some e))
 
 module _ (by : NameOrder) (content : Content) (name : Name) (skip : Option ℕ) (raw : RawContent) (logged : IsLogged raw) (complete : completed raw ≡ Some content) where
-  pub stands_in : (id : ℕ) → IsFound name skip raw.slots id → StandsAt content.slots name id
+  pub stands_in : (id : ℕ) → IsLeastIdOf name skip raw.slots id → IsNameAt content.slots name id
   stands_in id found =
       let k = kept_from (option_map_or (same_name name) (entry_name (slot_of_id raw.slots id)) false) (option_map_or (λ k. k == id) skip false) found.named in
       stands name raw.slots content.slots id logged.slots (completed_parts raw content complete).slots (and_true (option_map_or (same_name name) (entry_name (slot_of_id raw.slots id)) false) ∙ k.named)
 
-  pub kept_in : (id : ℕ) → IsFound name skip raw.slots id → skip ≡ Some id → ⊥
+  pub kept_in : (id : ℕ) → IsLeastIdOf name skip raw.slots id → skip ≡ Some id → ⊥
   kept_in id found is =
       let k = kept_from (option_map_or (same_name name) (entry_name (slot_of_id raw.slots id)) false) (option_map_or (λ k. k == id) skip false) found.named in
       not_skipped skip id k.kept is
@@ -250,7 +250,7 @@ module _ (by : NameOrder) (content : Content) (name : Name) (skip : Option ℕ) 
       absurd (let k = sym (ap₂ (λ o b. option_map_or (same_name name) o false && not b) n f) ∙ place.absent other in
       let j = sym (ap (λ x. x && true) (m ∙ w)) ∙ k in cc)
 
-  pub read_there : (id : ℕ) (s : StandsAt content.slots name id) → IsReadAt raw.slots id s.slot
+  pub read_there : (id : ℕ) (s : IsNameAt content.slots name id) → IsReadAt raw.slots id s.slot
   read_there id s = subst (λ (i : ℕ). IsReadAt raw.slots i s.slot) s.number (read_at raw.slots content.slots s.left s.slot s.right logged.slots (completed_parts raw content complete).slots s.held)
 
 -- ---- a part that is read

@@ -8,7 +8,7 @@ use Rattle.lfs_model.specs.InDirectory.{BeginsAt}
 use Rattle.lfs_model.specs.Slots.{same_pair}
 use Rattle.lfs_model.specs.Thread.{Pair, blocks_of}
 use Rattle.lfs_model.proofs.Counts.{count, distinct_from_once, once_from_distinct}
-use Rattle.lfs_thread.specs.Places.{StandsAt, blocks_at}
+use Rattle.lfs_thread.specs.Places.{IsAddressAt, blocks_at}
 use Rattle.lfs_lookup.specs.Walk.{addresses_in}
 
 -- ---- no two pairs have a block in common
@@ -36,7 +36,7 @@ begins_from : (ps : List Pair) (at a : ℕ × ℕ) (i : ℕ) (o : Option Pair) �
 begins_from ps at a i None is f same = absurd (cc)
 begins_from ps at a i (Some p) is f same = record { pair = p; there = is; same = subst (λ x. same_pair x at ≡ true) (sym (same_Some p.at a f)) same }
 
-pub place_begins : (ps : List Pair) (at : ℕ × ℕ) (i : ℕ) → StandsAt (addresses_in ps) at i → BeginsAt ps at i
+pub place_begins : (ps : List Pair) (at : ℕ × ℕ) (i : ℕ) → IsAddressAt (addresses_in ps) at i → BeginsAt ps at i
 place_begins ps at i s = begins_from ps at s.address i (slice_get ps i) refl (sym (slice_get-map (λ (p : Pair). p.at) ps i) ∙ s.there) s.same
 
 none_begins : (ps : List Pair) (at : ℕ × ℕ) (i : ℕ) (p : Pair) → AllByRecursion (λ a. same_pair a at ≡ false) (addresses_in ps) → slice_get ps i ≡ Some p → same_pair p.at at ≡ true → ⊥

@@ -10,7 +10,7 @@ use Rattle.lfs_model.specs.Profile.{FitsSlot, HaveSlots, IsWritable}
 use Rattle.lfs_model.specs.View.{MayHaveSuperblock, IsAccepted, IsEntry, Suits}
 use Rattle.lfs_model.proofs.Completed.{complete_length, complete_parts}
 use Rattle.lfs_thread.specs.Steps.{no_pair}
-use Rattle.lfs_lookup.specs.Profile.{IsPairWritable, IsShaped, follows_at}
+use Rattle.lfs_lookup.specs.Profile.{IsPairWritable, HasSuperblockStruct, follows_at}
 
 abbrev flag_at : Bool → List Pair → ℕ → Bool
 flag_at b xs zero = b
@@ -101,7 +101,7 @@ below_or_not (suc a) (suc b) = go (below_or_not a b)
     go (inl l) = inl (omega (arith, l))
     go (inr l) = inr (omega (arith, l))
 
-shaped_entry : (s : Slot) → IsEntry s → IsShaped s
+shaped_entry : (s : Slot) → IsEntry s → HasSuperblockStruct s
 shaped_entry s e k = go s.kind k e.struct
   where
     go : (kind : Kind) → is_superblock_kind kind ≡ true → Suits kind s.struct → (bytes : List ℕ) × ((s.struct ≡ Inline bytes) × (length bytes ≡ 24))
@@ -109,25 +109,25 @@ shaped_entry s e k = go s.kind k e.struct
     go Directory k e = absurd (cc)
     go Superblock k e = absurd e
 
-shaped_headed : (bytes : List ℕ) (slots : List Slot) → length bytes ≡ 24 → MayHaveSuperblock bytes slots → All IsShaped slots
+shaped_headed : (bytes : List ℕ) (slots : List Slot) → length bytes ≡ 24 → MayHaveSuperblock bytes slots → All HasSuperblockStruct slots
 shaped_headed bytes [] n h i d l = absurd (omega (arith, l))
 shaped_headed bytes (s ∷ slots) n h zero d l = λ k. (bytes, (h.1, n))
 shaped_headed bytes (s ∷ slots) n h (suc i) d l = shaped_entry (slice_index_or slots i d) (h.2 i d (omega (arith, l)))
 
-pub shaped_all : (disk : Disk) (ps : List Pair) (i : ℕ) → IsAccepted disk ps → i < length ps → All IsShaped (slice_index_or ps i no_pair).content.slots
+pub shaped_all : (disk : Disk) (ps : List Pair) (i : ℕ) → IsAccepted disk ps → i < length ps → All HasSuperblockStruct (slice_index_or ps i no_pair).content.slots
 shaped_all disk ps i ok l = go (below_or_not i (superblocks_before ps + 1))
   where
-    go : (i < superblocks_before ps + 1) ⊎ (superblocks_before ps + 1 ≤ i) → All IsShaped (slice_index_or ps i no_pair).content.slots
+    go : (i < superblocks_before ps + 1) ⊎ (superblocks_before ps + 1 ≤ i) → All HasSuperblockStruct (slice_index_or ps i no_pair).content.slots
     go (inl a) =
         let n = length-take (superblocks_before ps + 1) ps in
         let s = ok.superblock in
-        subst (λ (p : Pair). All IsShaped p.content.slots) (get_or-take (superblocks_before ps + 1) ps i no_pair a)
+        subst (λ (p : Pair). All HasSuperblockStruct p.content.slots) (get_or-take (superblocks_before ps + 1) ps i no_pair a)
         (shaped_headed s.0 (slice_index_or (take (superblocks_before ps + 1) ps) i no_pair).content.slots s.1.0.len (s.1.1 i no_pair (omega (arith, n, l, a))))
     go (inr a) =
         let n = length-drop (superblocks_before ps + 1) ps in
         let k = i - (superblocks_before ps + 1) in
         let at : superblocks_before ps + 1 + k ≡ i = omega (arith, a) in
-        subst (λ (p : Pair). All IsShaped p.content.slots) (get_or-drop (superblocks_before ps + 1) ps k no_pair ∙ ap (λ j. slice_index_or ps j no_pair) at)
+        subst (λ (p : Pair). All HasSuperblockStruct p.content.slots) (get_or-drop (superblocks_before ps + 1) ps k no_pair ∙ ap (λ j. slice_index_or ps j no_pair) at)
         (λ j d m. shaped_entry (slice_index_or (slice_index_or (drop (superblocks_before ps + 1) ps) k no_pair).content.slots j d) (ok.slots k no_pair (omega (arith, n, l, a)) j d m))
 
 -- ---- the slots of a log, one by one

@@ -4,7 +4,7 @@ use Rattle.std.specs.Prelude.{IsSome, OnOk}
 use Rattle.std.specs.List.{AllByRecursion}
 use Rattle.std.proofs.lemmas.List.{take-take}
 use Rattle.lfs_device.specs.declared.error.Error.{Error}
-use Rattle.lfs_model.specs.Cache.{CachedBlocks, cache_limit, cached, put_first, without}
+use Rattle.lfs_model.specs.Cache.{CachedBlocks, cache_limit, cached, put_first, without_block}
 use Rattle.lfs_model.specs.Disk.{block_at}
 use Rattle.lfs_model.specs.History.{reads}
 use Rattle.lfs_model.specs.Thread.{Pair}
@@ -12,7 +12,7 @@ use Rattle.lfs_pair.specs.Pair.{active_at}
 use Rattle.lfs_thread.specs.Kept.{Kept, State}
 use Rattle.lfs_thread.specs.CachedLog.{cached_log, cache_after_load as loaded_in}
 use Rattle.lfs_thread.specs.Steps.{pair_in}
-use Rattle.lfs_lookup.specs.CachedPairs.{AreCached, LoadsAlong, IsLoaded, IsRecent, StayCached}
+use Rattle.lfs_lookup.specs.CachedPairs.{AreCached, LoadsPairs, IsLoaded, IsRecent, StayCached}
 
 same : (b : ℕ) → nat_eq b b ≡ true
 same b = search arith
@@ -57,45 +57,45 @@ module _ (b c : ℕ) (other : nat_eq c b ≡ false) where
   not_here k is = ap (λ z. nat_eq c z) (sym (eqb-true b k is)) ∙ other
 
   -- another block goes
-  past : (n : ℕ) (cache : CachedBlocks) → IsRecent n cache c → IsRecent n (without cache b) c
+  past : (n : ℕ) (cache : CachedBlocks) → IsRecent n cache c → IsRecent n (without_block cache b) c
   past zero cache h = absurd (in_none c h)
   past (suc n) [] h = absurd (in_none c h)
   past (suc n) (e ∷ es) h = go (nat_eq b e.0) refl (past n es)
     where
-      behind : (t : Bool) → (IsRecent n es c → IsRecent n (without es b) c) → IsSome (cond t (Some e.1) (cached (take n es) c)) → IsSome (cond t (Some e.1) (cached (take n (without es b)) c))
+      behind : (t : Bool) → (IsRecent n es c → IsRecent n (without_block es b) c) → IsSome (cond t (Some e.1) (cached (take n es) c)) → IsSome (cond t (Some e.1) (cached (take n (without_block es b)) c))
       behind true next k = refl
       behind false next k = next k
 
-      go : (t : Bool) → nat_eq b e.0 ≡ t → (IsRecent n es c → IsRecent n (without es b) c) → IsRecent (suc n) (cond (not t) (e ∷ without es b) (without es b)) c
-      go true is next = wider n (suc n) c (without es b) (omega arith) (next (elsewhere (nat_eq c e.0) e.1 (cached (take n es) c) (not_here e.0 is) h))
+      go : (t : Bool) → nat_eq b e.0 ≡ t → (IsRecent n es c → IsRecent n (without_block es b) c) → IsRecent (suc n) (cond (not t) (e ∷ without_block es b) (without_block es b)) c
+      go true is next = wider n (suc n) c (without_block es b) (omega arith) (next (elsewhere (nat_eq c e.0) e.1 (cached (take n es) c) (not_here e.0 is) h))
       go false is next = behind (nat_eq c e.0) next h
 
   -- where the one that goes is as recent, there is one fewer
-  closer : (cache : CachedBlocks) (n : ℕ) → IsRecent (suc n) cache b → IsRecent (suc n) cache c → IsRecent n (without cache b) c
+  closer : (cache : CachedBlocks) (n : ℕ) → IsRecent (suc n) cache b → IsRecent (suc n) cache c → IsRecent n (without_block cache b) c
   closer [] n g h = absurd (in_none c h)
   closer (e ∷ es) n g h = go (nat_eq b e.0) refl (closer es) g
     where
-      deeper : (n : ℕ) → ((m : ℕ) → IsRecent (suc m) es b → IsRecent (suc m) es c → IsRecent m (without es b) c) → IsRecent n es b → IsRecent (suc n) (e ∷ es) c → IsRecent n (e ∷ without es b) c
+      deeper : (n : ℕ) → ((m : ℕ) → IsRecent (suc m) es b → IsRecent (suc m) es c → IsRecent m (without_block es b) c) → IsRecent n es b → IsRecent (suc n) (e ∷ es) c → IsRecent n (e ∷ without_block es b) c
       deeper zero next k h = absurd (in_none b k)
       deeper (suc n) next k h = by (nat_eq c e.0) h
         where
-          by : (t : Bool) → IsSome (cond t (Some e.1) (cached (take (suc n) es) c)) → IsSome (cond t (Some e.1) (cached (take n (without es b)) c))
+          by : (t : Bool) → IsSome (cond t (Some e.1) (cached (take (suc n) es) c)) → IsSome (cond t (Some e.1) (cached (take n (without_block es b)) c))
           by true z = refl
           by false z = next n k z
 
-      go : (t : Bool) → nat_eq b e.0 ≡ t → ((m : ℕ) → IsRecent (suc m) es b → IsRecent (suc m) es c → IsRecent m (without es b) c) → IsSome (cond t (Some e.1) (cached (take n es) b))
-          → IsRecent n (cond (not t) (e ∷ without es b) (without es b)) c
+      go : (t : Bool) → nat_eq b e.0 ≡ t → ((m : ℕ) → IsRecent (suc m) es b → IsRecent (suc m) es c → IsRecent m (without_block es b) c) → IsSome (cond t (Some e.1) (cached (take n es) b))
+          → IsRecent n (cond (not t) (e ∷ without_block es b) (without_block es b)) c
       go true is next k = past n es (elsewhere (nat_eq c e.0) e.1 (cached (take n es) c) (not_here e.0 is) h)
       go false is next k = deeper n next k h
 
 module _ (cache : CachedBlocks) (b : ℕ) (bytes : List ℕ) where
   -- those in front of the others
-  front : (n c : ℕ) → n < cache_limit → (nat_eq c b ≡ false → IsRecent n (without cache b) c) → IsRecent (suc n) (put_first cache b bytes) c
+  front : (n c : ℕ) → n < cache_limit → (nat_eq c b ≡ false → IsRecent n (without_block cache b) c) → IsRecent (suc n) (put_first cache b bytes) c
   front n c few h = go (nat_eq c b) refl
     where
-      go : (t : Bool) → nat_eq c b ≡ t → IsSome (cond t (Some bytes) (cached (take n (take 7 (without cache b))) c))
+      go : (t : Bool) → nat_eq c b ≡ t → IsSome (cond t (Some bytes) (cached (take n (take 7 (without_block cache b))) c))
       go true is = refl
-      go false is = subst (λ es. IsSome (cached es c)) (sym (take-take n 7 (without cache b) (omega (arith, few)))) (h is)
+      go false is = subst (λ es. IsSome (cached es c)) (sym (take-take n 7 (without_block cache b) (omega (arith, few)))) (h is)
 
   pub brought : IsLoaded b cache (put_first cache b bytes)
   brought = record {
@@ -129,12 +129,12 @@ Passes r s = (P : Type 0) → OnOk r P → OnOk s P
 pub passes_none : {X Y : Type 0} (r : Result X Error) (s : Result Y Error) (e : Error) → s ≡ Err e → Passes r s
 passes_none r s e is = λ P p. on_err s e P is
 
-pub along_as : {X Y : Type 0} (ps : List Pair) (old new : State) (r : Result X Error) (s : Result Y Error) → Passes r s → LoadsAlong ps old new r → LoadsAlong ps old new s
+pub along_as : {X Y : Type 0} (ps : List Pair) (old new : State) (r : Result X Error) (s : Result Y Error) → Passes r s → LoadsPairs ps old new r → LoadsPairs ps old new s
 along_as ps old new r s pass b = record { none = b.none; stay = λ there. pass _ (b.stay there); one = λ e. pass _ (b.one e) }
 
 -- a pair is brought without a call where it is cached
 pub loads_one : {X : Type 0} (old new : State) (index : ℕ) (s : Result X Error) → (IsSome (cached_log old index) → new.kept ≡ old.kept)
-    → OnOk s (new.cache ≡ loaded_in old index) → LoadsAlong (pair_in old.kept index ∷ []) old new s
+    → OnOk s (new.cache ≡ loaded_in old index) → LoadsPairs (pair_in old.kept index ∷ []) old new s
 loads_one old new index s no_call was = record {
   none = λ there. ap (λ (t : Kept). reads t.history) (no_call (is_cached cache_limit b old.cache there.0));
   stay = λ there. after s (λ e. subst (StayCached old.cache) (sym e) (stay_loaded old.cache b (block_at old.kept.disk b) there.0)) was;
@@ -163,7 +163,7 @@ pub loaded_none : (run : List Pair) (old : State) → HasBrought run run old old
 loaded_none run old = record { kept = kept_none run old; begun = λ e. (refl, refl) }
 
 module _ {X : Type 0} (run rest more : List Pair) (p : Pair) (old now new : State) (r : Result X Error) (h : HasKept run rest old now) (is : rest ≡ p ∷ more)
-    (b : LoadsAlong (p ∷ []) now new r) where
+    (b : LoadsPairs (p ∷ []) now new r) where
   here_is_cached : AreCached old run → AreCached now (p ∷ [])
   here_is_cached there =
       let k = subst (AreCached old) is (h.left there) in
@@ -184,9 +184,9 @@ module _ {X : Type 0} (run rest more : List Pair) (p : Pair) (old now new : Stat
   }
 
 module _ {X : Type 0} (run rest more : List Pair) (p : Pair) (old now new : State) (r : Result X Error) (h : HasBrought run rest old now) (is : rest ≡ p ∷ more)
-    (b : LoadsAlong (p ∷ []) now new r) where
+    (b : LoadsPairs (p ∷ []) now new r) where
   -- the walk ends here
-  pub loads_to_here : {Y : Type 0} (s : Result Y Error) → Passes r s → LoadsAlong run old new s
+  pub loads_to_here : {Y : Type 0} (s : Result Y Error) → Passes r s → LoadsPairs run old new s
   loads_to_here s pass = record {
     none = none_on run rest more p old now new r h.kept is b;
     stay = λ there. pass _ (stay_on run rest more p old now new r h.kept is b there);

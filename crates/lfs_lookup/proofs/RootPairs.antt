@@ -10,7 +10,7 @@ use Rattle.lfs_model.proofs.Superblocks.{meets_from}
 use Rattle.lfs_thread.specs.Kept.{Kept}
 use Rattle.lfs_thread.specs.Steps.{no_pair, pair_in}
 use Rattle.lfs_lookup.specs.Paths.{BeginsOnPath}
-use Rattle.lfs_lookup.specs.Root.{IsInChain, IsNext, has_few, next_in_chain}
+use Rattle.lfs_lookup.specs.Root.{IsInChain, IsNextInChain, has_few, next_in_chain}
 use Rattle.lfs_lookup.proofs.Roots.{root_begins}
 
 abbrev at : List Pair → ℕ → Pair
@@ -124,7 +124,7 @@ module _ (t : Kept) (superblock n next : ℕ) (h : IsWalked t superblock n) (e :
   meets_next some = meets_at t.pairs next within ∙ meets_slots (pair_in t next).content.slots (is_hard (pair_in t next).content.tail && meets_superblock (drop (next + 1) t.pairs)) some
 
   -- a superblock again
-  pub walked_found : 0 < length (pair_in t next).content.slots → starts_with_superblock (pair_in t next).content.slots ≡ true → IsNext t superblock (Some next)
+  pub walked_found : 0 < length (pair_in t next).content.slots → starts_with_superblock (pair_in t next).content.slots ≡ true → IsNextInChain t superblock (Some next)
   walked_found some starts =
       let goes = goes_by ∙ meets_next some ∙ starts in
       let more = before_at t.pairs n h.below ∙ ap (λ b. cond b (1 + superblocks_before (drop (n + 1) t.pairs)) 0) goes ∙ ap (λ k. 1 + superblocks_before (drop k t.pairs)) (sym l.is) in

@@ -3,18 +3,18 @@ use Rattle.std.proofs.Common.{ℕ, zero, suc, ◌≡◌, ◌<◌, ◌+◌, ◌�
 use Rattle.std.proofs.lemmas.Bool.{and_parts}
 use Rattle.lfs_model.specs.Disk.{Disk}
 use Rattle.lfs_model.specs.Slots.{Slot, Gstate, is_superblock, same_pair}
-use Rattle.lfs_model.specs.Thread.{Pair, directory_pairs, first_at, gstate_of, is_bare, is_hard, leads_on, meets_superblock, root_of, superblocks_before, visible}
+use Rattle.lfs_model.specs.Thread.{Pair, directory_pairs, first_at, gstate_of, is_bare, is_hard, leads_on, meets_superblock, root_of, superblocks_before, entries_not_moved}
 use Rattle.lfs_model.specs.InDirectory.{BeginsAt}
 use Rattle.lfs_model.specs.View.{IsAccepted}
 use Rattle.lfs_model.specs.Shown.{entries_in}
 use Rattle.lfs_model.proofs.Found.{led_directory}
 use Rattle.lfs_model.proofs.Pairs.{pair_itself}
 use Rattle.lfs_lookup.specs.Items.{shape_of}
-use Rattle.lfs_lookup.specs.Listed.{joined_run, shapes_from}
+use Rattle.lfs_lookup.specs.Listed.{hard_tail_run, shapes_from}
 use Rattle.lfs_lookup.proofs.Directories.{own_run}
 
 -- a pair with no slot or with the superblock alone shows nothing
-bare_shows : (g : Gstate) (p : Pair) (slots : List Slot) → p.content.slots ≡ slots → is_bare slots ≡ true → visible g p ≡ []
+bare_shows : (g : Gstate) (p : Pair) (slots : List Slot) → p.content.slots ≡ slots → is_bare slots ≡ true → entries_not_moved g p ≡ []
 bare_shows g p (s ∷ t ∷ slots) e h = absurd (cc)
 bare_shows g p [] e h = go (g.kind == 0x4ff && same_pair g.pair p.at)
   where
@@ -40,19 +40,19 @@ bare_shows g p (s ∷ []) e h = go (g.kind == 0x4ff && same_pair g.pair p.at)
     go false = ap (filter (λ t. not (is_superblock t))) e ∙ whole
 
 -- the superblock's pairs in front of the root directory show nothing
-chain_shows : (g : Gstate) (ps : List Pair) → flat_map (visible g) (joined_run ps) ≡ flat_map (visible g) (joined_run (drop (superblocks_before ps) ps))
+chain_shows : (g : Gstate) (ps : List Pair) → flat_map (entries_not_moved g) (hard_tail_run ps) ≡ flat_map (entries_not_moved g) (hard_tail_run (drop (superblocks_before ps) ps))
 chain_shows g [] = refl
 chain_shows g (p ∷ ps) = go (meets_superblock ps && leads_on p) refl (chain_shows g ps)
   where
-    go : (b : Bool) → (meets_superblock ps && leads_on p) ≡ b → (flat_map (visible g) (joined_run ps) ≡ flat_map (visible g) (joined_run (drop (superblocks_before ps) ps))) → flat_map (visible g) (joined_run (p ∷ ps)) ≡ flat_map (visible g) (joined_run (drop (cond b (1 + superblocks_before ps) 0) (p ∷ ps)))
+    go : (b : Bool) → (meets_superblock ps && leads_on p) ≡ b → (flat_map (entries_not_moved g) (hard_tail_run ps) ≡ flat_map (entries_not_moved g) (hard_tail_run (drop (superblocks_before ps) ps))) → flat_map (entries_not_moved g) (hard_tail_run (p ∷ ps)) ≡ flat_map (entries_not_moved g) (hard_tail_run (drop (cond b (1 + superblocks_before ps) 0) (p ∷ ps)))
     go false e later = refl
     go true e later =
         let leads = and_parts (is_bare p.content.slots) (is_hard p.content.tail) (and_parts (meets_superblock ps) (leads_on p) e).1 in
         let one : 1 + superblocks_before ps ≡ suc (superblocks_before ps) = omega arith in
-        ap (λ b. flat_map (visible g) (p ∷ cond b (joined_run ps) [])) leads.1
-        ∙ ap (λ z. z ++ flat_map (visible g) (joined_run ps)) (bare_shows g p p.content.slots refl leads.0)
+        ap (λ b. flat_map (entries_not_moved g) (p ∷ cond b (hard_tail_run ps) [])) leads.1
+        ∙ ap (λ z. z ++ flat_map (entries_not_moved g) (hard_tail_run ps)) (bare_shows g p p.content.slots refl leads.0)
         ∙ later
-        ∙ ap (λ n. flat_map (visible g) (joined_run (drop n (p ∷ ps)))) (sym one)
+        ∙ ap (λ n. flat_map (entries_not_moved g) (hard_tail_run (drop n (p ∷ ps)))) (sym one)
 
 -- where the root directory begins
 dropped : (ps : List Pair) (n : ℕ) (p : Pair) (rest : List Pair) → drop n ps ≡ p ∷ rest → slice_get ps n ≡ Some p

@@ -1,10 +1,10 @@
 -- A search along all pairs of a directory, where a slot may be passed over.
 use Rattle.std.proofs.Common.{ℕ, zero, suc, ◌≡◌, ◌<◌, ◌+◌, false, List, [], ◌∷◌, ◌++◌, length, drop, Option, refl, sym, ap, subst, ◌∙◌, arith, append_assoc, length-append, get_or}
-use Rattle.lfs_model.specs.InDirectory.{IsBehind, IsJoined}
+use Rattle.lfs_model.specs.InDirectory.{IsPairOfDirectory, HasHardTail}
 use Rattle.lfs_model.specs.Names.{Name}
 use Rattle.lfs_model.specs.Thread.{Pair, is_hard}
 use Rattle.lfs_model.proofs.Counts.{each_append}
-use Rattle.lfs_lookup.specs.Search.{IsAbsentAlong, IsAbsentBut, IsShown, StandsShown, passed_in}
+use Rattle.lfs_lookup.specs.Search.{IsAbsentAlong, IsAbsentBut, IsShown, HasNameShown, skipped_id_in}
 use Rattle.lfs_lookup.specs.declared.entry.Entry.{Entry}
 use Rattle.lfs_lookup.specs.declared.search.Spot.{Spot}
 use Rattle.lfs_lookup.proofs.Walked.{at_index, begun_here}
@@ -12,7 +12,7 @@ use Rattle.lfs_lookup.proofs.Walked.{at_index, begun_here}
 -- the pair of that number is one of the directory's
 pub record IsReached (ps : List Pair) (first index : ℕ) (q : Pair) : Type 0 where
   pub rest : List Pair
-  pub behind : IsBehind ps first index q rest
+  pub behind : IsPairOfDirectory ps first index q rest
 
 pub reached_first : (ps : List Pair) (first : ℕ) (d : Pair) → first < length ps → IsReached ps first first (get_or ps first d)
 reached_first ps first d below = let a = at_index ps first d below in record { rest = a.rest; behind = begun_here ps first first (get_or ps first d) a refl }
@@ -21,10 +21,10 @@ get_behind : (xs : List Pair) (y : Pair) (ys : List Pair) (d : Pair) → get_or 
 get_behind [] y ys d = refl
 get_behind (x ∷ xs) y ys d = get_behind xs y ys d
 
-pub reached_next : (ps : List Pair) (first index : ℕ) (q d : Pair) → IsReached ps first index q → IsJoined q → index + 1 < length ps → IsReached ps first (index + 1) (get_or ps (index + 1) d)
+pub reached_next : (ps : List Pair) (first index : ℕ) (q d : Pair) → IsReached ps first index q → HasHardTail q → index + 1 < length ps → IsReached ps first (index + 1) (get_or ps (index + 1) d)
 reached_next ps first index q d r hard below = go r.rest r.behind
   where
-    go : (rest : List Pair) → IsBehind ps first index q rest → IsReached ps first (index + 1) (get_or ps (index + 1) d)
+    go : (rest : List Pair) → IsPairOfDirectory ps first index q rest → IsReached ps first (index + 1) (get_or ps (index + 1) d)
     go [] b = absurd (
         let l = ap length b.parts in
         let m = length-append b.front (b.left ++ q ∷ []) in
@@ -47,13 +47,13 @@ reached_next ps first index q d r hard below = go r.rest r.behind
             parts = b.parts ∙ ap (λ z. b.front ++ z) (sym (append_assoc b.left (q ∷ []) (p ∷ rest)));
             begins = b.begins;
             number = omega (arith, k, n);
-            joined = each_append IsJoined b.left (q ∷ []) b.joined (hard, tt);
+            joined = each_append HasHardTail b.left (q ∷ []) b.joined (hard, tt);
           };
         })
 
 -- it stands here
 pub shown_here : (ps : List Pair) (moved : Option Spot) (first : ℕ) (name : Name) (spot : Spot) (q : Pair) (entry : Entry) → IsReached ps first spot.pair q
-    → StandsShown (passed_in moved spot.pair) q.content.slots name spot.id entry → IsShown ps moved first name spot entry
+    → HasNameShown (skipped_id_in moved spot.pair) q.content.slots name spot.id entry → IsShown ps moved first name spot entry
 shown_here ps moved first name spot q entry r s = record { stands = record { pair = q; rest = r.rest; place = r.behind; stands = s.stands }; shows = s.shows; kept = s.kept }
 
 drop_here : (ps : List Pair) (index : ℕ) (d : Pair) → index < length ps → drop index ps ≡ get_or ps index d ∷ drop (index + 1) ps
@@ -63,9 +63,9 @@ drop_here (p ∷ ps) (suc index) d l = let e : suc index + 1 ≡ suc (index + 1)
 
 -- it is absent as far as this pair, and so of all if it is of those behind
 pub absent_on : (ps : List Pair) (moved : Option Spot) (index : ℕ) (name : Name) (d : Pair) (X : Type 0) → index < length ps → (IsAbsentAlong moved index (drop index ps) name → X)
-    → IsAbsentBut (passed_in moved index) (get_or ps index d).content.slots name → IsAbsentAlong moved (index + 1) (drop (index + 1) ps) name → X
+    → IsAbsentBut (skipped_id_in moved index) (get_or ps index d).content.slots name → IsAbsentAlong moved (index + 1) (drop (index + 1) ps) name → X
 absent_on ps moved index name d X l so here behind = so (subst (λ z. IsAbsentAlong moved index z name) (sym (drop_here ps index d l)) (here, λ hard. behind))
 
 pub absent_end : (ps : List Pair) (moved : Option Spot) (index : ℕ) (name : Name) (d : Pair) (X : Type 0) → index < length ps → (IsAbsentAlong moved index (drop index ps) name → X)
-    → IsAbsentBut (passed_in moved index) (get_or ps index d).content.slots name → is_hard (get_or ps index d).content.tail ≡ false → X
+    → IsAbsentBut (skipped_id_in moved index) (get_or ps index d).content.slots name → is_hard (get_or ps index d).content.tail ≡ false → X
 absent_end ps moved index name d X l so here soft = so (subst (λ z. IsAbsentAlong moved index z name) (sym (drop_here ps index d l)) (here, λ hard. absurd (let k = sym soft ∙ hard in cc)))

@@ -9,7 +9,7 @@ use Rattle.lfs_model.proofs.Orders.{length_in_order}
 use Rattle.lfs_model.specs.Names.{in_order}
 use Rattle.lfs_model.specs.declared.order.NameOrder.TheVariants.{ShorterFirst}
 use Rattle.lfs_model.specs.Frame.{pairs_of_path, parents}
-use Rattle.lfs_model.specs.Effects.{items_in, size_of}
+use Rattle.lfs_model.specs.Effects.{items_in, node_size}
 use Rattle.lfs_model.specs.InDirectory.{run_length}
 use Rattle.lfs_model.specs.Names.{Name}
 use Rattle.lfs_model.specs.Operations as ops
@@ -23,19 +23,19 @@ use Rattle.lfs_model.specs.View.{IsAccepted}
 use Rattle.lfs_model.specs.Shown.{contents_in, entries_in, tree_in}
 use Rattle.lfs_model.proofs.Searches.{run_length_is}
 use Rattle.lfs_thread.specs.Kept.{Kept}
-use Rattle.lfs_lookup.specs.AtPath.{IsInEntryIfFile, ShowsAt, finding_of, first_shown, has_entries_from}
+use Rattle.lfs_lookup.specs.AtPath.{IsInEntryIfFile, ShowsAt, found_node_of, first_pair_shown, has_entries_from}
 use Rattle.lfs_lookup.specs.Entry.{ShowsContents}
 use Rattle.lfs_lookup.specs.Finds.{Finds, has_names}
 use Rattle.std.specs.List.Sorted.{IsPermutation}
 use Rattle.lfs_lookup.specs.ByName.{AreByName}
 use Rattle.lfs_lookup.specs.Items.{Shape, shape_of}
-use Rattle.lfs_lookup.specs.ListAt.{AreShort, item_listed}
-use Rattle.lfs_lookup.specs.Listed.{length_from, shapes_from}
+use Rattle.lfs_lookup.specs.ListAt.{AreShortEntries, item_listed}
+use Rattle.lfs_lookup.specs.Listed.{hard_tail_run_length, shapes_from}
 use Rattle.lfs_lookup.specs.Paths.{BeginsOnPath, ShowsTo}
 use Rattle.lfs_lookup.specs.Search.{HidesFrom}
 use Rattle.lfs_lookup.specs.declared.entry.FileStorage.{FileStorage}
 use Rattle.lfs_lookup.specs.declared.entry.FileStorage.TheVariants as contents
-use Rattle.lfs_lookup.specs.declared.found_entries.Finding.{Finding}
+use Rattle.lfs_lookup.specs.declared.found_entries.FoundNode.{FoundNode}
 use Rattle.lfs_lookup.specs.declared.found_entries.Node.TheVariants as node
 use Rattle.lfs_lookup.specs.declared.paths.Shown.{Shown}
 use Rattle.lfs_lookup.specs.declared.paths.Shown.TheVariants as shown
@@ -77,12 +77,12 @@ in_entry t path shown.ParentIsMissing h = tt
 module _ (t : Kept) (path : Path) (ok : IsAccepted t.disk t.pairs) where
   -- ---- what is found
 
-  found_begun : (first : ℕ) (f : Finding) → BeginsOnPath t.pairs path first → parent_fault (tree_in t.disk t.pairs) [] path ≡ None → f ≡ record { fault = None; node = node.Directory } → Finds (tree_in t.disk t.pairs) path f
+  found_begun : (first : ℕ) (f : FoundNode) → BeginsOnPath t.pairs path first → parent_fault (tree_in t.disk t.pairs) [] path ≡ None → f ≡ record { fault = None; node = node.Directory } → Finds (tree_in t.disk t.pairs) path f
   found_begun first f on h k =
       let d = directory_at_path t.disk t.pairs path on.at on.leads in
       subst (λ z. Finds (tree_in t.disk t.pairs) path z) (sym k) (finds_directory (tree_in t.disk t.pairs) path d.attributes (in_order ShorterFirst (names_at (entries_in t.pairs) on.at)) d.is h)
 
-  pub found_shown : (root : ℕ) (s : Shown) (f : Finding) → root ≡ superblocks_before t.pairs → SizedLists t.disk → ShowsAt t path s → f ≡ finding_of s → Finds (tree_in t.disk t.pairs) path f
+  pub found_shown : (root : ℕ) (s : Shown) (f : FoundNode) → root ≡ superblocks_before t.pairs → SizedLists t.disk → ShowsAt t path s → f ≡ found_node_of s → Finds (tree_in t.disk t.pairs) path f
   found_shown root shown.Root f r sized s k =
       found_begun root f (subst (λ (p : Path). BeginsOnPath t.pairs p root) (sym s.shows) (root_leads t.disk t.pairs root ok r)) (ap (parent_fault (tree_in t.disk t.pairs) []) s.shows) k
   found_shown root (shown.Directory spot first) f r sized s k = found_begun first f s.shows.1.1 s.shows.0 k
@@ -102,7 +102,7 @@ module _ (t : Kept) (path : Path) (ok : IsAccepted t.disk t.pairs) where
       ap (λ o. names_of (option_map (λ (f : Slot). node_of (contents_in t.disk) (entries_in t.pairs) f.attributes f.struct) o)) e
       ∙ ap (λ (z : Struct). names_of (Some (node_of (contents_in t.disk) (entries_in t.pairs) x.attributes z))) k
 
-  first_is : (root : ℕ) (s : Shown) → root ≡ superblocks_before t.pairs → ShowsAt t path s → IsFirstAt t path (first_shown root s)
+  first_is : (root : ℕ) (s : Shown) → root ≡ superblocks_before t.pairs → ShowsAt t path s → IsFirstAt t path (first_pair_shown root s)
   first_is root shown.Root r s = subst (λ (p : Path). BeginsOnPath t.pairs p root) (sym s.shows) (root_leads t.disk t.pairs root ok r)
   first_is root (shown.Directory spot first) r s = s.shows.1.1
   first_is root (shown.File spot contents) r s = let (h, (at, k)) = s.shows in nameless at.stands.stands.slot contents at.slot k
@@ -110,7 +110,7 @@ module _ (t : Kept) (path : Path) (ok : IsAccepted t.disk t.pairs) where
   first_is root shown.ParentIsFile r s = ap names_of (nothing_at t.disk t.pairs path (refused_none t.disk t.pairs path [] ops.NotDir s.shows))
   first_is root shown.ParentIsMissing r s = ap names_of (nothing_at t.disk t.pairs path (refused_none t.disk t.pairs path [] ops.NoEnt s.shows))
 
-  pub first_at : (root : ℕ) (s : Shown) (from : Option ℕ) → root ≡ superblocks_before t.pairs → ShowsAt t path s → from ≡ first_shown root s → IsFirstAt t path from
+  pub first_at : (root : ℕ) (s : Shown) (from : Option ℕ) → root ≡ superblocks_before t.pairs → ShowsAt t path s → from ≡ first_pair_shown root s → IsFirstAt t path from
   first_at root s from r h e = subst (IsFirstAt t path) (sym e) (first_is root s r h)
 
   pub first_within : (now : List Pair) (from : Option ℕ) → now ≡ t.pairs → IsFirstAt t path from → IfSome from (λ first. first < length now)
@@ -118,7 +118,7 @@ module _ (t : Kept) (path : Path) (ok : IsAccepted t.disk t.pairs) where
   first_within now (Some first) e on = subst (λ ps. first < length ps) (sym e) (within t.pairs on.at first on.begins)
 
   -- its pairs are those of the path's directory
-  pub few_from : (now : List Pair) (from : Option ℕ) → now ≡ t.pairs → IsFirstAt t path from → length_from now from ≤ pairs_of_path t.pairs path
+  pub few_from : (now : List Pair) (from : Option ℕ) → now ≡ t.pairs → IsFirstAt t path from → hard_tail_run_length now from ≤ pairs_of_path t.pairs path
   few_from now None e h = omega arith
   few_from now (Some first) e on =
       let k = ap (λ ps. run_length (drop first ps)) e ∙ run_length_is t.disk t.pairs path on.at first ok on.leads on.begins in
@@ -138,13 +138,13 @@ module _ (t : Kept) (path : Path) (ok : IsAccepted t.disk t.pairs) where
   none_by_name found shapes are by_name = nothing_moved shapes (subst (λ (z : List Shape). IsPermutation z shapes) are by_name.permutation)
 
   pub short_from : (now : List Pair) (from : Option ℕ) (found shapes : List Shape) → now ≡ t.pairs → IsFirstAt t path from → found ≡ shapes_from now from → AreByName found shapes
-      → HasBytes t.disk.blocks → AreShort shapes
-  short_from now None found shapes e h are by_name bytes = subst AreShort (sym (none_by_name found shapes are by_name)) tt
+      → HasBytes t.disk.blocks → AreShortEntries shapes
+  short_from now None found shapes e h are by_name bytes = subst AreShortEntries (sym (none_by_name found shapes are by_name)) tt
   short_from now (Some first) found shapes e on are by_name bytes = short_there t path ok now first found shapes e on are by_name bytes
 
   pub listed_from : (now : List Pair) (from : Option ℕ) (found shapes : List Shape) (listed : List ops.Item) → now ≡ t.pairs → IsFirstAt t path from → found ≡ shapes_from now from
       → AreByName found shapes → SizedLists t.disk → listed ≡ map item_listed shapes → listed ≡ items_in (tree_in t.disk t.pairs) path
   listed_from now None found shapes listed e h are by_name lists k =
       k ∙ ap (map item_listed) (none_by_name found shapes are by_name)
-      ∙ sym (ap (map (λ name. let item : ops.Item = record { name = name; size = size_of (tree_in t.disk t.pairs (path ++ name ∷ [])) } in item)) h)
+      ∙ sym (ap (map (λ name. let item : ops.Item = record { name = name; size = node_size (tree_in t.disk t.pairs (path ++ name ∷ [])) } in item)) h)
   listed_from now (Some first) found shapes listed e on are by_name lists k = listed_there t path ok now first found shapes e on are by_name listed lists k

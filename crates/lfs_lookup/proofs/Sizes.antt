@@ -15,7 +15,7 @@ use Rattle.lfs_model.specs.Tree.{Path, Entries, branch_of, directory_from, entry
 use Rattle.lfs_model.specs.InDirectory.{BeginsAt}
 use Rattle.lfs_model.specs.SlotEdits.{slot_of_path}
 use Rattle.lfs_model.specs.View.{IsAccepted}
-use Rattle.lfs_model.specs.Shown.{Leads, entries_in}
+use Rattle.lfs_model.specs.Shown.{PathLeadsTo, entries_in}
 use Rattle.lfs_model.proofs.Counts.{Each, each_weaker}
 use Rattle.lfs_model.proofs.Pairs.{pair_back, pair_on}
 use Rattle.lfs_model.proofs.Paths.{append_step}
@@ -47,7 +47,7 @@ leads_before E s p n r a e = go (slot_at E s p) refl
 record IsStop (ps : List Pair) (low number : ℕ) : Type 0 where
   path : Path
   at : ℕ × ℕ
-  leads : Leads ps path at
+  leads : PathLeadsTo ps path at
   long : low ≤ length path
   begins : BeginsAt ps at number
 
@@ -63,7 +63,7 @@ one_begin ps a b n h k =
     let same = same_Some h.pair k.pair (sym h.there ∙ k.there) in
     pair_on a h.pair.at b (pair_back h.pair.at a h.same) (ap (λ (p : Pair). same_pair p.at b) same ∙ k.same)
 
-apart_from : (disk : Disk) (ps : List Pair) (p : Path) (a : ℕ × ℕ) (low n m : ℕ) → IsAccepted disk ps → Leads ps p a → BeginsAt ps a n → length p < low → IsStop ps low m → nat_eq n m ≡ false
+apart_from : (disk : Disk) (ps : List Pair) (p : Path) (a : ℕ × ℕ) (low n m : ℕ) → IsAccepted disk ps → PathLeadsTo ps p a → BeginsAt ps a n → length p < low → IsStop ps low m → nat_eq n m ≡ false
 apart_from disk ps p a low n m ok leads begins short stop = false_from_ne_true (nat_eq n m) (λ e.
     let same = one_begin ps a stop.at n begins (subst (BeginsAt ps stop.at) (sym (eqb-true n m e)) stop.begins) in
     let path = ok.once p stop.path a stop.at leads stop.leads same in
@@ -71,16 +71,16 @@ apart_from disk ps p a low n m ok leads begins short stop = false_from_ne_true (
     let long = stop.long in
     absurd (omega arith))
 
-stops : (disk : Disk) (ps : List Pair) (p r : Path) (a : ℕ × ℕ) → IsAccepted disk ps → Leads ps (p ++ r) a → HasStops ps (length p) (suc (length r))
+stops : (disk : Disk) (ps : List Pair) (p r : Path) (a : ℕ × ℕ) → IsAccepted disk ps → PathLeadsTo ps (p ++ r) a → HasStops ps (length p) (suc (length r))
 unfolding IsDistinct
 stops disk ps p [] a ok leads =
-    let here = subst (λ q. Leads ps q a) (append-nil p) leads in
+    let here = subst (λ q. PathLeadsTo ps q a) (append-nil p) leads in
     let n = begins_with disk ps p a ok here in
     record { numbers = n.0 ∷ []; many = refl; distinct = (tt, tt); each = (record { path = p; at = a; leads = here; long = omega arith; begins = n.1 }, tt) }
 stops disk ps p (name ∷ r) a ok leads =
     let y = leads_before (entries_in ps) (root_slot (root_of ps)) p name r a leads in
     let n = begins_with disk ps p y.0 ok y.1 in
-    let more = stops disk ps (p ++ name ∷ []) r a ok (subst (λ q. Leads ps q a) (sym (append_step p name r)) leads) in
+    let more = stops disk ps (p ++ name ∷ []) r a ok (subst (λ q. PathLeadsTo ps q a) (sym (append_step p name r)) leads) in
     let long = length-append p (name ∷ []) in
     record {
       numbers = n.0 ∷ more.numbers;
@@ -100,7 +100,7 @@ below_any n (x ∷ xs) h q e = ⊎_elim
     (or_cases (nat_eq q x) (list_any (nat_eq q) xs) e)
 
 -- a path to a directory has fewer names than there are pairs
-pub few_names : (disk : Disk) (ps : List Pair) (path : Path) (a : ℕ × ℕ) → IsAccepted disk ps → Leads ps path a → length path < length ps
+pub few_names : (disk : Disk) (ps : List Pair) (path : Path) (a : ℕ × ℕ) → IsAccepted disk ps → PathLeadsTo ps path a → length path < length ps
 few_names disk ps path a ok leads =
     let s = stops disk ps [] path a ok leads in
     let many = s.many in

@@ -8,19 +8,19 @@ use Rattle.lfs_model.specs.declared.order.NameOrder.TheVariants.{ShorterFirst}
 use Rattle.lfs_model.specs.Disk.{Disk}
 use Rattle.lfs_model.specs.Names.{Name, slash}
 use Rattle.lfs_model.specs.Slots.{Slot, Struct, Inline, Ctz, Branch, is_superblock}
-use Rattle.lfs_model.specs.Thread.{Pair, gstate_of, is_hard, root_of, unmoved, visible}
+use Rattle.lfs_model.specs.Thread.{Pair, gstate_of, is_hard, root_of, slots_not_moved, entries_not_moved}
 use Rattle.lfs_model.specs.Tree.{Path, Entries, branch_of, node_of, root_slot}
 use Rattle.lfs_model.specs.TreeEdits.{names_of}
 use Rattle.lfs_model.specs.Operations.{path_bytes}
 use Rattle.lfs_model.specs.Listing.{Entry, IsWalk, IsWalkOf, paths_in}
 use Rattle.lfs_model.specs.SlotEdits.{slot_of_path}
 use Rattle.lfs_model.specs.View.{IsAccepted, IsListIfCtz}
-use Rattle.lfs_model.specs.Shown.{Leads, all_slots, contents_in, entries_in, tree_in}
+use Rattle.lfs_model.specs.Shown.{PathLeadsTo, all_slots, contents_in, entries_in, tree_in}
 use Rattle.lfs_model.proofs.Counts.{Each, each_append, each_filter, each_joined, each_pieces, each_weaker}
 use Rattle.lfs_model.proofs.OneCommit.{slot_there}
 use Rattle.lfs_lookup.specs.ByName.{AreByName}
 use Rattle.lfs_lookup.specs.Items.{Shape, shape_of}
-use Rattle.lfs_lookup.specs.Listed.{joined_run, shapes_from}
+use Rattle.lfs_lookup.specs.Listed.{hard_tail_run, shapes_from}
 use Rattle.lfs_lookup.specs.Walk.{AllShow, ArePushed, ArePushedFrom, BeginsIfBranch, IsWalked, Place, PlaceShows, ShowsNode, places_beneath}
 use Rattle.lfs_lookup.proofs.ByName.{AreRows, each_row, names_in, no_rows, rows_by_name}
 use Rattle.lfs_lookup.proofs.Directories.{begins_with, own_run, own_shapes}
@@ -57,7 +57,7 @@ paths_of visits = map (λ v. v.path) visits
 
 -- ---- what a visit shows
 
-pub leads_to : (ps : List Pair) (P : Path) (s : Slot) (to : ℕ × ℕ) → slot_of_path ps P ≡ Some s → s.struct ≡ Branch to → Leads ps P to
+pub leads_to : (ps : List Pair) (P : Path) (s : Slot) (to : ℕ × ℕ) → slot_of_path ps P ≡ Some s → s.struct ≡ Branch to → PathLeadsTo ps P to
 leads_to ps P s to e f = ap (option_and_then (λ found. branch_of found.struct)) e ∙ ap branch_of f
 
 -- a directory's names are those of its entries in name order
@@ -108,27 +108,27 @@ each_drop P zero xs h = h
 each_drop P (suc n) [] h = h
 each_drop P (suc n) (x ∷ xs) h = each_drop P n xs h.1
 
-each_run : (P : Pair → Type 0) (ps : List Pair) → Each P ps → Each P (joined_run ps)
+each_run : (P : Pair → Type 0) (ps : List Pair) → Each P ps → Each P (hard_tail_run ps)
 each_run P [] h = tt
 each_run P (p ∷ ps) h = (h.0, go (is_hard p.content.tail) (each_run P ps h.1))
   where
-    go : (b : Bool) → Each P (joined_run ps) → Each P (cond b (joined_run ps) [])
+    go : (b : Bool) → Each P (hard_tail_run ps) → Each P (cond b (hard_tail_run ps) [])
     go true k = k
     go false k = tt
 
 -- what holds of each slot that the pairs show holds of those of a directory
-pub each_visible : (Q : Slot → Type 0) (disk : Disk) (ps : List Pair) (P : Path) (a : ℕ × ℕ) → IsAccepted disk ps → Leads ps P a → Each (λ p. Each Q (visible (gstate_of ps) p)) ps → Each Q (entries_in ps a)
+pub each_visible : (Q : Slot → Type 0) (disk : Disk) (ps : List Pair) (P : Path) (a : ℕ × ℕ) → IsAccepted disk ps → PathLeadsTo ps P a → Each (λ p. Each Q (entries_not_moved (gstate_of ps) p)) ps → Each Q (entries_in ps a)
 each_visible Q disk ps P a ok leads pieces =
     let n = begins_with disk ps P a ok leads in
     subst (Each Q) (own_run disk ps P a n.0 ok leads n.1)
-    (each_joined Q (visible (gstate_of ps)) (joined_run (drop n.0 ps)) (each_run (λ p. Each Q (visible (gstate_of ps) p)) (drop n.0 ps) (each_drop (λ p. Each Q (visible (gstate_of ps) p)) n.0 ps pieces)))
+    (each_joined Q (entries_not_moved (gstate_of ps)) (hard_tail_run (drop n.0 ps)) (each_run (λ p. Each Q (entries_not_moved (gstate_of ps) p)) (drop n.0 ps) (each_drop (λ p. Each Q (entries_not_moved (gstate_of ps) p)) n.0 ps pieces)))
 
 -- what holds of each slot of the pairs does, too
-pub each_entry : (Q : Slot → Type 0) (disk : Disk) (ps : List Pair) (P : Path) (a : ℕ × ℕ) → IsAccepted disk ps → Leads ps P a → Each Q (all_slots ps) → Each Q (entries_in ps a)
+pub each_entry : (Q : Slot → Type 0) (disk : Disk) (ps : List Pair) (P : Path) (a : ℕ × ℕ) → IsAccepted disk ps → PathLeadsTo ps P a → Each Q (all_slots ps) → Each Q (entries_in ps a)
 each_entry Q disk ps P a ok leads h =
     each_visible Q disk ps P a ok leads
-    (each_weaker (λ p. Each Q (unmoved (gstate_of ps) p)) (λ p. Each Q (visible (gstate_of ps) p)) (λ p k. each_filter Q (λ s. not (is_superblock s)) (unmoved (gstate_of ps) p) k) ps
-    (each_pieces Q (unmoved (gstate_of ps)) ps h))
+    (each_weaker (λ p. Each Q (slots_not_moved (gstate_of ps) p)) (λ p. Each Q (entries_not_moved (gstate_of ps) p)) (λ p k. each_filter Q (λ s. not (is_superblock s)) (slots_not_moved (gstate_of ps) p) k) ps
+    (each_pieces Q (slots_not_moved (gstate_of ps)) ps h))
 
 each_got : {X : Type 0} (P : X → Type 0) (xs : List X) → ((k : ℕ) (x : X) → slice_get xs k ≡ Some x → P x) → Each P xs
 each_got P [] h = tt

@@ -8,7 +8,7 @@ use Rattle.lfs_lookup.specs.Paths.{ShowsTo}
 use Rattle.lfs_lookup.specs.Search.{HidesFrom}
 use Rattle.lfs_lookup.specs.declared.entry.FileStorage.{FileStorage}
 use Rattle.lfs_lookup.specs.declared.entry.FileStorage.TheVariants as contents
-use Rattle.lfs_lookup.specs.declared.found_entries.Finding.{Finding}
+use Rattle.lfs_lookup.specs.declared.found_entries.FoundNode.{FoundNode}
 use Rattle.lfs_lookup.specs.declared.found_entries.Node.TheVariants as node
 use Rattle.lfs_model.specs.Operations.{NoEnt, NotDir}
 use Rattle.lfs_lookup.specs.declared.paths.Shown.{Shown}
@@ -26,10 +26,10 @@ abbrev pub has_entries_from : List Pair → Option ℕ → Bool
 has_entries_from ps from = nat_lt 0 (length (shapes_from ps from))
 
 -- the number of the first pair of the directory that was found
-abbrev pub first_shown : ℕ → Shown → Option ℕ
-first_shown root shown.Root = Some root
-first_shown root (shown.Directory slot first) = Some first
-first_shown root _ = None
+abbrev pub first_pair_shown : ℕ → Shown → Option ℕ
+first_pair_shown root shown.Root = Some root
+first_pair_shown root (shown.Directory slot first) = Some first
+first_pair_shown root _ = None
 
 abbrev pub size_shown : FileStorage → ℕ
 size_shown (contents.Inline len) = len
@@ -45,14 +45,14 @@ IsInEntryIfFile (shown.File slot contents) = IsInEntry contents
 IsInEntryIfFile _ = Unit {0}
 
 -- the parent's refusal of a path, and the entry at it
-abbrev pub finding_of : Shown → Finding
-finding_of shown.Root = record { fault = None; node = node.Directory }
-finding_of (shown.Directory slot first) = record { fault = None; node = node.Directory }
-finding_of (shown.File slot contents) = record { fault = None; node = node.File (size_shown contents) }
-finding_of shown.Nothing = record { fault = None; node = node.Nothing }
-finding_of shown.ParentIsFile = record { fault = Some NotDir; node = node.Nothing }
-finding_of shown.ParentIsMissing = record { fault = Some NoEnt; node = node.Nothing }
+abbrev pub found_node_of : Shown → FoundNode
+found_node_of shown.Root = record { fault = None; node = node.Directory }
+found_node_of (shown.Directory slot first) = record { fault = None; node = node.Directory }
+found_node_of (shown.File slot contents) = record { fault = None; node = node.File (size_shown contents) }
+found_node_of shown.Nothing = record { fault = None; node = node.Nothing }
+found_node_of shown.ParentIsFile = record { fault = Some NotDir; node = node.Nothing }
+found_node_of shown.ParentIsMissing = record { fault = Some NoEnt; node = node.Nothing }
 
 -- no parent of the path refuses it
-abbrev pub IsThrough : Shown → Type 0
-IsThrough s = (finding_of s).fault ≡ None
+abbrev pub PassesParents : Shown → Type 0
+PassesParents s = (found_node_of s).fault ≡ None

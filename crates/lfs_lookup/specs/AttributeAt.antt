@@ -15,8 +15,8 @@ use Rattle.lfs_lookup.specs.declared.search.Spot.{Spot}
 abbrev pub IsAttribute : ℕ → Attributes → Option (Vec ℕ Global) → Type 0
 IsAttribute kind attributes found = option_map (λ v. v.items) found ≡ attribute_of kind attributes
 
-abbrev pub IsShort : Option (Vec ℕ Global) → Type 0
-IsShort found = IfSome found (λ v. length v.items ≤ 1022)
+abbrev pub IsShortAttribute : Option (Vec ℕ Global) → Type 0
+IsShortAttribute found = IfSome found (λ v. length v.items ≤ 1022)
 
 -- the slot of a file or of a directory
 abbrev pub slot_shown : Shown → Option Spot
@@ -29,16 +29,16 @@ abbrev pub IsPairCached : State → Shown → Type 0
 IsPairCached t s = IfSome (slot_shown s) (λ slot. IsSome (cached_log t slot.pair))
 
 -- the attributes of the slot, if there is one
-abbrev pub AreHeld : Kept → Option Spot → Attributes → Type 0
-AreHeld t None attributes = attributes ≡ []
-AreHeld t (Some spot) attributes = (slot : Slot) × (IsSlotAt t spot slot × (slot.attributes ≡ attributes))
+abbrev pub AreAttributesOf : Kept → Option Spot → Attributes → Type 0
+AreAttributesOf t None attributes = attributes ≡ []
+AreAttributesOf t (Some spot) attributes = (slot : Slot) × (IsSlotAt t spot slot × (slot.attributes ≡ attributes))
 
 -- putting an attribute adds its size, and subtracts that of the attribute of its type
-abbrev pub TakesPlace : Attributes → Type 0
-TakesPlace attributes = (kind : ℕ) (bytes : List ℕ) → attributes_size (put_attribute kind bytes attributes) + option_map_or (λ b. 4 + length b) (attribute_of kind attributes) 0 ≡ attributes_size attributes + (4 + length bytes)
+abbrev pub PutChangesSize : Attributes → Type 0
+PutChangesSize attributes = (kind : ℕ) (bytes : List ℕ) → attributes_size (put_attribute kind bytes attributes) + option_map_or (λ b. 4 + length b) (attribute_of kind attributes) 0 ≡ attributes_size attributes + (4 + length bytes)
 
 -- so many bytes of a pair are the attributes'
 pub record IsAttributesSize (attributes : Attributes) (size : ℕ) : Type 0 where
   pub is : size ≡ attributes_size attributes
   pub small : size < 2 ^ 32
-  pub put : TakesPlace attributes
+  pub put : PutChangesSize attributes

@@ -36,7 +36,7 @@ pub record IsLoaded (b : ℕ) (old new : CachedBlocks) : Type 0 where
   pub others : (n c : ℕ) → n < cache_limit → IsRecent n old c → IsRecent (suc n) new c
 
 -- Where all these pairs are cached no block is read, and pairs that were cached still are. One pair alone is loaded.
-pub record LoadsAlong {X : Type 0} (ps : List Pair) (old new : State) (result : Result X Error) : Type 0 where
+pub record LoadsPairs {X : Type 0} (ps : List Pair) (old new : State) (result : Result X Error) : Type 0 where
   pub none : AreCached old ps → reads new.kept.history ≡ reads old.kept.history
   pub stay : AreCached old ps → OnOk result (StayCached old.cache new.cache)
   pub one : length ps ≡ 1 → OnOk result (AllByRecursion (λ p. IsLoaded (active_at old.kept.disk p.at) old.cache new.cache) ps)
@@ -44,12 +44,12 @@ pub record LoadsAlong {X : Type 0} (ps : List Pair) (old new : State) (result : 
 -- ---- down the directories of a path
 
 -- the pairs of the directory at a path, if one is there
-abbrev pub pairs_on : List Pair → Path → List Pair
-pairs_on ps path = option_map_or (pairs_at ps) (directory_at (entries_in ps) (root_of ps) path) []
+abbrev pub pairs_of_directory_at : List Pair → Path → List Pair
+pairs_of_directory_at ps path = option_map_or (pairs_at ps) (directory_at (entries_in ps) (root_of ps) path) []
 
 -- the pairs of the directories at these paths are among the n that were used last
 abbrev pub AreRecentOn : ℕ → Disk → CachedBlocks → List Pair → List Path → Type 0
-AreRecentOn n disk cache ps paths = AllByRecursion (λ p. AreRecent n disk cache (pairs_on ps p)) paths
+AreRecentOn n disk cache ps paths = AllByRecursion (λ p. AreRecent n disk cache (pairs_of_directory_at ps p)) paths
 
 abbrev pub AreCachedBeneath : State → List Path → Type 0
 AreCachedBeneath t paths = AreRecentOn cache_limit t.kept.disk t.cache t.kept.pairs paths
@@ -61,7 +61,7 @@ pub record AreSmall (ps : List Pair) (paths : List Path) : Type 0 where
 
 -- Where all pairs of these directories are cached no block is read, and pairs that were cached still are. Small directories are
 -- the last that were used, where the way led through all of them.
-pub record LoadsDown {X : Type 0} (through : X → Type 0) (paths : List Path) (old new : State) (result : Result X Error) : Type 0 where
+pub record LoadsDirectories {X : Type 0} (through : X → Type 0) (paths : List Path) (old new : State) (result : Result X Error) : Type 0 where
   pub none : AreCachedBeneath old paths → reads new.kept.history ≡ reads old.kept.history
   pub stay : AreCachedBeneath old paths → OnOk result (StayCached old.cache new.cache)
   pub recent : AreSmall old.kept.pairs paths → IfOk result (λ x. through x → AreRecentOn (length paths) old.kept.disk new.cache old.kept.pairs paths)

@@ -3,9 +3,9 @@ use Rattle.std.specs.Prelude.{ℕ, ◌≡◌, [], nat_lt, Bool, true, false, len
 use Rattle.lfs_model.specs.TreeEdits.{is_directory, is_file, names_of}
 use Rattle.lfs_model.specs.Operations as ops
 use Rattle.lfs_model.specs.Session.{parent_fault}
-use Rattle.lfs_model.specs.Effects.{size_of}
+use Rattle.lfs_model.specs.Effects.{node_size}
 use Rattle.lfs_model.specs.Tree.{Path, Tree}
-use Rattle.lfs_lookup.specs.declared.found_entries.Finding.{Finding}
+use Rattle.lfs_lookup.specs.declared.found_entries.FoundNode.{FoundNode}
 use Rattle.lfs_lookup.specs.declared.kinds.Kind.{Kind}
 use Rattle.lfs_lookup.specs.declared.kinds.Kind.TheVariants as kind
 use Rattle.lfs_lookup.specs.declared.kinds.ListItem.{ListItem}
@@ -34,12 +34,12 @@ size_in (node.File size) = Some size
 size_in node.Directory = None
 
 -- what was found is the node at a path; there is none where a parent refuses
-pub record Finds (t : Tree) (p : Path) (found : Finding) : Type 0 where
+pub record Finds (t : Tree) (p : Path) (found : FoundNode) : Type 0 where
   pub parents : parent_fault t [] p ≡ found.fault
   pub nothing : is_none (t p) ≡ is_absent found.node
   pub directories : is_directory (t p) ≡ is_directory_node found.node
   pub files : is_file (t p) ≡ is_file_node found.node
-  pub sizes : size_of (t p) ≡ size_in found.node
+  pub sizes : node_size (t p) ≡ size_in found.node
 
 -- whether an entry is beneath a path
 abbrev pub has_names : Tree → Path → Bool

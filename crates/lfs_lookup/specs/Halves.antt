@@ -7,8 +7,8 @@ use Rattle.lfs_model.specs.InDirectory.{last_is_joined, run_length}
 use Rattle.lfs_model.specs.Thread.{Pair}
 use Rattle.lfs_model.specs.Tree.{Path}
 use Rattle.lfs_thread.specs.Kept.{State}
-use Rattle.lfs_lookup.specs.CachedPairs.{pairs_on}
-use Rattle.lfs_lookup.specs.Listed.{joined_run}
+use Rattle.lfs_lookup.specs.CachedPairs.{pairs_of_directory_at}
+use Rattle.lfs_lookup.specs.Listed.{hard_tail_run}
 
 -- how often a number is halved, rounded down, until nothing is left, in so many steps at most
 abbrev pub halved_within : ℕ → ℕ → ℕ
@@ -26,7 +26,7 @@ HaveSlots ps = AllByRecursion (λ p. 0 < length p.content.slots) ps
 
 -- so has each pair of the directories at these paths
 abbrev pub HaveSlotsOn : List Pair → List Path → Type 0
-HaveSlotsOn ps paths = AllByRecursion (λ p. HaveSlots (pairs_on ps p)) paths
+HaveSlotsOn ps paths = AllByRecursion (λ p. HaveSlots (pairs_of_directory_at ps p)) paths
 
 -- how often the pairs of the directory at a path can be halved
 abbrev pub halvings_of_path : List Pair → Path → ℕ
@@ -43,4 +43,4 @@ ReadsByHalves old new paths = HaveSlotsOn old.kept.pairs paths → reads new.kep
 
 -- the same of the directory that begins with the pair of number `first`
 abbrev pub ReadsByHalvesFrom : State → State → ℕ → Type 0
-ReadsByHalvesFrom old new first = HaveSlots (joined_run (drop first old.kept.pairs)) → reads new.kept.history ≤ reads old.kept.history + halvings (run_length (drop first old.kept.pairs))
+ReadsByHalvesFrom old new first = HaveSlots (hard_tail_run (drop first old.kept.pairs)) → reads new.kept.history ≤ reads old.kept.history + halvings (run_length (drop first old.kept.pairs))

@@ -30,25 +30,25 @@ abbrev pub items_view : List Item → List Shape
 items_view items = map item_view items
 
 -- the entry of a slot, if it isn't the superblock's
-abbrev pub shown_of : Slot → Option Shape
-shown_of s = if is_superblock s then None else Some (shape_of s)
+abbrev pub shape_if_entry : Slot → Option Shape
+shape_if_entry s = if is_superblock s then None else Some (shape_of s)
 
 -- the entry of a log's slot, if it has a name and a struct
-abbrev pub shown_raw : RawSlot → Option Shape
-shown_raw s = option_and_then shown_of (complete s)
+abbrev pub shape_of_raw : RawSlot → Option Shape
+shape_of_raw s = option_and_then shape_if_entry (complete s)
 
-abbrev pub listed : Option Shape → List Shape
-listed None = []
-listed (Some x) = x ∷ []
+abbrev pub shape_list : Option Shape → List Shape
+shape_list None = []
+shape_list (Some x) = x ∷ []
 
-abbrev pub shown_among : List RawSlot → List Shape
-shown_among slots = flat_map (λ s. listed (shown_raw s)) slots
+abbrev pub shapes_among : List RawSlot → List Shape
+shapes_among slots = flat_map (λ s. shape_list (shape_of_raw s)) slots
 
 -- the slots without the one of that id
-abbrev pub without : {X : Type 0} → Option ℕ → List X → List X
-without None slots = slots
-without (Some id) slots = remove slots id
+abbrev pub without_id : {X : Type 0} → Option ℕ → List X → List X
+without_id None slots = slots
+without_id (Some id) slots = remove slots id
 
 -- the entries among slots of which one may be moved away
 abbrev pub shapes_in : Option ℕ → List Slot → List Shape
-shapes_in moved slots = map shape_of (filter (λ s. not (is_superblock s)) (without moved slots))
+shapes_in moved slots = map shape_of (filter (λ s. not (is_superblock s)) (without_id moved slots))

@@ -15,15 +15,15 @@ abbrev pub item_listed : Shape → ops.Item
 item_listed x = record { name = x.name; size = size_listed x.struct }
 
 -- inline bytes are in an entry
-abbrev pub IsShort : Struct → Type 0
-IsShort (Inline bytes) = length bytes < 0x3ff
-IsShort (Ctz head size) = Unit {0}
-IsShort (Branch to) = Unit {0}
+abbrev pub FitsInline : Struct → Type 0
+FitsInline (Inline bytes) = length bytes < 0x3ff
+FitsInline (Ctz head size) = Unit {0}
+FitsInline (Branch to) = Unit {0}
 
 -- so do names, which are no longer than a new one may be
 abbrev pub IsShortEntry : Shape → Type 0
-IsShortEntry x = IsShort x.struct × (length x.name ≤ name_limit)
+IsShortEntry x = FitsInline x.struct × (length x.name ≤ name_limit)
 
-abbrev pub AreShort : List Shape → Type 0
-AreShort [] = Unit {0}
-AreShort (x ∷ xs) = IsShortEntry x × AreShort xs
+abbrev pub AreShortEntries : List Shape → Type 0
+AreShortEntries [] = Unit {0}
+AreShortEntries (x ∷ xs) = IsShortEntry x × AreShortEntries xs

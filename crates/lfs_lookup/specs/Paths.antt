@@ -1,7 +1,7 @@
 -- What paths lead to.
 use Rattle.std.specs.Prelude.{ℕ, ◌≡◌, List, Option, Some, None, ◌∷◌, [], ◌++◌}
 use Rattle.lfs_model.specs.declared.order.NameOrder.{NameOrder}
-use Rattle.lfs_model.specs.InDirectory.{BeginsAt, Belongs, Stands}
+use Rattle.lfs_model.specs.InDirectory.{BeginsAt, BelongsInDirectory, HasNameAtPlace}
 use Rattle.lfs_model.specs.Names.{Name}
 use Rattle.lfs_model.specs.Operations.{Refusal, NoEnt, NotDir}
 use Rattle.lfs_model.specs.Session.{directory_fault, parent_fault}
@@ -10,10 +10,10 @@ use Rattle.lfs_model.specs.Slots.{no_gstate}
 use Rattle.lfs_model.specs.Thread.{Pair, gstate_of}
 use Rattle.lfs_model.specs.Tree.{Path}
 use Rattle.lfs_model.specs.View.{IsAccepted}
-use Rattle.lfs_model.specs.Shown.{Leads, tree_in}
+use Rattle.lfs_model.specs.Shown.{PathLeadsTo, tree_in}
 use Rattle.lfs_thread.specs.Kept.{Kept}
 use Rattle.lfs_lookup.specs.Entry.{ShowsContents}
-use Rattle.lfs_lookup.specs.Search.{HidesFrom, passed_in}
+use Rattle.lfs_lookup.specs.Search.{HidesFrom, skipped_id_in}
 use Rattle.lfs_lookup.specs.declared.paths.Found.{Found}
 use Rattle.lfs_lookup.specs.declared.paths.Found.TheVariants as found
 use Rattle.lfs_lookup.specs.declared.paths.Shown.{Shown}
@@ -23,19 +23,19 @@ use Rattle.lfs_lookup.specs.declared.paths.Parent.{Parent}
 use Rattle.lfs_lookup.specs.declared.paths.Parent.TheVariants as parent
 
 -- the image is accepted, and has nothing to recover
-pub record HasNothingSet (t : Kept) : Type 0 where
+pub record HasNothingToRecover (t : Kept) : Type 0 where
   pub accepted : IsAccepted t.disk t.pairs
   pub settled : gstate_of t.pairs ≡ no_gstate
 
 -- the image is accepted, and that slot and no other counts as deleted
-pub record IsHiding (t : Kept) (moved : Option Spot) : Type 0 where
+pub record HidesOnly (t : Kept) (moved : Option Spot) : Type 0 where
   pub accepted : IsAccepted t.disk t.pairs
   pub hides : HidesFrom (gstate_of t.pairs) moved 0 t.pairs
 
 -- the path leads to a directory that begins with the pair of number `first`
 pub record BeginsOnPath (ps : List Pair) (path : Path) (first : ℕ) : Type 0 where
   pub at : ℕ × ℕ
-  pub leads : Leads ps path at
+  pub leads : PathLeadsTo ps path at
   pub begins : BeginsAt ps at first
 
 -- the entry at a path, where a directory is wanted
@@ -63,25 +63,25 @@ pub record Descends (t : Kept) (path : Path) (parent : Parent) : Type 0 where
 -- ---- what is found
 
 -- The name is in the directory at the path above, in the slot at the spot. This slot is the slot of its path.
-pub record StandsOnPath (ps : List Pair) (above : Path) (name : Name) (first : ℕ) (spot : Spot) : Type 0 where
+pub record IsSlotOnPath (ps : List Pair) (above : Path) (name : Name) (first : ℕ) (spot : Spot) : Type 0 where
   pub on : BeginsOnPath ps above first
-  pub stands : Stands ps first name spot.pair spot.id
+  pub stands : HasNameAtPlace ps first name spot.pair spot.id
   pub slot : slot_of_path ps (above ++ name ∷ []) ≡ Some stands.stands.slot
 
 -- nothing is at its path, and the name belongs in the directory at the path above, before the slot at the spot
 pub record BelongsOnPath (order : NameOrder) (ps : List Pair) (above : Path) (name : Name) (first : ℕ) (spot : Spot) : Type 0 where
   pub on : BeginsOnPath ps above first
-  pub belongs : Belongs order ps first name spot.pair spot.id
+  pub belongs : BelongsInDirectory order ps first name spot.pair spot.id
   pub nothing : slot_of_path ps (above ++ name ∷ []) ≡ None
 
 -- the entry of a name in the directory at a path
-abbrev pub IsThere : NameOrder → List Pair → Path → Name → Found → Type 0
-IsThere order ps above name (found.Directory parent slot first) = StandsOnPath ps above name parent slot × BeginsOnPath ps (above ++ name ∷ []) first
-IsThere order ps above name (found.File parent slot contents) = (s : StandsOnPath ps above name parent slot) × ShowsContents contents s.stands.stands.slot.struct
-IsThere order ps above name (found.Nothing parent place) = BelongsOnPath order ps above name parent place
-IsThere order ps above name found.Root = ⊥
-IsThere order ps above name found.ParentIsFile = ⊥
-IsThere order ps above name found.ParentIsMissing = ⊥
+abbrev pub IsEntryOfName : NameOrder → List Pair → Path → Name → Found → Type 0
+IsEntryOfName order ps above name (found.Directory parent slot first) = IsSlotOnPath ps above name parent slot × BeginsOnPath ps (above ++ name ∷ []) first
+IsEntryOfName order ps above name (found.File parent slot contents) = (s : IsSlotOnPath ps above name parent slot) × ShowsContents contents s.stands.stands.slot.struct
+IsEntryOfName order ps above name (found.Nothing parent place) = BelongsOnPath order ps above name parent place
+IsEntryOfName order ps above name found.Root = ⊥
+IsEntryOfName order ps above name found.ParentIsFile = ⊥
+IsEntryOfName order ps above name found.ParentIsMissing = ⊥
 
 -- the refusal of a path for its parents
 abbrev pub parent_refusal : Found → Option Refusal
@@ -90,18 +90,18 @@ parent_refusal found.ParentIsMissing = Some NoEnt
 parent_refusal _ = None
 
 -- the last name of the path has that entry
-pub record EndsIn (order : NameOrder) (ps : List Pair) (path : Path) (found : Found) : Type 0 where
+pub record LastNameFinds (order : NameOrder) (ps : List Pair) (path : Path) (found : Found) : Type 0 where
   pub above : Path
   pub name : Name
   pub is : path ≡ above ++ name ∷ []
-  pub there : IsThere order ps above name found
+  pub there : IsEntryOfName order ps above name found
 
 -- what is found for the path, unless a parent refuses
 abbrev pub IsAtPath : Kept → Path → Found → Type 0
 IsAtPath t path found.Root = path ≡ []
 IsAtPath t path found.ParentIsFile = Unit {0}
 IsAtPath t path found.ParentIsMissing = Unit {0}
-IsAtPath t path there = EndsIn t.disk.order t.pairs path there
+IsAtPath t path there = LastNameFinds t.disk.order t.pairs path there
 
 -- what a path leads to
 pub record LeadsTo (t : Kept) (path : Path) (found : Found) : Type 0 where
@@ -118,8 +118,8 @@ pub record IsSlotOf (ps : List Pair) (moved : Option Spot) (path : Path) (spot :
   pub is : path ≡ above ++ name ∷ []
   pub first : ℕ
   pub on : BeginsOnPath ps above first
-  pub stands : Stands ps first name spot.pair spot.id
-  pub kept : passed_in moved spot.pair ≡ Some spot.id → ⊥
+  pub stands : HasNameAtPlace ps first name spot.pair spot.id
+  pub kept : skipped_id_in moved spot.pair ≡ Some spot.id → ⊥
   pub slot : slot_of_path ps path ≡ Some stands.stands.slot
 
 -- the entry at a path below the root

@@ -6,8 +6,8 @@ use Rattle.lfs_model.specs.Profile.{FitsSlot}
 use Rattle.lfs_thread.specs.Steps.{no_pair}
 
 -- a superblock's slot has a struct of 24 bytes, as in each accepted image
-abbrev pub IsShaped : Slot → Type 0
-IsShaped s = is_superblock s ≡ true → (bytes : List ℕ) × ((s.struct ≡ Inline bytes) × (length bytes ≡ 24))
+abbrev pub HasSuperblockStruct : Slot → Type 0
+HasSuperblockStruct s = is_superblock s ≡ true → (bytes : List ℕ) × ((s.struct ≡ Inline bytes) × (length bytes ≡ 24))
 
 -- A pair is in the profile; `follows` tells whether a hard tail names it.
 pub record IsPairWritable (block_size page : ℕ) (follows : Bool) (c : Content) : Type 0 where

@@ -12,9 +12,9 @@ pub record IsInChain (t : Kept) (index : ℕ) : Type 0 where
   pub root : index + superblocks_before (drop index t.pairs) ≡ superblocks_before t.pairs
 
 -- the next pair of the chain that has a superblock; there is none after the root
-abbrev pub IsNext : Kept → ℕ → Option ℕ → Type 0
-IsNext t index None = index ≡ superblocks_before t.pairs
-IsNext t index (Some next) = (index < next) × IsInChain t next
+abbrev pub IsNextInChain : Kept → ℕ → Option ℕ → Type 0
+IsNextInChain t index None = index ≡ superblocks_before t.pairs
+IsNextInChain t index (Some next) = (index < next) × IsInChain t next
 
 abbrev pub has_few : List Slot → Bool
 has_few [] = true

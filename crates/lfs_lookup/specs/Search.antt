@@ -5,7 +5,7 @@ use Rattle.lfs_model.specs.declared.order.NameOrder.{NameOrder}
 use Rattle.lfs_model.specs.Names.{Name, name_cmp}
 use Rattle.lfs_model.specs.Slots.{Slot, Content, Gstate, is_superblock, same_pair}
 use Rattle.lfs_model.specs.Thread.{Pair, is_hard}
-use Rattle.lfs_model.specs.InDirectory.{StandsAt, PlaceAt, Stands, Belongs, HaveNoSuperblock, entries_only, slots_in}
+use Rattle.lfs_model.specs.InDirectory.{IsNameAt, PlaceAt, HasNameAtPlace, BelongsInDirectory, HaveNoSuperblock, entries_only, slots_in}
 use Rattle.lfs_thread.specs.CachedLog.{IsBlockOf, cached_log}
 use Rattle.lfs_thread.specs.Kept.{State}
 use Rattle.lfs_lookup.specs.declared.entry.Entry.{Entry}
@@ -15,7 +15,7 @@ use Rattle.lfs_lookup.specs.declared.search.Sought.TheVariants.{Found, Place}
 use Rattle.lfs_lookup.specs.declared.search.SoughtInPair.{SoughtInPair}
 use Rattle.lfs_lookup.specs.declared.search.SoughtInPair.TheVariants as in_pair
 use Rattle.lfs_lookup.specs.Entry.{EntryShows}
-use Rattle.lfs_lookup.specs.Listed.{joined_run}
+use Rattle.lfs_lookup.specs.Listed.{hard_tail_run}
 
 -- a block's log comes to a content in which each slot has a name and a struct
 abbrev pub HoldsContent : List ℕ → Type 0
@@ -26,8 +26,8 @@ abbrev pub IsAbsentBut : Option ℕ → List Slot → Name → Type 0
 IsAbsentBut skip slots name = (id : ℕ) (s : Slot) → slice_get slots id ≡ Some s → is_superblock s ≡ false → (skip ≡ Some id → ⊥) → s.name ≡ name → ⊥
 
 -- the name is at the id, which isn't passed over, with that struct
-pub record StandsShown (skip : Option ℕ) (slots : List Slot) (name : Name) (id : ℕ) (entry : Entry) : Type 0 where
-  pub stands : StandsAt slots name id
+pub record HasNameShown (skip : Option ℕ) (slots : List Slot) (name : Name) (id : ℕ) (entry : Entry) : Type 0 where
+  pub stands : IsNameAt slots name id
   pub shows : EntryShows entry stands.slot.struct
   pub kept : skip ≡ Some id → ⊥
 
@@ -37,14 +37,14 @@ pub record BelongsShown (order : NameOrder) (skip : Option ℕ) (slots : List Sl
   pub place : skip ≡ None → PlaceAt order slots name id
 
 -- among the slots of a pair, of which one may be passed over
-abbrev pub AnswersIn : NameOrder → Option ℕ → List Slot → Name → SoughtInPair → Type 0
-AnswersIn order skip slots name (in_pair.Found id entry) = StandsShown skip slots name id entry
-AnswersIn order skip slots name (in_pair.Place id) = BelongsShown order skip slots name id
+abbrev pub SearchFindsInPair : NameOrder → Option ℕ → List Slot → Name → SoughtInPair → Type 0
+SearchFindsInPair order skip slots name (in_pair.Found id entry) = HasNameShown skip slots name id entry
+SearchFindsInPair order skip slots name (in_pair.Place id) = BelongsShown order skip slots name id
 
 -- in the directory that begins with the pair of number `first`
 abbrev pub SearchFinds : NameOrder → List Pair → ℕ → Name → Sought → Type 0
-SearchFinds order ps first name (Found spot entry) = (s : Stands ps first name spot.pair spot.id) × EntryShows entry s.stands.slot.struct
-SearchFinds order ps first name (Place spot) = Belongs order ps first name spot.pair spot.id
+SearchFinds order ps first name (Found spot entry) = (s : HasNameAtPlace ps first name spot.pair spot.id) × EntryShows entry s.stands.slot.struct
+SearchFinds order ps first name (Place spot) = BelongsInDirectory order ps first name spot.pair spot.id
 
 -- the block of the slot that was found is cached
 abbrev pub IsSoughtCached : State → Sought → Type 0
@@ -53,30 +53,30 @@ IsSoughtCached t (Place spot) = Unit {0}
 
 -- The names in the directory that begins with the pair of number `first` rise, and only this pair may have a superblock.
 pub record IsInOrder (order : NameOrder) (ps : List Pair) (first : ℕ) : Type 0 where
-  pub rise : AllPairs (λ a b. name_cmp order a b ≡ Less) (map (λ s. s.name) (entries_only (slots_in (joined_run (drop first ps)))))
+  pub rise : AllPairs (λ a b. name_cmp order a b ≡ Less) (map (λ s. s.name) (entries_only (slots_in (hard_tail_run (drop first ps)))))
   pub plain : HaveNoSuperblock (drop (first + 1) ps)
 
 -- ---- where a slot counts as deleted
 
 -- the id that is passed over in the pair of that number
-abbrev pub passed_in : Option Spot → ℕ → Option ℕ
-passed_in None index = None
-passed_in (Some spot) index = if spot.pair == index then Some spot.id else None
+abbrev pub skipped_id_in : Option Spot → ℕ → Option ℕ
+skipped_id_in None index = None
+skipped_id_in (Some spot) index = if spot.pair == index then Some spot.id else None
 
 -- these pairs, from number `index` on, as far as hard tails lead
 abbrev pub IsAbsentAlong : Option Spot → ℕ → List Pair → Name → Type 0
 IsAbsentAlong moved index [] name = Unit {0}
-IsAbsentAlong moved index (p ∷ ps) name = IsAbsentBut (passed_in moved index) p.content.slots name × (is_hard p.content.tail ≡ true → IsAbsentAlong moved (index + 1) ps name)
+IsAbsentAlong moved index (p ∷ ps) name = IsAbsentBut (skipped_id_in moved index) p.content.slots name × (is_hard p.content.tail ≡ true → IsAbsentAlong moved (index + 1) ps name)
 
 -- the name is at this place, and not in the slot that counts as deleted
 pub record IsShown (ps : List Pair) (moved : Option Spot) (first : ℕ) (name : Name) (spot : Spot) (entry : Entry) : Type 0 where
-  pub stands : Stands ps first name spot.pair spot.id
+  pub stands : HasNameAtPlace ps first name spot.pair spot.id
   pub shows : EntryShows entry stands.stands.slot.struct
-  pub kept : passed_in moved spot.pair ≡ Some spot.id → ⊥
+  pub kept : skipped_id_in moved spot.pair ≡ Some spot.id → ⊥
 
-abbrev pub AnswersShown : List Pair → Option Spot → ℕ → Name → Option (Spot × Entry) → Type 0
-AnswersShown ps moved first name (Some found) = IsShown ps moved first name found.0 found.1
-AnswersShown ps moved first name None = IsAbsentAlong moved first (drop first ps) name
+abbrev pub SearchShows : List Pair → Option Spot → ℕ → Name → Option (Spot × Entry) → Type 0
+SearchShows ps moved first name (Some found) = IsShown ps moved first name found.0 found.1
+SearchShows ps moved first name None = IsAbsentAlong moved first (drop first ps) name
 
 -- the id of the slot that a set move names, if it is in this pair
 abbrev pub hidden_in : Gstate → Pair → Option ℕ
@@ -85,4 +85,4 @@ hidden_in g p = if g.kind == 0x4ff && same_pair g.pair p.at then Some g.id else 
 -- in these pairs, from number `index` on, that slot and no other counts as deleted
 abbrev pub HidesFrom : Gstate → Option Spot → ℕ → List Pair → Type 0
 HidesFrom g moved index [] = Unit {0}
-HidesFrom g moved index (p ∷ ps) = (passed_in moved index ≡ hidden_in g p) × HidesFrom g moved (index + 1) ps
+HidesFrom g moved index (p ∷ ps) = (skipped_id_in moved index ≡ hidden_in g p) × HidesFrom g moved (index + 1) ps

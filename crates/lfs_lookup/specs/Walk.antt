@@ -20,17 +20,17 @@ pub record Place : Type 0 where
   pub path : List ℕ
   pub struct : Struct
 
-abbrev pub found_view : TreeItem → Place
-found_view f = record { path = f.path.items; struct = structure_view f.structure }
+abbrev pub tree_item_view : TreeItem → Place
+tree_item_view f = record { path = f.path.items; struct = structure_view f.structure }
 
-abbrev pub founds_view : List TreeItem → List Place
-founds_view founds = map found_view founds
+abbrev pub tree_items_view : List TreeItem → List Place
+tree_items_view founds = map tree_item_view founds
 
-abbrev pub beneath : List ℕ → Shape → Place
-beneath path shape = record { path = path ++ slash ∷ shape.name; struct = shape.struct }
+abbrev pub place_beneath : List ℕ → Shape → Place
+place_beneath path shape = record { path = path ++ slash ∷ shape.name; struct = shape.struct }
 
 abbrev pub places_beneath : List ℕ → List Shape → List Place
-places_beneath path shapes = map (beneath path) shapes
+places_beneath path shapes = map (place_beneath path) shapes
 
 -- ---- pairs by their addresses
 

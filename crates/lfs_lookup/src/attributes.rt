@@ -12,14 +12,14 @@ ghost use Rattle.lfs_model.specs.View.{IsAccepted};
 ghost use Rattle.lfs_model.specs.Shown.{tree_in};
 ghost use Rattle.lfs_thread.specs.CachedLog.{IsBlockOf, cached_log};
 ghost use Rattle.lfs_lookup.specs.CachedPairs.{AreCachedBeneath};
-ghost use Rattle.lfs_lookup.specs.AttributeAt.{AreHeld, IsAttribute, IsShort, slot_shown};
+ghost use Rattle.lfs_lookup.specs.AttributeAt.{AreAttributesOf, IsAttribute, IsShortAttribute, slot_shown};
 ghost use Rattle.lfs_lookup.specs.BytesAt.{IsSlotAt};
 ghost use Rattle.lfs_lookup.specs.Finds.{Finds};
 ghost use Rattle.lfs_lookup.specs.Halves.{ReadsByHalves};
 ghost use Rattle.lfs_lookup.specs.Reading.{IsReading};
 ghost use Rattle.lfs_lookup.specs.Search.{HoldsContent};
 
-use crate::by_path::{finding_of, shown_at};
+use crate::by_path::{found_node_of, shown_at};
 use crate::found_entries::FoundAttribute;
 use crate::path::Path;
 use crate::paths::Shown;
@@ -56,7 +56,7 @@ fn copy_of(alloc: Global, bytes: Option<&[u8]>) -> Result<Option<Vec<u8>>, Alloc
 // Copies an attribute of a slot of a log.
 fn copy_attribute(alloc: Global, log: &Log<'_>, kind: u8, id: u16) -> Result<Option<Vec<u8>>, Error>
     requires { HoldsContent log.now }
-    ensures short { IfOk result IsShort }
+    ensures short { IfOk result IsShortAttribute }
     ensures is { (content : ModelContent) (slot : Slot) → IsBlockOf log.now content → slice_get content.slots id ≡ Some slot → IfOk result (IsAttribute kind slot.attributes) }
     ensures errors { IfErr result (λ e. e ≡ Error.NoMemory) }
 {
@@ -74,7 +74,7 @@ fn attribute_of_slot<D: BlockDevice>(
     requires works { thread.old.failed ≡ false }
     requires below { slot.pair < length thread.old.kept.pairs }
     requires cached_log { IsSome (cached_log thread.old slot.pair) }
-    ensures short { IfOk result IsShort }
+    ensures short { IfOk result IsShortAttribute }
     ensures is { (held : Slot) → IsSlotAt thread.old.kept slot held → IfOk result (IsAttribute kind held.attributes) }
     ensures no_call { thread.new.kept ≡ thread.old.kept }
     ensures reading { IsReading thread.old thread.new result }
@@ -95,7 +95,7 @@ pub(crate) fn slot_of(shown: Shown) -> Option<Spot>
 }
 
 // Returns an attribute of the slot, if there is one.
-fn attribute_held<D: BlockDevice>(
+fn attribute_if_slot<D: BlockDevice>(
     alloc: Global,
     thread: &mut Thread<D>,
     slot: Option<Spot>,
@@ -104,8 +104,8 @@ fn attribute_held<D: BlockDevice>(
     requires works { thread.old.failed ≡ false }
     requires below { IfSome slot (λ s. s.pair < length thread.old.kept.pairs) }
     requires cached_log { IfSome slot (λ s. IsSome (cached_log thread.old s.pair)) }
-    ensures short { IfOk result IsShort }
-    ensures is { (attributes : Attributes) → AreHeld thread.old.kept slot attributes → IfOk result (IsAttribute kind attributes) }
+    ensures short { IfOk result IsShortAttribute }
+    ensures is { (attributes : Attributes) → AreAttributesOf thread.old.kept slot attributes → IfOk result (IsAttribute kind attributes) }
     ensures no_call { thread.new.kept ≡ thread.old.kept }
     ensures reading { IsReading thread.old thread.new result }
 {
@@ -133,7 +133,7 @@ pub fn attribute_at<D: BlockDevice>(
     requires accepted { IsAccepted thread.old.kept.disk thread.old.kept.pairs }
     requires root { root ≡ superblocks_before thread.old.kept.pairs }
     ensures found { IfOk result (λ found. Finds (tree_in thread.old.kept.disk thread.old.kept.pairs) path.now found.finding) }
-    ensures short { IfOk result (λ found. IsShort found.bytes) }
+    ensures short { IfOk result (λ found. IsShortAttribute found.bytes) }
     ensures is { IfOk result (λ found. IsAttribute kind (attributes_of (tree_in thread.old.kept.disk thread.old.kept.pairs path.now)) found.bytes) }
     ensures few { reads thread.new.kept.history ≤ reads thread.old.kept.history + sum_by (pairs_of_path thread.old.kept.pairs) (parents path.now) }
     ensures halves { gstate_of thread.old.kept.pairs ≡ no_gstate → ReadsByHalves thread.old thread.new (parents path.now) }
@@ -141,11 +141,11 @@ pub fn attribute_at<D: BlockDevice>(
     ensures reading { IsReading thread.old thread.new result }
 {
     let shown = shown_at(alloc, thread, root, path)?;
-    let bytes = attribute_held(alloc, thread, slot_of(shown), kind)?;
+    let bytes = attribute_if_slot(alloc, thread, slot_of(shown), kind)?;
     // By the sizes of its blocks a list has as many bytes as its entry says.
     let _device = thread.device();
     Ok(FoundAttribute {
-        finding: finding_of(shown),
+        finding: found_node_of(shown),
         bytes,
     })
 }

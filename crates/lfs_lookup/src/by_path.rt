@@ -7,8 +7,8 @@ ghost use Rattle.lfs_model.specs.Slots.{no_gstate};
 ghost use Rattle.lfs_model.specs.Thread.{gstate_of, superblocks_before};
 ghost use Rattle.lfs_model.specs.View.{IsAccepted};
 ghost use Rattle.lfs_model.specs.Shown.{tree_in};
-ghost use Rattle.lfs_lookup.specs.CachedPairs.{LoadsDown};
-ghost use Rattle.lfs_lookup.specs.AtPath.{IsInEntry, IsInEntryIfFile, IsThrough, ShowsAt, finding_of, first_shown, size_shown};
+ghost use Rattle.lfs_lookup.specs.CachedPairs.{LoadsDirectories};
+ghost use Rattle.lfs_lookup.specs.AtPath.{IsInEntry, IsInEntryIfFile, PassesParents, ShowsAt, found_node_of, first_pair_shown, size_shown};
 ghost use Rattle.lfs_lookup.specs.AttributeAt.{IsPairCached};
 ghost use Rattle.lfs_lookup.specs.Finds.{Finds, has_names};
 ghost use Rattle.lfs_lookup.specs.declared.found_entries.Node.TheVariants.{Directory, File, Nothing};
@@ -17,10 +17,10 @@ ghost use Rattle.lfs_lookup.specs.Reading.{IsReading};
 
 use crate::directory::has_entries;
 use crate::entry::FileStorage;
-use crate::found_entries::{Finding, Inside, Node};
+use crate::found_entries::{FoundNode, Inside, Node};
 use crate::path::Path;
 use crate::paths::{Shown, look_up_shown, moved_slot};
-use crate::refusal::{Refusal, refused};
+use crate::refusal::{Refusal, to_refusal};
 use lfs_device::{BlockDevice, Error};
 use lfs_thread::Thread;
 use std::alloc::Global;
@@ -47,7 +47,7 @@ pub fn shown_at<D: BlockDevice>(
     ensures cached_log { IfOk result (IsPairCached thread.new) }
     ensures few { reads thread.new.kept.history ≤ reads thread.old.kept.history + sum_by (pairs_of_path thread.old.kept.pairs) (parents path.now) }
     ensures halves { gstate_of thread.old.kept.pairs ≡ no_gstate → ReadsByHalves thread.old thread.new (parents path.now) }
-    ensures loads { LoadsDown IsThrough (parents path.now) thread.old thread.new result }
+    ensures loads { LoadsDirectories PassesParents (parents path.now) thread.old thread.new result }
     ensures reading { IsReading thread.old thread.new result }
 {
     let names = path.names(alloc)?;
@@ -68,11 +68,11 @@ fn size_of(contents: FileStorage) -> u32
 }
 
 // Makes the finding of a file.
-fn found_file(contents: FileStorage) -> Finding
+fn found_file(contents: FileStorage) -> FoundNode
     requires { IsInEntry contents }
     ensures { result ≡ record { fault = None; node = File (size_shown contents) } }
 {
-    Finding {
+    FoundNode {
         fault: None,
         node: Node::File {
             size: size_of(contents),
@@ -81,43 +81,43 @@ fn found_file(contents: FileStorage) -> Finding
 }
 
 // Makes the finding of no entry, where a parent may refuse the path.
-fn found_nothing(fault: Option<Refusal>) -> Finding
+fn found_nothing(fault: Option<Refusal>) -> FoundNode
     ensures { result ≡ record { fault = fault; node = Nothing } }
 {
-    Finding {
+    FoundNode {
         fault,
         node: Node::Nothing,
     }
 }
 
 // Makes the finding of a directory.
-fn found_directory() -> Finding
+fn found_directory() -> FoundNode
     ensures { result ≡ record { fault = None; node = Directory } }
 {
-    Finding {
+    FoundNode {
         fault: None,
         node: Node::Directory,
     }
 }
 
 // Returns the finding of what was shown: the parent's refusal, or the entry.
-pub(crate) fn finding_of(shown: Shown) -> Finding
+pub(crate) fn found_node_of(shown: Shown) -> FoundNode
     requires { IsInEntryIfFile shown }
-    ensures { result ≡ finding_of shown }
+    ensures { result ≡ found_node_of shown }
 {
     match shown {
         Shown::Root => found_directory(),
         Shown::Directory { .. } => found_directory(),
         Shown::File { contents, .. } => found_file(contents),
         Shown::Nothing => found_nothing(None),
-        Shown::ParentIsFile => found_nothing(Some(refused(Error::NotDir))),
-        Shown::ParentIsMissing => found_nothing(Some(refused(Error::NoEnt))),
+        Shown::ParentIsFile => found_nothing(Some(to_refusal(Error::NotDir))),
+        Shown::ParentIsMissing => found_nothing(Some(to_refusal(Error::NoEnt))),
     }
 }
 
 // Returns the number of the first pair of the directory that was shown.
 pub(crate) fn first_of(root: usize, shown: Shown) -> Option<usize>
-    ensures { result ≡ first_shown root shown }
+    ensures { result ≡ first_pair_shown root shown }
 {
     match shown {
         Shown::Root => Some(root),
@@ -138,20 +138,20 @@ pub fn find_at<D: BlockDevice>(
     thread: &mut Thread<D>,
     root: usize,
     path: &Path<'_>,
-) -> Result<Finding, Error>
+) -> Result<FoundNode, Error>
     requires works { thread.old.failed ≡ false }
     requires accepted { IsAccepted thread.old.kept.disk thread.old.kept.pairs }
     requires root { root ≡ superblocks_before thread.old.kept.pairs }
     ensures found { IfOk result (Finds (tree_in thread.old.kept.disk thread.old.kept.pairs) path.now) }
     ensures few { reads thread.new.kept.history ≤ reads thread.old.kept.history + sum_by (pairs_of_path thread.old.kept.pairs) (parents path.now) }
     ensures halves { gstate_of thread.old.kept.pairs ≡ no_gstate → ReadsByHalves thread.old thread.new (parents path.now) }
-    ensures loads { LoadsDown (λ found. found.fault ≡ None) (parents path.now) thread.old thread.new result }
+    ensures loads { LoadsDirectories (λ found. found.fault ≡ None) (parents path.now) thread.old thread.new result }
     ensures reading { IsReading thread.old thread.new result }
 {
     let shown = shown_at(alloc, thread, root, path)?;
     // By the sizes of its blocks a list has as many bytes as its entry says.
     let _device = thread.device();
-    Ok(finding_of(shown))
+    Ok(found_node_of(shown))
 }
 
 /// Looks up a path, and returns whether it leads to a directory that has entries. The call reads no
@@ -179,7 +179,7 @@ pub fn look_inside_at<D: BlockDevice>(
     // By the sizes of its blocks a list has as many bytes as its entry says.
     let _device = thread.device();
     Ok(Inside {
-        finding: finding_of(shown),
+        finding: found_node_of(shown),
         has_entries,
     })
 }

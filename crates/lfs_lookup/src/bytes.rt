@@ -28,7 +28,7 @@ use lfs_thread::Thread;
 use std::alloc::{AllocError, Global};
 
 // Returns the bytes from a position on, at most `count`.
-pub(crate) fn copied_from(
+pub(crate) fn copy_from(
     alloc: Global,
     bytes: &[u8],
     position: u32,
@@ -49,7 +49,7 @@ fn inline_in_log<'a>(log: &Log<'a>, id: u16) -> Option<&'a [u8]>
 }
 
 // Returns some of the inline bytes of a slot of a log.
-fn copied_in_log(
+fn copy_inline_in_log(
     alloc: Global,
     log: &Log<'_>,
     id: u16,
@@ -62,7 +62,7 @@ fn copied_in_log(
     let Some(bytes) = inline_in_log(log, id) else {
         return Ok(Vec::new(alloc));
     };
-    Ok(copied_from(alloc, bytes, position, count)?)
+    Ok(copy_from(alloc, bytes, position, count)?)
 }
 
 /// Returns the bytes from a position on, at most `count`, of a slot that has an inline struct. The
@@ -84,7 +84,7 @@ pub fn inline_at<D: BlockDevice>(
     ensures reading { IsReading thread.old thread.new result }
 {
     thread.load_pair(slot.pair)?;
-    copied_in_log(
+    copy_inline_in_log(
         alloc,
         &thread.lend(slot.pair).unwrap(),
         slot.id,

@@ -2,15 +2,15 @@
 
 ghost use Rattle.std.specs.Prelude.{◌≡◌, ◌<◌, ◌≤◌, ◌+◌, ◌∷◌, [], ℕ, Some, IfNone, IfOk, IfSome, drop, false, length, map};
 ghost use Rattle.lfs_model.specs.Slots.{address_of, same_pair};
-ghost use Rattle.lfs_model.specs.Thread.{gstate_of, visible};
+ghost use Rattle.lfs_model.specs.Thread.{gstate_of, entries_not_moved};
 ghost use Rattle.lfs_model.specs.History.{reads};
 ghost use Rattle.lfs_model.specs.InDirectory.{BeginsAt};
 ghost use Rattle.lfs_tag.specs.FieldsView.{move_view};
 ghost use Rattle.lfs_thread.specs.Steps.{pair_in};
-ghost use Rattle.lfs_lookup.specs.CachedPairs.{AreCached, LoadsAlong};
+ghost use Rattle.lfs_lookup.specs.CachedPairs.{AreCached, LoadsPairs};
 ghost use Rattle.lfs_lookup.specs.AtPath.{has_entries_from};
 ghost use Rattle.lfs_lookup.specs.Items.{items_view, shape_of};
-ghost use Rattle.lfs_lookup.specs.Listed.{AreEntries, joined_run, length_from, moved_in, run_from, shapes_from};
+ghost use Rattle.lfs_lookup.specs.Listed.{AreEntries, hard_tail_run, hard_tail_run_length, moved_in, hard_tail_run_from, shapes_from};
 ghost use Rattle.lfs_lookup.specs.Reading.{IsReading};
 
 use crate::items::{Item, items_in};
@@ -43,9 +43,9 @@ fn items_under<D: BlockDevice>(
     requires works { thread.old.failed ≡ false }
     requires below { index < length thread.old.kept.pairs }
     requires state { move_view state.now ≡ gstate_of thread.old.kept.pairs }
-    ensures items { IfOk result (λ items. items_view items.items ≡ map shape_of (visible (gstate_of thread.old.kept.pairs) (pair_in thread.old.kept index))) }
+    ensures items { IfOk result (λ items. items_view items.items ≡ map shape_of (entries_not_moved (gstate_of thread.old.kept.pairs) (pair_in thread.old.kept index))) }
     ensures few { reads thread.new.kept.history ≤ reads thread.old.kept.history + 1 }
-    ensures loads { LoadsAlong (pair_in thread.old.kept index ∷ []) thread.old thread.new result }
+    ensures loads { LoadsPairs (pair_in thread.old.kept index ∷ []) thread.old thread.new result }
     ensures reading { IsReading thread.old thread.new result }
 {
     thread.load_pair(index)?;
@@ -65,7 +65,7 @@ pub fn items_of<D: BlockDevice>(
 ) -> Result<Vec<Item>, Error>
     requires works { thread.old.failed ≡ false }
     requires below { index < length thread.old.kept.pairs }
-    ensures items { IfOk result (λ items. items_view items.items ≡ map shape_of (visible (gstate_of thread.old.kept.pairs) (pair_in thread.old.kept index))) }
+    ensures items { IfOk result (λ items. items_view items.items ≡ map shape_of (entries_not_moved (gstate_of thread.old.kept.pairs) (pair_in thread.old.kept index))) }
     ensures few { reads thread.new.kept.history ≤ reads thread.old.kept.history + 1 }
     ensures reading { IsReading thread.old thread.new result }
 {
@@ -88,8 +88,8 @@ pub fn entries_under<D: BlockDevice>(
     requires below { first < length thread.old.kept.pairs }
     requires state { move_view state.now ≡ gstate_of thread.old.kept.pairs }
     ensures items { IfOk result (λ items. items_view items.items ≡ shapes_from thread.old.kept.pairs (Some first)) }
-    ensures few { reads thread.new.kept.history ≤ reads thread.old.kept.history + length_from thread.old.kept.pairs (Some first) }
-    ensures kept { AreCached thread.old (joined_run (drop first thread.old.kept.pairs)) → reads thread.new.kept.history ≡ reads thread.old.kept.history }
+    ensures few { reads thread.new.kept.history ≤ reads thread.old.kept.history + hard_tail_run_length thread.old.kept.pairs (Some first) }
+    ensures kept { AreCached thread.old (hard_tail_run (drop first thread.old.kept.pairs)) → reads thread.new.kept.history ≡ reads thread.old.kept.history }
     ensures reading { IsReading thread.old thread.new result }
 {
     let mut items = Vec::new(alloc);
@@ -117,8 +117,8 @@ pub fn entries<D: BlockDevice>(
     requires below { first < length thread.old.kept.pairs }
     ensures items { IfOk result (λ items. items_view items.items ≡ shapes_from thread.old.kept.pairs (Some first)) }
     ensures entries { IfOk result (λ items. AreEntries thread.old.kept.disk thread.old.kept.pairs first (items_view items.items)) }
-    ensures few { reads thread.new.kept.history ≤ reads thread.old.kept.history + length_from thread.old.kept.pairs (Some first) }
-    ensures kept { AreCached thread.old (joined_run (drop first thread.old.kept.pairs)) → reads thread.new.kept.history ≡ reads thread.old.kept.history }
+    ensures few { reads thread.new.kept.history ≤ reads thread.old.kept.history + hard_tail_run_length thread.old.kept.pairs (Some first) }
+    ensures kept { AreCached thread.old (hard_tail_run (drop first thread.old.kept.pairs)) → reads thread.new.kept.history ≡ reads thread.old.kept.history }
     ensures reading { IsReading thread.old thread.new result }
 {
     let state = thread.state();
@@ -135,8 +135,8 @@ pub(crate) fn entries_from<D: BlockDevice>(
     requires works { thread.old.failed ≡ false }
     requires below { IfSome from (λ first. first < length thread.old.kept.pairs) }
     ensures items { IfOk result (λ items. items_view items.items ≡ shapes_from thread.old.kept.pairs from) }
-    ensures few { reads thread.new.kept.history ≤ reads thread.old.kept.history + length_from thread.old.kept.pairs from }
-    ensures kept { AreCached thread.old (run_from thread.old.kept.pairs from) → reads thread.new.kept.history ≡ reads thread.old.kept.history }
+    ensures few { reads thread.new.kept.history ≤ reads thread.old.kept.history + hard_tail_run_length thread.old.kept.pairs from }
+    ensures kept { AreCached thread.old (hard_tail_run_from thread.old.kept.pairs from) → reads thread.new.kept.history ≡ reads thread.old.kept.history }
     ensures reading { IsReading thread.old thread.new result }
 {
     match from {
@@ -154,7 +154,7 @@ pub(crate) fn has_entries<D: BlockDevice>(
     requires works { thread.old.failed ≡ false }
     requires below { IfSome from (λ first. first < length thread.old.kept.pairs) }
     ensures has { IfOk result (λ has. has ≡ has_entries_from thread.old.kept.pairs from) }
-    ensures few { reads thread.new.kept.history ≤ reads thread.old.kept.history + length_from thread.old.kept.pairs from }
+    ensures few { reads thread.new.kept.history ≤ reads thread.old.kept.history + hard_tail_run_length thread.old.kept.pairs from }
     ensures reading { IsReading thread.old thread.new result }
 {
     let mut pair = from;

@@ -18,10 +18,10 @@ ghost use Rattle.lfs_lookup.specs.Finds.{Finds};
 ghost use Rattle.lfs_lookup.specs.Halves.{ReadsByHalves};
 ghost use Rattle.lfs_lookup.specs.Reading.{IsReading};
 
-use crate::by_path::{finding_of, shown_at};
-use crate::bytes::{copied_from, file_of, inline_at, list_from};
+use crate::by_path::{found_node_of, shown_at};
+use crate::bytes::{copy_from, file_of, inline_at, list_from};
 use crate::entry::FileStorage;
-use crate::found_entries::Finding;
+use crate::found_entries::FoundNode;
 use crate::path::Path;
 use crate::search::Spot;
 use lfs_device::{BlockDevice, Error};
@@ -40,7 +40,7 @@ pub enum FileContents {
 /// The entry that a path leads to, and the contents of a file.
 #[derive(Drop)]
 pub struct FoundFile {
-    pub finding: Finding,
+    pub finding: FoundNode,
     /// None where no file is there.
     pub contents: Option<FileContents>,
 }
@@ -93,7 +93,7 @@ pub fn file_at<D: BlockDevice>(
     let shown = shown_at(alloc, thread, root, path)?;
     // By the sizes of its blocks a list has as many bytes as its entry says.
     let _device = thread.device();
-    let finding = finding_of(shown);
+    let finding = found_node_of(shown);
     let Some((slot, contents)) = file_of(shown) else {
         return Ok(FoundFile {
             finding,
@@ -127,7 +127,7 @@ pub fn bytes_of<D: BlockDevice>(
     ensures reading { IsReading thread.old thread.new result }
 {
     match contents {
-        FileContents::Inline(bytes) => Ok(copied_from(alloc, bytes, position, count)?),
+        FileContents::Inline(bytes) => Ok(copy_from(alloc, bytes, position, count)?),
         FileContents::List { head, size } => {
             list_from(alloc, thread, *head, *size, position, count)
         }

@@ -8,7 +8,7 @@ use crate::refusal::Refusal;
 
 /// The entry that a path leads to.
 #[derive(Drop)]
-pub struct Finding {
+pub struct FoundNode {
     /// The refusal where a component before the last isn't a directory: `NotDir`, or `NoEnt` where
     /// no entry is there.
     pub fault: Option<Refusal>,
@@ -58,14 +58,14 @@ impl Node {
 /// The entry that a path leads to, and whether it is a directory that has entries.
 #[derive(Drop)]
 pub struct Inside {
-    pub finding: Finding,
+    pub finding: FoundNode,
     pub has_entries: bool,
 }
 
 /// The entry that a path leads to, and an attribute of it.
 #[derive(Drop)]
 pub struct FoundAttribute {
-    pub finding: Finding,
+    pub finding: FoundNode,
     /// The attribute's bytes. None where the entry hasn't the attribute.
     pub bytes: Option<Vec<u8>>,
 }
@@ -73,7 +73,7 @@ pub struct FoundAttribute {
 /// The entry that a path leads to, and the entries in it.
 #[derive(Drop)]
 pub struct Listing {
-    pub finding: Finding,
+    pub finding: FoundNode,
     /// The entries in name order, the shorter names first. There are none where no directory is at
     /// the path.
     pub items: Vec<ListItem>,

@@ -8,7 +8,7 @@ ghost use Rattle.lfs_model.specs.LoggedContent.{HasParts, HaveParts, IsPart};
 ghost use Rattle.lfs_thread.specs.CachedLog.{IsBlockOf};
 ghost use Rattle.lfs_tag.specs.ContentView.{part_view, slot_view};
 ghost use Rattle.lfs_lookup.specs.ByName.{AreByName};
-ghost use Rattle.lfs_lookup.specs.Items.{item_view, items_view, listed, shapes_in, shown_among, shown_raw, structure_view, without};
+ghost use Rattle.lfs_lookup.specs.Items.{item_view, items_view, shape_list, shapes_in, shapes_among, shape_of_raw, structure_view, without_id};
 
 use lfs_device::Error;
 use lfs_tag::{Content, Log, Part, Slot, Struct};
@@ -54,7 +54,7 @@ pub fn structure_of(alloc: Global, part: &Part<'_>) -> Result<Structure, AllocEr
 // name or a struct.
 fn item_of(alloc: Global, slot: &Slot<'_>) -> Result<Option<Item>, AllocError>
     requires { HasParts (slot_view slot.now) }
-    ensures { IfOk result (λ item. option_map item_view item ≡ shown_raw (slot_view slot.now)) }
+    ensures { IfOk result (λ item. option_map item_view item ≡ shape_of_raw (slot_view slot.now)) }
 {
     let (Some(name), Some(part)) = (slot.name, slot.structure) else {
         return Ok(None);
@@ -70,7 +70,7 @@ fn item_of(alloc: Global, slot: &Slot<'_>) -> Result<Option<Item>, AllocError>
 // Adds the entry of a slot.
 fn push_entry(alloc: Global, items: &mut Vec<Item>, slot: &Slot<'_>) -> Result<(), AllocError>
     requires { HasParts (slot_view slot.now) }
-    ensures { OnOk result (items_view items.new.items ≡ items_view items.old.items ++ listed (shown_raw (slot_view slot.now))) }
+    ensures { OnOk result (items_view items.new.items ≡ items_view items.old.items ++ shape_list (shape_of_raw (slot_view slot.now))) }
 {
     if let Some(item) = item_of(alloc, slot)? {
         items.push(item)?;
@@ -81,7 +81,7 @@ fn push_entry(alloc: Global, items: &mut Vec<Item>, slot: &Slot<'_>) -> Result<(
 // Returns the entries of slots.
 fn items_among(alloc: Global, slots: &[Slot<'_>]) -> Result<Vec<Item>, AllocError>
     requires { HaveParts (map slot_view slots.now) }
-    ensures { IfOk result (λ items. items_view items.items ≡ shown_among (map slot_view slots.now)) }
+    ensures { IfOk result (λ items. items_view items.items ≡ shapes_among (map slot_view slots.now)) }
 {
     let mut items = Vec::new(alloc);
     for slot in slots {
@@ -92,7 +92,7 @@ fn items_among(alloc: Global, slots: &[Slot<'_>]) -> Result<Vec<Item>, AllocErro
 
 // Removes the slot of an id, if there is one.
 fn remove_moved_slot(slots: &mut Vec<Slot<'_>>, moved: Option<usize>)
-    ensures { map slot_view slots.new.items ≡ without moved (map slot_view slots.old.items) }
+    ensures { map slot_view slots.new.items ≡ without_id moved (map slot_view slots.old.items) }
 {
     if let Some(id) = moved {
         if id < slots.len() {

@@ -10,10 +10,10 @@ ghost use Rattle.lfs_model.specs.Shown.{tree_in};
 ghost use Rattle.lfs_lookup.specs.CachedPairs.{AreCachedBeneath};
 ghost use Rattle.lfs_lookup.specs.Finds.{Finds, list_item_view};
 ghost use Rattle.lfs_lookup.specs.Items.{item_view, items_view, structure_view};
-ghost use Rattle.lfs_lookup.specs.ListAt.{AreShort, IsShort, IsShortEntry, item_listed, size_listed};
+ghost use Rattle.lfs_lookup.specs.ListAt.{AreShortEntries, FitsInline, IsShortEntry, item_listed, size_listed};
 ghost use Rattle.lfs_lookup.specs.Reading.{IsReading};
 
-use crate::by_path::{finding_of, first_of, shown_at};
+use crate::by_path::{first_of, found_node_of, shown_at};
 use crate::directory::entries_from;
 use crate::found_entries::Listing;
 use crate::items::{Item, Structure, sort_by_name};
@@ -26,7 +26,7 @@ use std::alloc::{AllocError, Global};
 
 // Returns how many bytes a file has. Returns None for a directory.
 fn listed_size(structure: &Structure) -> Option<u32>
-    requires { IsShort (structure_view structure.now) }
+    requires { FitsInline (structure_view structure.now) }
     ensures { result ≡ size_listed (structure_view structure.now) }
 {
     match structure {
@@ -54,7 +54,7 @@ fn listed_item(item: Item) -> ListItem
 
 // Returns entries by name, kind and size.
 fn listed_items(alloc: Global, items: Vec<Item>) -> Result<Vec<ListItem>, AllocError>
-    requires { AreShort (items_view items.items) }
+    requires { AreShortEntries (items_view items.items) }
     ensures { IfOk result (λ listed. map list_item_view listed.items ≡ map item_listed (items_view items.items)) }
 {
     let mut listed = Vec::new(alloc);
@@ -95,7 +95,7 @@ pub fn list_at<D: BlockDevice>(
     let _device = thread.device();
     let listed = listed_items(alloc, items)?;
     Ok(Listing {
-        finding: finding_of(shown),
+        finding: found_node_of(shown),
         items: listed,
     })
 }

@@ -6,7 +6,7 @@ ghost use Rattle.lfs_model.specs.TreeEdits.{last_name};
 ghost use Rattle.lfs_model.specs.Names.{is_component, slash};
 ghost use Rattle.lfs_model.specs.Operations.{path_of};
 ghost use Rattle.lfs_model.specs.Refusals.{as_path, is_root};
-ghost use Rattle.lfs_lookup.specs.NameLengths.{behind_slash};
+ghost use Rattle.lfs_lookup.specs.NameLengths.{length_after_slash};
 
 use lfs_tag::is_component;
 use std::alloc::{AllocError, Global};
@@ -38,8 +38,8 @@ fn parts_of<'a>(alloc: Global, bytes: &'a [u8]) -> Result<Vec<&'a [u8]>, AllocEr
 }
 
 // Returns how many bytes come after the last slash.
-fn len_behind_slash(bytes: &[u8]) -> usize
-    ensures len { result ≡ behind_slash 0 bytes.now }
+fn len_after_slash(bytes: &[u8]) -> usize
+    ensures len { result ≡ length_after_slash 0 bytes.now }
     ensures bound { result ≤ length bytes.now }
 {
     let mut len = 0;
@@ -119,6 +119,6 @@ impl<'a> Path<'a> {
         ensures len { result ≡ length (last_name self.now) }
         ensures bound { result < 2 ^ 63 }
     {
-        len_behind_slash(self.bytes)
+        len_after_slash(self.bytes)
     }
 }

@@ -10,14 +10,14 @@ ghost use Rattle.lfs_model.specs.Tree.{Path};
 ghost use Rattle.lfs_model.specs.View.{IsAccepted};
 ghost use Rattle.lfs_thread.specs.Steps.{HasReported, IsOnlyRead};
 ghost use Rattle.lfs_tag.specs.FieldsView.{move_view};
-ghost use Rattle.lfs_lookup.specs.CachedPairs.{LoadsAlong, LoadsDown};
-ghost use Rattle.lfs_lookup.specs.AtPath.{IsThrough};
+ghost use Rattle.lfs_lookup.specs.CachedPairs.{LoadsPairs, LoadsDirectories};
+ghost use Rattle.lfs_lookup.specs.AtPath.{PassesParents};
 ghost use Rattle.lfs_lookup.specs.AttributeAt.{IsPairCached};
 ghost use Rattle.lfs_lookup.specs.Halves.{ReadsByHalves, ReadsByHalvesFrom};
-ghost use Rattle.lfs_lookup.specs.Listed.{joined_run};
+ghost use Rattle.lfs_lookup.specs.Listed.{hard_tail_run};
 ghost use Rattle.lfs_lookup.specs.Reading.{IsReading};
 ghost use Rattle.lfs_lookup.specs.Search.{HidesFrom};
-ghost use Rattle.lfs_lookup.specs.Paths.{BeginsOnPath, Descends, Enters, IsHiding, HasNothingSet, IsShownAt, IsThere, LeadsTo, ShowsTo, fault_of};
+ghost use Rattle.lfs_lookup.specs.Paths.{BeginsOnPath, Descends, Enters, HidesOnly, HasNothingToRecover, IsShownAt, IsEntryOfName, LeadsTo, ShowsTo, fault_of};
 
 use crate::entry::{Entry, FileStorage};
 use crate::search::{Sought, Spot, find_name, find_shown};
@@ -110,12 +110,12 @@ fn enter<D: BlockDevice>(
     moved: Option<Spot>,
 ) -> Result<Parent, Error>
     requires works { thread.old.failed ≡ false }
-    requires hiding { IsHiding thread.old.kept moved }
+    requires hiding { HidesOnly thread.old.kept moved }
     requires reached { (path : Path) × BeginsOnPath thread.old.kept.pairs path first }
     ensures answer { IfOk result (λ parent. (path : Path) → BeginsOnPath thread.old.kept.pairs path first → Enters thread.old.kept (path ++ name.now ∷ []) parent) }
     ensures few { reads thread.new.kept.history ≤ reads thread.old.kept.history + run_length (drop first thread.old.kept.pairs) }
     ensures halves { moved ≡ None → ReadsByHalvesFrom thread.old thread.new first }
-    ensures loads { LoadsAlong (joined_run (drop first thread.old.kept.pairs)) thread.old thread.new result }
+    ensures loads { LoadsPairs (hard_tail_run (drop first thread.old.kept.pairs)) thread.old thread.new result }
     ensures reading { IsReading thread.old thread.new result }
 {
     match find_shown(alloc, thread, first, name, moved)? {
@@ -141,12 +141,12 @@ pub(crate) fn find_directory<D: BlockDevice>(
     moved: Option<Spot>,
 ) -> Result<Parent, Error>
     requires works { thread.old.failed ≡ false }
-    requires hiding { IsHiding thread.old.kept moved }
+    requires hiding { HidesOnly thread.old.kept moved }
     requires root { BeginsOnPath thread.old.kept.pairs [] root }
     ensures answer { IfOk result (Descends thread.old.kept (map (λ name. name.now) path.now)) }
     ensures few { reads thread.new.kept.history ≤ reads thread.old.kept.history + sum_by (pairs_of_path thread.old.kept.pairs) (parents (map (λ name. name.now) path.now)) }
     ensures halves { moved ≡ None → ReadsByHalves thread.old thread.new (parents (map (λ name. name.now) path.now)) }
-    ensures loads { LoadsDown (λ parent. fault_of parent ≡ None) (parents (map (λ name. name.now) path.now)) thread.old thread.new result }
+    ensures loads { LoadsDirectories (λ parent. fault_of parent ≡ None) (parents (map (λ name. name.now) path.now)) thread.old thread.new result }
     ensures reading { IsReading thread.old thread.new result }
 {
     let mut first = root;
@@ -168,9 +168,9 @@ fn look_in<D: BlockDevice>(
     name: &[u8],
 ) -> Result<Found, Error>
     requires works { thread.old.failed ≡ false }
-    requires settled { HasNothingSet thread.old.kept }
+    requires settled { HasNothingToRecover thread.old.kept }
     requires reached { (above : Path) × BeginsOnPath thread.old.kept.pairs above parent }
-    ensures answer { IfOk result (λ found. (above : Path) → BeginsOnPath thread.old.kept.pairs above parent → IsThere thread.old.kept.disk.order thread.old.kept.pairs above name.now found) }
+    ensures answer { IfOk result (λ found. (above : Path) → BeginsOnPath thread.old.kept.pairs above parent → IsEntryOfName thread.old.kept.disk.order thread.old.kept.pairs above name.now found) }
     ensures few { reads thread.new.kept.history ≤ reads thread.old.kept.history + run_length (drop parent thread.old.kept.pairs) }
     ensures halves { ReadsByHalvesFrom thread.old thread.new parent }
     ensures only { IsOnlyRead thread.old.kept thread.new.kept }
@@ -208,7 +208,7 @@ pub fn look_up<D: BlockDevice>(
     path: &[&[u8]],
 ) -> Result<Found, Error>
     requires works { thread.old.failed ≡ false }
-    requires settled { HasNothingSet thread.old.kept }
+    requires settled { HasNothingToRecover thread.old.kept }
     requires root { BeginsOnPath thread.old.kept.pairs [] root }
     ensures answer { IfOk result (LeadsTo thread.old.kept (map (λ name. name.now) path.now)) }
     ensures few { reads thread.new.kept.history ≤ reads thread.old.kept.history + sum_by (pairs_of_path thread.old.kept.pairs) (parents (map (λ name. name.now) path.now)) }
@@ -236,13 +236,13 @@ fn show_in<D: BlockDevice>(
     moved: Option<Spot>,
 ) -> Result<Shown, Error>
     requires works { thread.old.failed ≡ false }
-    requires hiding { IsHiding thread.old.kept moved }
+    requires hiding { HidesOnly thread.old.kept moved }
     requires reached { (above : Path) × BeginsOnPath thread.old.kept.pairs above parent }
     ensures answer { IfOk result (λ shown. (above : Path) → BeginsOnPath thread.old.kept.pairs above parent → IsShownAt thread.old.kept.pairs moved (above ++ name.now ∷ []) shown) }
     ensures cached_log { IfOk result (IsPairCached thread.new) }
     ensures few { reads thread.new.kept.history ≤ reads thread.old.kept.history + run_length (drop parent thread.old.kept.pairs) }
     ensures halves { moved ≡ None → ReadsByHalvesFrom thread.old thread.new parent }
-    ensures loads { LoadsAlong (joined_run (drop parent thread.old.kept.pairs)) thread.old thread.new result }
+    ensures loads { LoadsPairs (hard_tail_run (drop parent thread.old.kept.pairs)) thread.old thread.new result }
     ensures reading { IsReading thread.old thread.new result }
 {
     match find_shown(alloc, thread, parent, name, moved)? {
@@ -268,13 +268,13 @@ pub(crate) fn look_up_shown<D: BlockDevice>(
     moved: Option<Spot>,
 ) -> Result<Shown, Error>
     requires works { thread.old.failed ≡ false }
-    requires hiding { IsHiding thread.old.kept moved }
+    requires hiding { HidesOnly thread.old.kept moved }
     requires root { BeginsOnPath thread.old.kept.pairs [] root }
     ensures answer { IfOk result (ShowsTo thread.old.kept moved (map (λ name. name.now) path.now)) }
     ensures cached_log { IfOk result (IsPairCached thread.new) }
     ensures few { reads thread.new.kept.history ≤ reads thread.old.kept.history + sum_by (pairs_of_path thread.old.kept.pairs) (parents (map (λ name. name.now) path.now)) }
     ensures halves { moved ≡ None → ReadsByHalves thread.old thread.new (parents (map (λ name. name.now) path.now)) }
-    ensures loads { LoadsDown IsThrough (parents (map (λ name. name.now) path.now)) thread.old thread.new result }
+    ensures loads { LoadsDirectories PassesParents (parents (map (λ name. name.now) path.now)) thread.old thread.new result }
     ensures reading { IsReading thread.old thread.new result }
 {
     let Some((name, above)) = path.split_last() else {

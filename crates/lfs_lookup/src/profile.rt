@@ -11,7 +11,7 @@ ghost use Rattle.lfs_model.specs.View.{IsAccepted};
 ghost use Rattle.lfs_tag.specs.ContentView.{attribute_view, slot_view};
 ghost use Rattle.lfs_thread.specs.CachedLog.{IsBlockOf};
 ghost use Rattle.lfs_thread.specs.Steps.{pair_in};
-ghost use Rattle.lfs_lookup.specs.Profile.{IsPairWritable, IsShaped, follows_at};
+ghost use Rattle.lfs_lookup.specs.Profile.{IsPairWritable, HasSuperblockStruct, follows_at};
 ghost use Rattle.lfs_lookup.specs.Reading.{IsReading};
 
 use lfs_device::{BlockDevice, Error, Geometry};
@@ -56,8 +56,8 @@ fn has_written_limits(structure: &Part<'_>) -> bool
 
 // Returns whether a slot is within the writing profile.
 fn fits_slot(geometry: &Geometry, slot: &Slot<'_>) -> bool
-    requires { (s : ModelSlot) × ((complete (slot_view slot.now) ≡ Some s) × IsShaped s) }
-    ensures { (s : ModelSlot) → complete (slot_view slot.now) ≡ Some s → IsShaped s → IsTrue result ↔ FitsSlot geometry.now.block_size geometry.now.page s }
+    requires { (s : ModelSlot) × ((complete (slot_view slot.now) ≡ Some s) × HasSuperblockStruct s) }
+    ensures { (s : ModelSlot) → complete (slot_view slot.now) ≡ Some s → HasSuperblockStruct s → IsTrue result ↔ FitsSlot geometry.now.block_size geometry.now.page s }
 {
     let (Some(name), Some(structure)) = (slot.name, slot.structure) else {
         return false;
@@ -70,8 +70,8 @@ fn fits_slot(geometry: &Geometry, slot: &Slot<'_>) -> bool
 
 // Returns whether all slots are within the writing profile.
 fn fit_all(geometry: &Geometry, slots: &[Slot<'_>]) -> bool
-    requires { (all : List ModelSlot) × ((complete_all (map slot_view slots.now) ≡ Some all) × All IsShaped all) }
-    ensures { (all : List ModelSlot) → complete_all (map slot_view slots.now) ≡ Some all → All IsShaped all → IsTrue result ↔ All (FitsSlot geometry.now.block_size geometry.now.page) all }
+    requires { (all : List ModelSlot) × ((complete_all (map slot_view slots.now) ≡ Some all) × All HasSuperblockStruct all) }
+    ensures { (all : List ModelSlot) → complete_all (map slot_view slots.now) ≡ Some all → All HasSuperblockStruct all → IsTrue result ↔ All (FitsSlot geometry.now.block_size geometry.now.page) all }
 {
     for slot in slots {
         if !fits_slot(geometry, slot) {
@@ -82,7 +82,7 @@ fn fit_all(geometry: &Geometry, slots: &[Slot<'_>]) -> bool
 }
 
 // Returns whether a pair has a slot, if a hard tail names it.
-fn is_filled(follows: bool, slots: &[Slot<'_>]) -> bool
+fn has_needed_slot(follows: bool, slots: &[Slot<'_>]) -> bool
     ensures { IsTrue result ↔ (follows ≡ true → ¬ (length slots.now ≡ 0)) }
 {
     !follows || !slots.is_empty()
@@ -96,12 +96,12 @@ fn fits_in_log(
     log: &Log<'_>,
     follows: bool,
 ) -> Result<bool, Error>
-    requires { (content : ModelContent) × (IsBlockOf log.now content × All IsShaped content.slots) }
-    ensures is { (content : ModelContent) → IsBlockOf log.now content → All IsShaped content.slots → IfOk result (λ b. IsTrue b ↔ IsPairWritable geometry.now.block_size geometry.now.page follows content) }
+    requires { (content : ModelContent) × (IsBlockOf log.now content × All HasSuperblockStruct content.slots) }
+    ensures is { (content : ModelContent) → IsBlockOf log.now content → All HasSuperblockStruct content.slots → IfOk result (λ b. IsTrue b ↔ IsPairWritable geometry.now.block_size geometry.now.page follows content) }
     ensures errors { IfErr result (λ e. e ≡ Error.NoMemory) }
 {
     let content = Content::read(alloc, log)?;
-    if !is_filled(follows, &content.slots) {
+    if !has_needed_slot(follows, &content.slots) {
         return Ok(false);
     }
     if !fits(&content, *geometry) {
@@ -121,7 +121,7 @@ fn fits_at<D: BlockDevice>(
 ) -> Result<bool, Error>
     requires works { thread.old.failed ≡ false }
     requires below { index < length thread.old.kept.pairs }
-    requires shaped { All IsShaped (pair_in thread.old.kept index).content.slots }
+    requires shaped { All HasSuperblockStruct (pair_in thread.old.kept index).content.slots }
     ensures is { IfOk result (λ b. IsTrue b ↔ IsPairWritable geometry.now.block_size geometry.now.page follows (pair_in thread.old.kept index).content) }
     ensures reading { IsReading thread.old thread.new result }
 {

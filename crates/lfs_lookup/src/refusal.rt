@@ -41,7 +41,7 @@ impl Refusal {
 }
 
 /// Returns the refusal that an error is.
-pub fn refused(error: Error) -> Refusal
+pub fn to_refusal(error: Error) -> Refusal
     requires { is_refusal error ≡ true }
     ensures { result ≡ refusal_in error }
 {

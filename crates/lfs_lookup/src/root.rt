@@ -8,7 +8,7 @@ ghost use Rattle.lfs_model.specs.View.{IsAccepted};
 ghost use Rattle.lfs_thread.specs.CachedLog.{IsBlockOf};
 ghost use Rattle.lfs_thread.specs.Steps.{pair_in};
 ghost use Rattle.lfs_lookup.specs.Reading.{IsReading};
-ghost use Rattle.lfs_lookup.specs.Root.{IsInChain, IsNext, next_in_chain};
+ghost use Rattle.lfs_lookup.specs.Root.{IsInChain, IsNextInChain, next_in_chain};
 
 use lfs_device::{BlockDevice, Error};
 use lfs_tag::{Content, Log};
@@ -81,7 +81,7 @@ fn next_superblock<D: BlockDevice>(
 ) -> Result<Option<usize>, Error>
     requires works { thread.old.failed ≡ false }
     requires chained { IsInChain thread.old.kept superblock }
-    ensures next { IfOk result (λ next. IsNext thread.old.kept superblock next) }
+    ensures next { IfOk result (λ next. IsNextInChain thread.old.kept superblock next) }
     ensures few { reads thread.new.kept.history ≤ reads thread.old.kept.history + 1 }
     ensures reading { IsReading thread.old thread.new result }
 {

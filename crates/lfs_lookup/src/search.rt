@@ -6,11 +6,11 @@ ghost use Rattle.lfs_model.specs.InDirectory.{HaveNoSuperblock, run_length};
 ghost use Rattle.lfs_model.specs.Slots.{Content};
 ghost use Rattle.lfs_thread.specs.CachedLog.{IsBlockOf, cached_log};
 ghost use Rattle.lfs_thread.specs.Steps.{HasReported, IsOnlyRead, pair_in};
-ghost use Rattle.lfs_lookup.specs.CachedPairs.{LoadsAlong};
-ghost use Rattle.lfs_lookup.specs.Listed.{joined_run};
+ghost use Rattle.lfs_lookup.specs.CachedPairs.{LoadsPairs};
+ghost use Rattle.lfs_lookup.specs.Listed.{hard_tail_run};
 ghost use Rattle.lfs_lookup.specs.Reading.{IsReading};
 ghost use Rattle.lfs_lookup.specs.Halves.{EndsSoft, ReadsByHalvesFrom};
-ghost use Rattle.lfs_lookup.specs.Search.{SearchFinds, AnswersIn, AnswersShown, HoldsContent, IsInOrder, IsSoughtCached, passed_in};
+ghost use Rattle.lfs_lookup.specs.Search.{SearchFinds, SearchFindsInPair, SearchShows, HoldsContent, IsInOrder, IsSoughtCached, skipped_id_in};
 
 use crate::entry::{Entry, entry_of};
 use lfs_device::{BlockDevice, Error, NameOrder};
@@ -50,7 +50,7 @@ fn find_in_log(
     skip: Option<u16>,
 ) -> Result<SoughtInPair, AllocError>
     requires { HoldsContent log.now }
-    ensures { (content : Content) → IsBlockOf log.now content → IfOk result (AnswersIn order skip content.slots name.now) }
+    ensures { (content : Content) → IsBlockOf log.now content → IfOk result (SearchFindsInPair order skip content.slots name.now) }
 {
     let found = find(alloc, log, order, name, skip)?;
     match found {
@@ -72,10 +72,10 @@ fn find_in_pair<D: BlockDevice>(
 ) -> Result<SoughtInPair, Error>
     requires works { thread.old.failed ≡ false }
     requires below { pair < length thread.old.kept.pairs }
-    ensures answer { IfOk result (AnswersIn thread.old.kept.disk.order skip (pair_in thread.old.kept pair).content.slots name.now) }
+    ensures answer { IfOk result (SearchFindsInPair thread.old.kept.disk.order skip (pair_in thread.old.kept pair).content.slots name.now) }
     ensures cached_log { OnOk result (IsSome (cached_log thread.new pair)) }
     ensures few { reads thread.new.kept.history ≤ reads thread.old.kept.history + 1 }
-    ensures loads { LoadsAlong (pair_in thread.old.kept pair ∷ []) thread.old thread.new result }
+    ensures loads { LoadsPairs (pair_in thread.old.kept pair ∷ []) thread.old thread.new result }
     ensures reading { IsReading thread.old thread.new result }
 {
     thread.load_pair(pair)?;
@@ -93,7 +93,7 @@ fn end_of<D: BlockDevice>(thread: &Thread<D>, first: usize) -> usize
     requires below { first < length thread.now.kept.pairs }
     ensures count { result ≡ first + run_length (drop first thread.now.kept.pairs) }
     ensures within { result ≤ length thread.now.kept.pairs }
-    ensures soft { EndsSoft (joined_run (drop first thread.now.kept.pairs)) }
+    ensures soft { EndsSoft (hard_tail_run (drop first thread.now.kept.pairs)) }
 {
     let count = thread.len();
     let mut pair = first;
@@ -142,7 +142,7 @@ pub(crate) fn find_name<D: BlockDevice>(
     ensures cached_log { IfOk result (IsSoughtCached thread.new) }
     ensures few { reads thread.new.kept.history ≤ reads thread.old.kept.history + run_length (drop first thread.old.kept.pairs) }
     ensures halves { ReadsByHalvesFrom thread.old thread.new first }
-    ensures loads { LoadsAlong (joined_run (drop first thread.old.kept.pairs)) thread.old thread.new result }
+    ensures loads { LoadsPairs (hard_tail_run (drop first thread.old.kept.pairs)) thread.old thread.new result }
     ensures reading { IsReading thread.old thread.new result }
 {
     let mut low = first;
@@ -186,15 +186,15 @@ fn find_along<D: BlockDevice>(
 ) -> Result<Option<(Spot, Entry)>, Error>
     requires works { thread.old.failed ≡ false }
     requires below { first < length thread.old.kept.pairs }
-    ensures answer { IfOk result (AnswersShown thread.old.kept.pairs moved first name.now) }
+    ensures answer { IfOk result (SearchShows thread.old.kept.pairs moved first name.now) }
     ensures cached_log { IfOk result (λ found. IfSome found (λ f. IsSome (cached_log thread.new f.0.pair))) }
     ensures few { reads thread.new.kept.history ≤ reads thread.old.kept.history + run_length (drop first thread.old.kept.pairs) }
-    ensures loads { LoadsAlong (joined_run (drop first thread.old.kept.pairs)) thread.old thread.new result }
+    ensures loads { LoadsPairs (hard_tail_run (drop first thread.old.kept.pairs)) thread.old thread.new result }
     ensures reading { IsReading thread.old thread.new result }
 {
     let mut pair = first;
     loop {
-        let skip = passed_in(moved, pair);
+        let skip = skipped_id_in(moved, pair);
         match find_in_pair(alloc, thread, pair, name, skip)? {
             SoughtInPair::Found(id, entry) => return Ok(Some((Spot { pair, id }, entry))),
             SoughtInPair::Place(_) => {}
@@ -227,11 +227,11 @@ pub fn find_shown<D: BlockDevice>(
     requires works { thread.old.failed ≡ false }
     requires below { first < length thread.old.kept.pairs }
     requires in_order { moved ≡ None → IsInOrder thread.old.kept.disk.order thread.old.kept.pairs first }
-    ensures answer { IfOk result (AnswersShown thread.old.kept.pairs moved first name.now) }
+    ensures answer { IfOk result (SearchShows thread.old.kept.pairs moved first name.now) }
     ensures cached_log { IfOk result (λ found. IfSome found (λ f. IsSome (cached_log thread.new f.0.pair))) }
     ensures few { reads thread.new.kept.history ≤ reads thread.old.kept.history + run_length (drop first thread.old.kept.pairs) }
     ensures halves { moved ≡ None → ReadsByHalvesFrom thread.old thread.new first }
-    ensures loads { LoadsAlong (joined_run (drop first thread.old.kept.pairs)) thread.old thread.new result }
+    ensures loads { LoadsPairs (hard_tail_run (drop first thread.old.kept.pairs)) thread.old thread.new result }
     ensures reading { IsReading thread.old thread.new result }
 {
     match moved {
@@ -244,8 +244,8 @@ pub fn find_shown<D: BlockDevice>(
 }
 
 // Returns the id that is passed over in a pair.
-fn passed_in(moved: Option<Spot>, pair: usize) -> Option<u16>
-    ensures { result ≡ passed_in moved pair }
+fn skipped_id_in(moved: Option<Spot>, pair: usize) -> Option<u16>
+    ensures { result ≡ skipped_id_in moved pair }
 {
     match moved {
         Some(spot) if spot.pair == pair => Some(spot.id),

@@ -6,7 +6,7 @@ ghost use Rattle.lfs_model.specs.View.{IsAccepted};
 ghost use Rattle.lfs_tag.specs.FieldsView.{move_view};
 ghost use Rattle.lfs_lookup.specs.Items.{item_view, items_view, structure_view};
 ghost use Rattle.lfs_lookup.specs.Reading.{IsReading};
-ghost use Rattle.lfs_lookup.specs.Walk.{ArePushed, ArePushedFrom, BeginsIfBranch, IsWalked, addresses_in, beneath, found_view, founds_view, places_beneath};
+ghost use Rattle.lfs_lookup.specs.Walk.{ArePushed, ArePushedFrom, BeginsIfBranch, IsWalked, addresses_in, place_beneath, tree_item_view, tree_items_view, places_beneath};
 
 use crate::addresses::addresses_of;
 use crate::directory::entries_under;
@@ -27,7 +27,7 @@ pub struct TreeItem {
 
 // Returns the tree's entry of an item in the directory at a path.
 fn found_beneath(alloc: Global, path: &[u8], item: Item) -> Result<TreeItem, AllocError>
-    ensures { IfOk result (λ found. found_view found ≡ beneath path.now (item_view item)) }
+    ensures { IfOk result (λ found. tree_item_view found ≡ place_beneath path.now (item_view item)) }
 {
     let mut below = Vec::from_slice(alloc, path)?;
     below.push(b'/')?;
@@ -45,7 +45,7 @@ fn push_items(
     path: &[u8],
     mut items: Vec<Item>,
 ) -> Result<(), AllocError>
-    ensures { OnOk result (founds_view pending.new.items ≡ founds_view pending.old.items ++ reverse (places_beneath path.now (items_view items.items))) }
+    ensures { OnOk result (tree_items_view pending.new.items ≡ tree_items_view pending.old.items ++ reverse (places_beneath path.now (items_view items.items))) }
 {
     while let Some(item) = items.pop() {
         let found = found_beneath(alloc, path, item)?;
@@ -67,7 +67,7 @@ fn push_directory<D: BlockDevice>(
     requires works { thread.old.failed ≡ false }
     requires below { first < length thread.old.kept.pairs }
     requires state { move_view state.now ≡ gstate_of thread.old.kept.pairs }
-    ensures pushed { OnOk result (ArePushedFrom thread.old.kept.pairs path.now first (founds_view pending.old.items) (founds_view pending.new.items)) }
+    ensures pushed { OnOk result (ArePushedFrom thread.old.kept.pairs path.now first (tree_items_view pending.old.items) (tree_items_view pending.new.items)) }
     ensures reading { IsReading thread.old thread.new result }
 {
     let mut items = entries_under(alloc, thread, state, first)?;
@@ -89,7 +89,7 @@ fn push_below<D: BlockDevice>(
     requires all { addresses.now ≡ addresses_in thread.old.kept.pairs }
     requires begins { BeginsIfBranch thread.old.kept.pairs (structure_view found.now.structure) }
     requires state { move_view state.now ≡ gstate_of thread.old.kept.pairs }
-    ensures pushed { OnOk result (ArePushed thread.old.kept.pairs (found_view found.now) (founds_view pending.old.items) (founds_view pending.new.items)) }
+    ensures pushed { OnOk result (ArePushed thread.old.kept.pairs (tree_item_view found.now) (tree_items_view pending.old.items) (tree_items_view pending.new.items)) }
     ensures reading { IsReading thread.old thread.new result }
 {
     if let Structure::Branch(to) = found.structure {
@@ -107,7 +107,7 @@ fn push_below<D: BlockDevice>(
 pub fn walk<D: BlockDevice>(alloc: Global, thread: &mut Thread<D>) -> Result<Vec<TreeItem>, Error>
     requires works { thread.old.failed ≡ false }
     requires accepted { IsAccepted thread.old.kept.disk thread.old.kept.pairs }
-    ensures walked { IfOk result (λ found. IsWalked thread.old.kept.disk thread.old.kept.pairs (founds_view found.items)) }
+    ensures walked { IfOk result (λ found. IsWalked thread.old.kept.disk thread.old.kept.pairs (tree_items_view found.items)) }
     ensures reading { IsReading thread.old thread.new result }
 {
     let state = thread.state();

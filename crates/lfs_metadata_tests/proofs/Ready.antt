@@ -7,8 +7,8 @@ use Rattle.lfs_model.specs.Changes.{Change, changed_by}
 use Rattle.lfs_model.specs.LoggedContent.{HaveNames}
 use Rattle.lfs_model.specs.WrittenContent.{raw_size}
 use Rattle.lfs_pair.specs.declared.pair.Pair.{Pair}
-use Rattle.lfs_pair.specs.Commit.{IsAddressOn, NowHolds}
-use Rattle.lfs_pair.specs.Cut.{IsCut}
+use Rattle.lfs_pair.specs.Commit.{IsAddressOn, PairHolds}
+use Rattle.lfs_pair.specs.Cut.{IsCutOfSlots}
 use Rattle.lfs_pair.specs.Fresh.{CanBeFresh}
 use Rattle.lfs_pair.specs.Split.{AreApart, CanSplit}
 
@@ -30,8 +30,8 @@ fresh_ready disk c changes is made names small few =
       fits = record { size = omega (arith, small, size, page); count = few };
     }
 
-pub split_ready : (disk : Disk) (history : List Event) (pair : Pair) (held full more : RawContent) (changes : List Change) (cut : ℕ) → IsSmall disk → NowHolds disk history (0, 1) pair held → full ≡ held
-    → changed_by full changes ≡ Some more → HaveNames more.slots → IsCut 1024 8 more.slots cut → CanSplit disk history pair (2, 3) changes
+pub split_ready : (disk : Disk) (history : List Event) (pair : Pair) (held full more : RawContent) (changes : List Change) (cut : ℕ) → IsSmall disk → PairHolds disk history (0, 1) pair held → full ≡ held
+    → changed_by full changes ≡ Some more → HaveNames more.slots → IsCutOfSlots 1024 8 more.slots cut → CanSplit disk history pair (2, 3) changes
 split_ready disk history pair held full more changes cut is holds same made names is_cut =
     let count = is.count in
     let at = sym holds.same in
@@ -46,5 +46,5 @@ split_ready disk history pair held full more changes cut is holds same made name
       };
       fresh_is = record { apart = λ e. absurd (omega (arith, e)); first = omega (arith, count); second = omega (arith, count) };
       apart = subst (λ a. AreApart a (2, 3)) at (record { first_first = λ e. absurd (omega (arith, e)); first_second = λ e. absurd (omega (arith, e)); second_first = λ e. absurd (omega (arith, e)); second_second = λ e. absurd (omega (arith, e)) });
-      cut = record { cut = cut; is_cut = subst (λ s. IsCut s disk.page more.slots cut) (sym is.size) (subst (λ p. IsCut 1024 p more.slots cut) (sym is.page) is_cut) };
+      cut = record { cut = cut; is_cut = subst (λ s. IsCutOfSlots s disk.page more.slots cut) (sym is.size) (subst (λ p. IsCutOfSlots 1024 p more.slots cut) (sym is.page) is_cut) };
     }

@@ -1,6 +1,6 @@
 // The length and the type that a checksum is told to have, in a block's bytes.
 
-use crate::mounts::used;
+use crate::mounts::used_after_mount;
 use lfs_device::Error;
 use std::test::Fail;
 
@@ -35,7 +35,7 @@ fn checksums_have_a_length(rt: HostRuntime) -> Result<(), Fail> {
         let mut block = Vec::from_slice(rt.alloc(), &HEAD)?;
         block.extend_from_slice(&end)?;
         assert!(rt;
-            used(rt.alloc(), block.as_slice(), &[], 0) == answer,
+            used_after_mount(rt.alloc(), block.as_slice(), &[], 0) == answer,
             "{end:?}"
         );
     }

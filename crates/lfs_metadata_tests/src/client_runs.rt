@@ -58,7 +58,7 @@ fn tails<D: BlockDevice>(alloc: Global, dev: &mut D) -> Result<[Option<Tail>; 2]
 const NO_FIRST: [Change<'static>; 1] = [Change::Delete { id: 0 }];
 
 // How many slots are left where one goes.
-fn left<D: BlockDevice>(alloc: Global, dev: &mut D) -> Result<usize, Error>
+fn slots_after_removal<D: BlockDevice>(alloc: Global, dev: &mut D) -> Result<usize, Error>
     requires size { (D.geometry dev.old).block_size ≡ 1024 }
     requires page { (D.geometry dev.old).page ≡ 8 }
     requires count { (D.geometry dev.old).block_count ≡ 6 }
@@ -74,8 +74,10 @@ fn sevens(alloc: Global) -> Result<RamDevice, Error>
     ensures page { IfOk result (λ device. (geometry_of device).page ≡ 8) }
     ensures count { IfOk result (λ device. (geometry_of device).block_count ≡ 6) }
 {
+    let geometry = Geometry::new(1024, 8, 6)?;
     let bytes = Vec::from_elem(alloc, 7u8, 6 * 1024)?;
-    RamDevice::from_bytes(Geometry::new(1024, 8, 6)?, bytes)
+    let device = RamDevice::from_bytes(geometry, bytes)?;
+    Ok(device)
 }
 
 // The pair is made by five calls, a commit to it has three, and a ninth is none of theirs.
@@ -100,7 +102,7 @@ fn clients_commit_and_split(rt: HostRuntime) -> Result<(), Fail> {
     ] {
         let inner = sevens(alloc)?;
         let mut device = FaultDevice::new(inner, Which::Any, nth, true);
-        assert_eq!(rt; left(alloc, &mut device), answer);
+        assert_eq!(rt; slots_after_removal(alloc, &mut device), answer);
     }
     Ok(())
 }

@@ -48,7 +48,7 @@ const LONG: Entries<'static> = &[(INLINE_STRUCT, 0, &[0; 252]), (CREATE, 0, b"")
 const SHORT: Entries<'static> = &[(CREATE, 0, b"")];
 
 // Where a commit of these entries ends, and its pages.
-fn made<'a>(
+fn build_commit<'a>(
     buf: &'a mut [u8],
     page: u32,
     previous: Tag,
@@ -71,7 +71,7 @@ fn made<'a>(
 }
 
 // A block of 4,096 bytes of that value, with these commits one behind the other.
-fn written(alloc: Global, byte: u8, commits: &[Entries<'_>]) -> Result<Vec<u8>, Error> {
+fn block_with_commits(alloc: Global, byte: u8, commits: &[Entries<'_>]) -> Result<Vec<u8>, Error> {
     let mut block = Vec::from_elem(alloc, byte, 4096)?;
     let mut revision = Some(1);
     for entries in commits {
@@ -82,7 +82,7 @@ fn written(alloc: Global, byte: u8, commits: &[Entries<'_>]) -> Result<Vec<u8>, 
             (0, Tag::from_bits(0xffff_ffff))
         };
         let mut buf = [0u8; 256];
-        let (_, pages) = made(&mut buf, 256, last, revision, entries, Some([byte; 4]));
+        let (_, pages) = build_commit(&mut buf, 256, last, revision, entries, Some([byte; 4]));
         let pages = pages?;
         let end = start.saturating_add(pages.len());
         if let Some(place) = block.as_mut_slice().get_mut(start..end) {
@@ -97,15 +97,15 @@ fn written(alloc: Global, byte: u8, commits: &[Entries<'_>]) -> Result<Vec<u8>, 
 #[test]
 fn commits_are_written(rt: HostRuntime) -> Result<(), Fail> {
     let alloc = rt.alloc();
-    let fresh = written(alloc, 0xff, &[SUPERBLOCK])?;
+    let fresh = block_with_commits(alloc, 0xff, &[SUPERBLOCK])?;
     assert_eq!(rt; fresh, block_of(alloc, 4096, 256, &FRESH)?);
-    let shifting = written(
+    let shifting = block_with_commits(
         alloc,
         0xff,
         &[SUPERBLOCK, FILE_B, FILE_A, NO_FILE_A, ATTRIBUTE],
     )?;
     assert_eq!(rt; shifting, block_of(alloc, 4096, 256, &SHIFTING)?);
-    let zeros = written(alloc, 0, &[SUPERBLOCK, FILE_A])?;
+    let zeros = block_with_commits(alloc, 0, &[SUPERBLOCK, FILE_A])?;
     assert_eq!(rt;
         (
             zeros.get(44..48),
@@ -126,7 +126,7 @@ fn commits_are_written(rt: HostRuntime) -> Result<(), Fail> {
 fn full_blocks(rt: HostRuntime) {
     let first = Tag::from_bits(0xffff_ffff);
     let mut block = [0u8; 16];
-    let (end, pages) = made(&mut block, 8, first, Some(7), SHORT, None);
+    let (end, pages) = build_commit(&mut block, 8, first, Some(7), SHORT, None);
     assert_eq!(rt; (end, pages.is_ok()), (16, true));
     let log = Log::read(&block);
     assert_eq!(rt;
@@ -135,7 +135,7 @@ fn full_blocks(rt: HostRuntime) {
     );
     for (entries, revision, end) in [(SUPERBLOCK, Some(1), 256), (LONG, None, 512)] {
         let mut buf = [0u8; 255];
-        let answer = made(&mut buf, 256, first, revision, entries, Some([0xff; 4]));
+        let answer = build_commit(&mut buf, 256, first, revision, entries, Some([0xff; 4]));
         assert_eq!(rt; answer, (end, Err(Error::TooBig)));
     }
 }

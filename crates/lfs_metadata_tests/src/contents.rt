@@ -8,7 +8,7 @@ use lfs_tag::{
 };
 use std::test::Fail;
 
-fn typed<'a>(part: Option<Part<'a>>) -> Option<(u16, &'a [u8])> {
+fn type_and_bytes<'a>(part: Option<Part<'a>>) -> Option<(u16, &'a [u8])> {
     match part {
         Some(part) => Some((part.kind, part.bytes)),
         None => None,
@@ -25,8 +25,8 @@ fn contents_and_summaries(rt: HostRuntime) -> Result<(), Fail> {
     for slot in content.slots.get(1..).unwrap_or_default() {
         assert_eq!(rt;
             (
-                typed(slot.name),
-                typed(slot.structure),
+                type_and_bytes(slot.name),
+                type_and_bytes(slot.structure),
                 slot.attributes.len()
             ),
             (Some((1, b"b".as_slice())), Some((0x201, b"".as_slice())), 1)
@@ -79,8 +79,8 @@ fn look_ups(rt: HostRuntime) -> Result<(), Fail> {
         (1, Some((1, b"b".as_slice())), Some((0x201, b"".as_slice()))),
         (2, None, None),
     ] {
-        assert_eq!(rt; typed(name_of(&log, id, &mut steps)), name);
-        assert_eq!(rt; typed(struct_of(&log, id, &mut steps)), structure);
+        assert_eq!(rt; type_and_bytes(name_of(&log, id, &mut steps)), name);
+        assert_eq!(rt; type_and_bytes(struct_of(&log, id, &mut steps)), structure);
     }
     for (order, name, skip, place) in [
         (ShorterFirst, b"b".as_slice(), None, Lookup::Found(1)),

@@ -11,7 +11,7 @@ use std::test::Fail;
 type Sizes = (u32, u32, u32);
 
 // A device that held 7 in every byte, and is made empty. Its call of that number fails, if there is one.
-fn formatted(
+fn format_sevens(
     alloc: Global,
     sizes: Sizes,
     which: Which,
@@ -80,12 +80,12 @@ fn superblock_stands_alone(rt: HostRuntime) -> Result<(), Fail> {
         let mut wanted = Vec::from_slice(rt.alloc(), &head)?;
         wanted.resize(sizes.0.saturating_mul(2) as usize, 0xff)?;
         wanted.resize(sizes.0.saturating_mul(sizes.2) as usize, 7)?;
-        let (device, error) = formatted(rt.alloc(), sizes, Which::Any, 0)?;
+        let (device, error) = format_sevens(rt.alloc(), sizes, Which::Any, 0)?;
         let is_right = error.is_none() && device.inner().bytes() == wanted.as_slice();
         assert!(rt; is_right, "{sizes:?}");
     }
     for (which, nth, error) in FAILED {
-        let (_, met) = formatted(rt.alloc(), (1024, 128, 2), which, nth)?;
+        let (_, met) = format_sevens(rt.alloc(), (1024, 128, 2), which, nth)?;
         assert_eq!(rt; met, error);
     }
     Ok(())

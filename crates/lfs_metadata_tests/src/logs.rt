@@ -7,7 +7,7 @@ use std::test::Fail;
 // Where a block's log ends, its revision and its last tag.
 type Told = (usize, u32, u32);
 
-fn told(block: &[u8]) -> Told {
+fn log_facts(block: &[u8]) -> Told {
     let log = Log::read(block);
     (log.end(), log.revision(), log.last().bits())
 }
@@ -74,7 +74,7 @@ fn chains(rt: HostRuntime) -> Result<(), Fail> {
             *old = byte;
         }
         let block = block.get(..len).unwrap_or_default();
-        assert_eq!(rt; told(block), expected);
+        assert_eq!(rt; log_facts(block), expected);
     }
     Ok(())
 }

@@ -44,7 +44,7 @@ fn are_complete(slots: &[Slot<'_>]) -> bool
 
 // What the changes make of what a log holds. `Invalid` where a change doesn't
 // fit into a tag, or a slot lacks a name or a struct then.
-fn made<'a, 'b: 'a>(
+fn make_content<'a, 'b: 'a>(
     alloc: Global,
     log: &Log<'a>,
     changes: &[Change<'b>],
@@ -63,7 +63,7 @@ fn made<'a, 'b: 'a>(
 }
 
 // The address that a tail names.
-fn named(tail: &Option<Tail>) -> Option<[u32; 2]>
+fn address_of_tail(tail: &Option<Tail>) -> Option<[u32; 2]>
     ensures { option_map address_of result ≡ next_of (option_map tail_view tail.now) }
 {
     match tail {
@@ -99,10 +99,10 @@ fn look_in<'a, 'b: 'a>(
 ) -> Result<Look, Error>
     ensures { IfOk result (λ look. IsLookIn log.now (changes_view changes.now) geometry.block_size geometry.page look.now look.next look.can_be_cut) }
 {
-    let was = made(alloc, log, &[])?;
-    let content = made(alloc, log, changes)?;
-    let now = named(&was.tail);
-    let next = named(&content.tail);
+    let was = make_content(alloc, log, &[])?;
+    let content = make_content(alloc, log, changes)?;
+    let now = address_of_tail(&was.tail);
+    let next = address_of_tail(&content.tail);
     let can_be_cut = can_be_halved(content, geometry)?;
     Ok(Look {
         now,

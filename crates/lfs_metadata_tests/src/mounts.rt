@@ -91,7 +91,7 @@ const SYNC: Item = (
 /// How many blocks are used once a device is mounted whose first block begins so, and whose third one too.
 /// Its read of that number fails, if it has one. Block 4 points to block 5, as the second block of a list
 /// does to the first; all else is 0xff.
-pub fn used(alloc: Global, first: &[u8], third: &[u8], nth: u64) -> Result<u32, Error> {
+pub fn used_after_mount(alloc: Global, first: &[u8], third: &[u8], nth: u64) -> Result<u32, Error> {
     let mut bytes = Vec::from_slice(alloc, first)?;
     bytes.resize(2048, 0xff)?;
     bytes.extend_from_slice(third)?;
@@ -108,13 +108,13 @@ pub fn used(alloc: Global, first: &[u8], third: &[u8], nth: u64) -> Result<u32, 
 // What stands in the pair {0, 1}, and in {2, 3} if there is one.
 type Image = (Entries<'static>, Option<Entries<'static>>);
 
-fn used_of(alloc: Global, image: Image, nth: u64) -> Result<u32, Error> {
+fn used_on_image(alloc: Global, image: Image, nth: u64) -> Result<u32, Error> {
     let first = block(alloc, 1024, 128, 0xff, 1, image.0)?;
     let third = match image.1 {
         Some(entries) => block(alloc, 1024, 128, 0xff, 1, entries)?,
         None => Vec::new(alloc),
     };
-    used(alloc, first.as_slice(), third.as_slice(), nth)
+    used_after_mount(alloc, first.as_slice(), third.as_slice(), nth)
 }
 
 const CORRUPT: Result<u32, Error> = Err(Error::Corrupt);
@@ -176,13 +176,13 @@ const READ: Image = (
 #[test]
 fn images_are_mounted(rt: HostRuntime) -> Result<(), Fail> {
     for (number, (image, answer)) in IMAGES.iter().enumerate() {
-        assert!(rt; used_of(rt.alloc(), *image, 0) == *answer, "{number}");
+        assert!(rt; used_on_image(rt.alloc(), *image, 0) == *answer, "{number}");
     }
     // Each read in turn fails: both blocks of two pairs, the superblock, the slots of two pairs, and
     // the pointer of a list of two blocks. There is no ninth one.
     for nth in 1..=9 {
         let answer = if nth < 9 { Err(Error::Io) } else { Ok(6) };
-        assert!(rt; used_of(rt.alloc(), READ, nth) == answer, "{nth}");
+        assert!(rt; used_on_image(rt.alloc(), READ, nth) == answer, "{nth}");
     }
     Ok(())
 }

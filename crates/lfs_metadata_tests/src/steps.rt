@@ -3,7 +3,7 @@
 ghost use Rattle.std.specs.Prelude.{◌≡◌, false, IfOk, IsTrue, OnOk};
 ghost use Rattle.std.specs.Option.{option_map};
 ghost use Rattle.lfs_model.specs.Slots.{address_of};
-ghost use Rattle.lfs_thread.specs.Steps.{AreHeld};
+ghost use Rattle.lfs_thread.specs.Steps.{AreFreshInFlight};
 
 use crate::look::look_at;
 use lfs_device::{BlockDevice, Error};
@@ -37,7 +37,7 @@ fn is_same(a: Option<[u32; 2]>, b: Option<[u32; 2]>) -> bool
 
 // Two free blocks. `NoSpace` where there are fewer.
 fn take_two<D: BlockDevice>(thread: &mut Thread<D>) -> Result<[u32; 2], Error>
-    ensures held { IfOk result (λ fresh. AreHeld thread.new.kept.map (address_of fresh)) }
+    ensures held { IfOk result (λ fresh. AreFreshInFlight thread.new.kept.map (address_of fresh)) }
     ensures works { thread.new.failed ≡ thread.old.failed }
 {
     let Some(first) = thread.take() else {

@@ -11,7 +11,7 @@ use std::alloc::Global;
 const NO_PAIR: [u32; 2] = [0xffff_ffff; 2];
 
 // A block of 1,024 bytes with one commit: an empty file `a`, or its name alone, and a soft tail.
-fn written(alloc: Global, tail: [u32; 2], is_complete: bool) -> Result<Vec<u8>, Error> {
+fn block_with_tail(alloc: Global, tail: [u32; 2], is_complete: bool) -> Result<Vec<u8>, Error> {
     let tail = pair_bytes(tail);
     let entries = [
         (SOFT_TAIL, 0x3ff, tail.as_slice()),
@@ -34,7 +34,7 @@ fn read(alloc: Global, count: u32, last: [u32; 2], is_complete: bool) -> Result<
         } else {
             last
         };
-        bytes.extend_from_slice(&written(alloc, tail, is_complete)?)?;
+        bytes.extend_from_slice(&block_with_tail(alloc, tail, is_complete)?)?;
         bytes.extend_from_slice(&[0xff; 1024])?;
     }
     bytes.extend_from_slice(&[0xff; 2048])?;

@@ -15,10 +15,10 @@ use Rattle.lfs_model.specs.Disk.{Disk, block_count}
 use Rattle.lfs_model.specs.Names.{Name, name_cmp, same_name, is_less, is_name}
 use Rattle.lfs_model.specs.Slots.{Slot, Kind, File, Directory, Superblock, Struct, Inline, Ctz, Branch, Gstate, same_pair, is_superblock}
 use Rattle.lfs_model.specs.Content.{content_at, holder_at}
-use Rattle.lfs_model.specs.Thread.{Pair, anchor, Links, blocks_of, directory_pairs, first_at, from_slots, gstate_of, root_of, starts_with_superblock}
+use Rattle.lfs_model.specs.Thread.{Pair, anchor, LinkByTails, blocks_of, directory_pairs, first_at, from_slots, gstate_of, root_of, starts_with_superblock}
 use Rattle.lfs_model.specs.Tree.{Path, root_slot, branch_of, slot_at, directory_at, names_at}
-use Rattle.lfs_model.specs.View.{first_name, first_slots, IsAccepted, BeginsWith, IsSuperblockStruct, MayHaveSuperblock, IsEntry, Suits, IsListIfCtz, IsMove, NamesSlot, IsOtherSlot, superblock_entry, superblock_pairs, other_pairs}
-use Rattle.lfs_model.specs.Shown.{Leads, IsReached, directories_in, entries_in, all_slots, used_blocks}
+use Rattle.lfs_model.specs.View.{first_name, first_slots, IsAccepted, BeginsWithEntry, IsSuperblockStruct, MayHaveSuperblock, IsEntry, Suits, IsListIfCtz, IsMove, NamesSlot, IsOtherSlot, superblock_entry, superblock_pairs, other_pairs}
+use Rattle.lfs_model.specs.Shown.{PathLeadsTo, IsReached, directories_in, entries_in, all_slots, used_blocks}
 use Rattle.lfs_model.specs.TreeEdits.{same_path}
 use Rattle.lfs_model.proofs.Paths.{name_from_same, path_from_same}
 use Rattle.lfs_model.proofs.Outlines.{Outline, outline, is_outlined, outlined, found_in, found_holds}
@@ -142,7 +142,7 @@ abbrev pub outline_in : ℕ → List Pair → Outline
 outline_in k ps = outline k (entries_in ps) (root_slot (root_of ps))
 
 pub led : (k : ℕ) (ps : List Pair) → is_outlined k (entries_in ps) (root_slot (root_of ps)) ≡ true → (T : Path → ℕ × ℕ → Bool) → on_branches T (outline_in k ps) ≡ true →
-    (path : Path) (at : ℕ × ℕ) → Leads ps path at → T path at ≡ true
+    (path : Path) (at : ℕ × ℕ) → PathLeadsTo ps path at → T path at ≡ true
 led k ps whole T e path at leads = go (slot_at (entries_in ps) (root_slot (root_of ps)) path) (outlined k (entries_in ps) (root_slot (root_of ps)) whole path) leads
   where
     go : (o : Option Slot) → found_in path (outline_in k ps) ≡ o → option_and_then (λ s. branch_of s.struct) o ≡ Some at → T path at ≡ true
@@ -245,9 +245,9 @@ tests disk ps bytes k =
 
 -- these pairs are on the disk, and the tests pass
 pub record IsImage (disk : Disk) (ps : List Pair) (bytes : List ℕ) (k : ℕ) : Type 0 where
-  pub links : Links (Some anchor) ps
+  pub links : LinkByTails (Some anchor) ps
   pub contents : AllByRecursion (λ p. content_at disk p.at ≡ Some p.content) ps
-  pub first : BeginsWith (holder_at disk (first_at (from_slots ps))) superblock_entry
+  pub first : BeginsWithEntry (holder_at disk (first_at (from_slots ps))) superblock_entry
   pub named : first_name (from_slots ps) ≡ Some (codes "littlefs")
   pub lists : AllByRecursion (λ s. IsListIfCtz disk s.struct) (all_slots ps)
   pub pass : list_all (λ b. b) (tests disk ps bytes k) ≡ true

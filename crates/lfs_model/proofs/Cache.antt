@@ -6,7 +6,7 @@ use Rattle.std.proofs.lemmas.List.{length-take, take-map}
 use Rattle.std.proofs.lemmas.List.Elements.{All-cons, All-contains, All-filter, All-take}
 use Rattle.std.proofs.lemmas.Map.Entries.{lookup-filter-keys}
 use Rattle.std.proofs.lemmas.Map.Views.{Contains-from_lookup, exact_unsigned_eq}
-use Rattle.lfs_model.specs.Cache.{CachedBlocks, cache_limit, cached, put_first, without}
+use Rattle.lfs_model.specs.Cache.{CachedBlocks, cache_limit, cached, put_first, without_block}
 
 differ : (b other : ℕ) → other ≢ b → nat_eq other b ≡ false
 differ b other ne = go (nat_eq other b) refl
@@ -17,10 +17,10 @@ differ b other ne = go (nat_eq other b) refl
 
 -- ---- a block that goes
 
-pub cached-without_same : (cache : CachedBlocks) (b : ℕ) → cached (without cache b) b ≡ None
+pub cached-without_same : (cache : CachedBlocks) (b : ℕ) → cached (without_block cache b) b ≡ None
 cached-without_same cache b = lookup-filter-keys (nat_eq b) (λ k. not (nat_eq b k)) false (λ k is. ap not is) cache
 
-pub cached-without_other : (cache : CachedBlocks) (b other : ℕ) → other ≢ b → cached (without cache b) other ≡ cached cache other
+pub cached-without_other : (cache : CachedBlocks) (b other : ℕ) → other ≢ b → cached (without_block cache b) other ≡ cached cache other
 cached-without_other cache b other ne =
     lookup-filter-keys (nat_eq other) (λ k. not (nat_eq b k)) true
     (λ k is. let same : other ≡ k = eqb-true other k is in ap not (differ k b (λ e. ne (same ∙ sym e)))) cache
@@ -28,7 +28,7 @@ cached-without_other cache b other ne =
 -- ---- a block that comes in front
 
 pub cached-put_first_same : (cache : CachedBlocks) (b : ℕ) (bytes : List ℕ) → cached (put_first cache b bytes) b ≡ Some bytes
-cached-put_first_same cache b bytes = ap (λ t. cond t (Some bytes) (cached (take 7 (without cache b)) b)) (eq-eqb b b refl)
+cached-put_first_same cache b bytes = ap (λ t. cond t (Some bytes) (cached (take 7 (without_block cache b)) b)) (eq-eqb b b refl)
 
 lookup-take : (n : ℕ) (cache : CachedBlocks) (b : ℕ) (found : List ℕ) → cached (take n cache) b ≡ Some found → cached cache b ≡ Some found
 lookup-take zero cache b found has = absurd (cc)
@@ -43,7 +43,7 @@ lookup-take (suc n) (e ∷ cache) b found has = go (nat_eq b e.0) has (lookup-ta
 pub cached-put_first_other : (cache : CachedBlocks) (b other : ℕ) (bytes found : List ℕ) → other ≢ b → cached (put_first cache b bytes) other ≡ Some found → cached cache other ≡ Some found
 cached-put_first_other cache b other bytes found ne has =
     sym (cached-without_other cache b other ne)
-    ∙ sym (ap (λ t. cond t (Some bytes) (cached (without cache b) other)) (differ b other ne))
-    ∙ lookup-take cache_limit ((b, bytes) ∷ without cache b) other found has
+    ∙ sym (ap (λ t. cond t (Some bytes) (cached (without_block cache b) other)) (differ b other ne))
+    ∙ lookup-take cache_limit ((b, bytes) ∷ without_block cache b) other found has
 
 -- ---- what holds of each block

@@ -10,7 +10,7 @@ use Rattle.std.proofs.Math.Seq.{set-append_seam, get_or-append_seam}
 use Rattle.lfs_model.specs.Tag.{tag_with, kind_of, id_of, len_of, class_of}
 use Rattle.lfs_model.specs.Log.{LogEntry}
 use Rattle.lfs_model.specs.Slots.{Gstate}
-use Rattle.lfs_model.specs.Content.{RawSlot, RawContent, content_after, content_after_all, slots_after, changed, up_to, empty_slot, slot_of_id, put_attribute, without_attribute}
+use Rattle.lfs_model.specs.Content.{RawSlot, RawContent, content_after, content_after_all, slots_after, with_slot_changed, slots_up_to, empty_slot, slot_of_id, put_attribute, without_attribute}
 use Rattle.lfs_model.specs.EntryTypes.{is_in_table, has_any_length, has_eight_bytes, has_no_bytes, move_state_type, has_its_id, removes, no_id, create_type, delete_type, tail_with}
 use Rattle.lfs_model.specs.WrittenContent.{entry_with, attribute_type}
 use Rattle.lfs_model.specs.LoggedContent.{IsPart, IsAddress, IsMoveState}
@@ -92,10 +92,10 @@ abbrev pub with_struct : ℕ × List ℕ → RawSlot → RawSlot
 with_struct part s = record s { struct = Some part }
 
 pub puts_struct : (c : RawContent) (id kind : ℕ) (bytes : List ℕ) → id < 0x3ff → IsNamed c.slots id → IsPart 2 (kind, bytes)
-    → Does (PutStruct id kind bytes) c (record c { slots = changed (with_struct (kind, bytes)) c.slots id })
+    → Does (PutStruct id kind bytes) c (record c { slots = with_slot_changed (with_struct (kind, bytes)) c.slots id })
 puts_struct c id type bytes small named part = record {
   storable = and_from _ _ (lt-ltb id no_id small) (and_from _ _ (and_from _ _ (le-leb 0x200 type (omega arith)) (lt-ltb type 0x300 (omega arith))) (le-leb (length bytes) 1022 (omega arith)));
-  makes = one_entry c (record c { slots = changed (with_struct (type, bytes)) c.slots id }) (entry_with type id bytes)
+  makes = one_entry c (record c { slots = with_slot_changed (with_struct (type, bytes)) c.slots id }) (entry_with type id bytes)
       (by_slots c (entry_with type id bytes) (omega arith) (in_table_at 2 (type, bytes) id (omega arith) (omega arith) part) (omega arith)
       ∙ ap (option_map (λ slots. record c { slots = slots })) after);
 }
@@ -112,7 +112,7 @@ puts_struct c id type bytes small named part = record {
     at : id_of (tag_with type id (length bytes)) ≡ id
     at = id_of-tag_with type id (length bytes) (omega arith) (omega arith)
 
-    after : slots_after c.slots (entry_with type id bytes) ≡ Some (changed (with_struct (type, bytes)) c.slots id)
+    after : slots_after c.slots (entry_with type id bytes) ≡ Some (with_slot_changed (with_struct (type, bytes)) c.slots id)
     after =
         let not_name : type / 2 ^ 8 == 0 ≡ false = ne_eqb (type / 2 ^ 8) 0 (λ h. omega arith) in
         let not_create : type == create_type ≡ false = ne_eqb type create_type (λ h. omega arith) in
@@ -122,7 +122,7 @@ puts_struct c id type bytes small named part = record {
 
 -- an entry of an attribute's type
 attribute_after : (slots : List RawSlot) (e : LogEntry) (id attribute : ℕ) → attribute < 0x100 → kind_of e.tag ≡ attribute_type + attribute → id_of e.tag ≡ id → IsNamed slots id
-    → slots_after slots e ≡ Some (changed (λ s. record s { attributes = cond (removes e.tag) (without_attribute attribute s.attributes) (put_attribute attribute e.bytes s.attributes) }) slots id)
+    → slots_after slots e ≡ Some (with_slot_changed (λ s. record s { attributes = cond (removes e.tag) (without_attribute attribute s.attributes) (put_attribute attribute e.bytes s.attributes) }) slots id)
 attribute_after slots e id attribute small kind at named =
     let not_name : (attribute_type + attribute) / 2 ^ 8 == 0 ≡ false = ne_eqb ((attribute_type + attribute) / 2 ^ 8) 0 (λ h. omega arith) in
     let not_create : attribute_type + attribute == create_type ≡ false = ne_eqb (attribute_type + attribute) create_type (λ h. omega arith) in
@@ -154,13 +154,13 @@ abbrev remove_entry : ℕ → ℕ → LogEntry
 remove_entry id attribute = record { tag = tag_with (attribute_type + attribute) id 0x3ff; bytes = [] }
 
 pub puts_attribute : (c : RawContent) (id attribute : ℕ) (bytes : List ℕ) → id < 0x3ff → attribute < 0x100 → length bytes < 0x3ff → IsNamed c.slots id
-    → Does (PutAttribute id attribute bytes) c (record c { slots = changed (with_attribute_put attribute bytes) c.slots id })
+    → Does (PutAttribute id attribute bytes) c (record c { slots = with_slot_changed (with_attribute_put attribute bytes) c.slots id })
 puts_attribute c id attribute bytes small low short named = record {
   storable = and_from _ _ (lt-ltb id no_id small) (and_from _ _ (lt-ltb attribute 0x100 low) (le-leb (length bytes) 1022 (omega arith)));
-  makes = one_entry c (record c { slots = changed (with_attribute_put attribute bytes) c.slots id }) (put_entry id attribute bytes)
+  makes = one_entry c (record c { slots = with_slot_changed (with_attribute_put attribute bytes) c.slots id }) (put_entry id attribute bytes)
       (by_slots c (put_entry id attribute bytes) (omega arith) (attribute_in_table (put_entry id attribute bytes).tag attribute low kind) (omega arith) ∙ ap (option_map (λ slots. record c { slots = slots }))
       (attribute_after c.slots (put_entry id attribute bytes) id attribute low kind at named
-      ∙ ap (λ b. Some (changed (λ s. record s { attributes = cond b (without_attribute attribute s.attributes) (put_attribute attribute bytes s.attributes) }) c.slots id)) stays));
+      ∙ ap (λ b. Some (with_slot_changed (λ s. record s { attributes = cond b (without_attribute attribute s.attributes) (put_attribute attribute bytes s.attributes) }) c.slots id)) stays));
 }
   where
     kind : kind_of (tag_with (attribute_type + attribute) id (length bytes)) ≡ attribute_type + attribute
@@ -173,13 +173,13 @@ puts_attribute c id attribute bytes small low short named = record {
     stays = ne_eqb (len_of (tag_with (attribute_type + attribute) id (length bytes))) 0x3ff (λ h. omega arith)
 
 pub removes_attribute : (c : RawContent) (id attribute : ℕ) → id < 0x3ff → attribute < 0x100 → IsNamed c.slots id
-    → Does (RemoveAttribute id attribute) c (record c { slots = changed (with_attribute_removed attribute) c.slots id })
+    → Does (RemoveAttribute id attribute) c (record c { slots = with_slot_changed (with_attribute_removed attribute) c.slots id })
 removes_attribute c id attribute small low named = record {
   storable = and_from _ _ (lt-ltb id no_id small) (lt-ltb attribute 0x100 low);
-  makes = one_entry c (record c { slots = changed (with_attribute_removed attribute) c.slots id }) (remove_entry id attribute)
+  makes = one_entry c (record c { slots = with_slot_changed (with_attribute_removed attribute) c.slots id }) (remove_entry id attribute)
       (by_slots c (remove_entry id attribute) (omega arith) (attribute_in_table (remove_entry id attribute).tag attribute low kind) (omega arith) ∙ ap (option_map (λ slots. record c { slots = slots }))
       (attribute_after c.slots (remove_entry id attribute) id attribute low kind at named
-      ∙ ap (λ b. Some (changed (λ s. record s { attributes = cond b (without_attribute attribute s.attributes) (put_attribute attribute [] s.attributes) }) c.slots id)) goes));
+      ∙ ap (λ b. Some (with_slot_changed (λ s. record s { attributes = cond b (without_attribute attribute s.attributes) (put_attribute attribute [] s.attributes) }) c.slots id)) goes));
 }
   where
     kind : kind_of (tag_with (attribute_type + attribute) id 0x3ff) ≡ attribute_type + attribute
@@ -205,11 +205,11 @@ put_inserted : (slots : List RawSlot) (id : ℕ) (s t : RawSlot) → id ≤ leng
 put_inserted slots id s t fits =
     ap (λ k. slice_set (insert slots id s) k t) (sym (length-take-le id slots fits)) ∙ set-append_seam (take id slots) s (drop id slots) t
 
-pub changed_inserted : (f : RawSlot → RawSlot) (slots : List RawSlot) (id : ℕ) (s : RawSlot) → id ≤ length slots → changed f (insert slots id s) id ≡ insert slots id (f s)
+pub changed_inserted : (f : RawSlot → RawSlot) (slots : List RawSlot) (id : ℕ) (s : RawSlot) → id ≤ length slots → with_slot_changed f (insert slots id s) id ≡ insert slots id (f s)
 changed_inserted f slots id s fits = ap (λ t. slice_set (insert slots id s) id (f t)) (inserted_at slots id s fits) ∙ put_inserted slots id s (f s) fits
 
 -- slots that reach past an id stay
-long_enough : (slots : List RawSlot) (id : ℕ) → id < length slots → up_to slots id ≡ slots
+long_enough : (slots : List RawSlot) (id : ℕ) → id < length slots → slots_up_to slots id ≡ slots
 long_enough slots id there =
     let none : id + 1 - length slots ≡ 0 = omega arith in
     ap (λ n. slots ++ replicate n empty_slot) none ∙ append-nil slots
@@ -259,7 +259,7 @@ creates c id type name small fits part = record {
     name_after : slots_after (insert c.slots id empty_slot) (entry_with type id name) ≡ Some (insert c.slots id (slot_named (type, name)))
     name_after =
         let is_name : type / 2 ^ 8 == 0 ≡ true = eq-eqb (type / 2 ^ 8) 0 of_class in
-        rw (kind, at) (rw is_name (ap (λ slots. Some (changed (λ s. record s { name = Some (type, name) }) slots id)) (long_enough (insert c.slots id empty_slot) id (omega (arith, longer)))
+        rw (kind, at) (rw is_name (ap (λ slots. Some (with_slot_changed (λ s. record s { name = Some (type, name) }) slots id)) (long_enough (insert c.slots id empty_slot) id (omega (arith, longer)))
         ∙ ap Some (changed_inserted (λ s. record s { name = Some (type, name) }) c.slots id empty_slot fits)))
 
 -- a slot with its struct
@@ -272,7 +272,7 @@ pub creates_with_struct : (c : RawContent) (id type : ℕ) (name : List ℕ) (ki
     changed_by c (Create id type name ∷ PutStruct id kind bytes ∷ changes) ≡ Some e
 creates_with_struct c id type name kind bytes changes e small fits is_name is_struct others =
     does_first (Create id type name) (PutStruct id kind bytes ∷ changes) c created e (creates c id type name small fits is_name)
-    (does_first (PutStruct id kind bytes) changes created (record c { slots = changed (with_struct (kind, bytes)) created.slots id }) e
+    (does_first (PutStruct id kind bytes) changes created (record c { slots = with_slot_changed (with_struct (kind, bytes)) created.slots id }) e
     (puts_struct created id kind bytes small (ap (λ s. is_some s.name) (inserted_at c.slots id (slot_named (type, name)) fits)) is_struct)
     (ap (λ slots. changed_by (record c { slots = slots }) changes) (changed_inserted (with_struct (kind, bytes)) c.slots id (slot_named (type, name)) fits) ∙ others))
   where

@@ -4,7 +4,7 @@ use Rattle.std.specs.Prelude.{All, slice_index}
 use Rattle.lfs_model.specs.Disk.{Disk, block_at, block_count}
 use Rattle.lfs_model.specs.Content.{content_at}
 use Rattle.lfs_model.specs.Slots.{no_gstate}
-use Rattle.lfs_model.specs.Thread.{Pair, Links, anchor, blocks_of}
+use Rattle.lfs_model.specs.Thread.{Pair, LinkByTails, anchor, blocks_of}
 use Rattle.lfs_model.specs.Tree.{Tree}
 use Rattle.lfs_model.specs.View.{IsAccepted}
 use Rattle.lfs_model.specs.Profile.{IsInProfile}
@@ -13,7 +13,7 @@ use Rattle.lfs_model.specs.Fresh.{fresh_pair, empty_tree}
 use Rattle.lfs_model.specs.Operations.{Operation}
 use Rattle.lfs_model.specs.Session.{Session, Surroundings}
 use Rattle.lfs_model.specs.State.{Surrounds, State, HasFailed, Healthy, mounted}
-use Rattle.lfs_model.specs.Effects.{applied}
+use Rattle.lfs_model.specs.Effects.{refusal_or_effect}
 use Rattle.lfs_model.specs.PowerLoss.{IsLeftByStop, IsAtWork, SurvivesLoss}
 use Rattle.lfs_model.specs.examples.Images.{small_image, appended_image}
 use Rattle.lfs_model.specs.examples.Runs.{fresh_system, no_disk}
@@ -50,7 +50,7 @@ still_there before after e = record { pairs = pairs; accepted = are_accepted; wr
 pub none_accepted : (ps : List Pair) → IsAccepted no_disk ps → ⊥
 none_accepted ps ok = go ps ok.thread.links ok.thread.in_range
   where
-    go : (ps : List Pair) → Links (Some anchor) ps → All (λ b. b < 0) (blocks_of ps) → ⊥
+    go : (ps : List Pair) → LinkByTails (Some anchor) ps → All (λ b. b < 0) (blocks_of ps) → ⊥
     go [] l r = absurd (cc)
     go (p ∷ ps) l r = let k = r 0 0 (omega arith) in absurd (omega arith)
 
@@ -64,7 +64,7 @@ differ e = apart (slice_index (block_at small_image 0) 128) (slice_index (block_
 pub surviving : (op : Operation) (state : State) → SurvivesLoss fresh_system op (record fresh_system { state = state })
 surviving op state = record {
   stops = λ s ps a work clean. record { events = []; extends = refl; each = tt };
-  stands = λ s ps a work clean fails. still_there s.tree (applied a s op).1.tree (sym (ap (λ (z : Session). z.tree) (same_session (mounted empty_tree) s work.healthy)));
+  stands = λ s ps a work clean fails. still_there s.tree (refusal_or_effect a s op).1.tree (sym (ap (λ (z : Session). z.tree) (same_session (mounted empty_tree) s work.healthy)));
 }
   where
     same_session : (s t : Session) → Healthy s ≡ Healthy t → s ≡ t

@@ -9,7 +9,7 @@ use Rattle.lfs_model.specs.Slots.{Slot, Struct, Inline, Ctz, Branch, slot_size, 
 use Rattle.lfs_model.specs.Content.{RawSlot, RawContent, completed, complete, complete_all}
 use Rattle.lfs_model.specs.WrittenContent.{raw_slot_size, FitsRaw}
 use Rattle.lfs_model.specs.LoggedContent.{HasParts, HaveParts, IsLogged}
-use Rattle.lfs_model.specs.Cut.{FitSlots, IsCut, CanBeCut}
+use Rattle.lfs_model.specs.Cut.{FitSlots, IsCutOfSlots, CanBeCut}
 use Rattle.lfs_model.specs.Profile.{FitsEntry, HasInline}
 use Rattle.lfs_model.proofs.Completed.{complete_parts, completed_parts, complete_cons, complete_length, slot_size_is, slots_size_is, fits_pair}
 
@@ -58,10 +58,10 @@ pub record IsInside (slots : List RawSlot) (cut : ℕ) : Type 0 where
   pub some : 1 ≤ cut
   pub fewer : cut < length slots
 
-pub cut_inside : (block_size page : ℕ) (slots : List RawSlot) (cut : ℕ) → ¬ (FitSlots block_size page slots) → IsCut block_size page slots cut → IsInside slots cut
+pub cut_inside : (block_size page : ℕ) (slots : List RawSlot) (cut : ℕ) → ¬ (FitSlots block_size page slots) → IsCutOfSlots block_size page slots cut → IsInside slots cut
 cut_inside block_size page slots cut full is = record { some = some cut is; fewer = fewer }
   where
-    some : (cut : ℕ) → IsCut block_size page slots cut → 1 ≤ cut
+    some : (cut : ℕ) → IsCutOfSlots block_size page slots cut → 1 ≤ cut
     some zero k = absurd (full k.back)
     some (suc n) k = omega arith
 
@@ -185,7 +185,7 @@ set_cut block_size page raw c old front was s back logged is before slots small 
     (omega (arith, ap length before, length-append front (was ∷ back), fits.count))
 
 -- where the content doesn't fit, the cut leaves slots before and after
-pub content_cut_inside : (block_size page : ℕ) (raw : RawContent) (c : Content) (cut : ℕ) → IsLogged raw → completed raw ≡ Some c → ¬ (FitsPair block_size page c) → IsCut block_size page raw.slots cut
+pub content_cut_inside : (block_size page : ℕ) (raw : RawContent) (c : Content) (cut : ℕ) → IsLogged raw → completed raw ≡ Some c → ¬ (FitsPair block_size page c) → IsCutOfSlots block_size page raw.slots cut
     → IsInside raw.slots cut
 content_cut_inside block_size page raw c cut logged is full cuts =
     cut_inside block_size page raw.slots cut (λ fits. full (fits_pair block_size page raw c logged is (slots_fit block_size page raw fits))) cuts

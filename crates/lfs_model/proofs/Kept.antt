@@ -12,14 +12,14 @@ use Rattle.lfs_model.specs.History.{Event}
 use Rattle.lfs_model.specs.Operations as ops
 use Rattle.lfs_model.specs.Operations.{Operation, Reply, Refusal}
 use Rattle.lfs_model.specs.Session.{Session, Surroundings}
-use Rattle.lfs_model.specs.Effects.{applied, effect_of, reply_or}
+use Rattle.lfs_model.specs.Effects.{refusal_or_effect, effect_of, reply_or}
 use Rattle.lfs_model.specs.Refusals.{refusal_of}
-use Rattle.lfs_model.specs.State.{State, HasFailed, Healthy, is_remount, remounted, answered_in, mounted}
+use Rattle.lfs_model.specs.State.{State, HasFailed, Healthy, is_remount, remounted, answer_of_state, mounted}
 use Rattle.lfs_model.specs.Fresh.{IsFresh, fresh_pair, empty_tree}
 use Rattle.lfs_model.specs.Recovery.{IsRecovered}
-use Rattle.lfs_model.specs.Run.{SystemState, Shows, Agrees, is_refusal, IsEffectOnDisk, IsSessionStep, AreSessionSteps}
+use Rattle.lfs_model.specs.Run.{SystemState, Shows, AgreesWithTree, is_refusal, IsEffectOnDisk, IsSessionStep, AreSessionSteps}
 use Rattle.lfs_model.specs.Headline.{ComesFromFresh, session_after, session_after_all, AgreesWithDisk, IsSettled, IsWhatItsDiskShows}
-use Rattle.lfs_model.specs.RepeatedPowerLoss.{IsMounted}
+use Rattle.lfs_model.specs.RepeatedPowerLoss.{IsJustMounted}
 use Rattle.lfs_model.proofs.Uniqueness.{one_thread}
 use Rattle.lfs_model.proofs.Fresh.{accepted, writable}
 use Rattle.lfs_model.proofs.SessionSteps.{IsHealthy, session_step_is_healthy, session_steps_are_healthy, session_steps_agree, true_from, fresh_agrees, question_answered, reader_answered}
@@ -47,10 +47,10 @@ same_effect around other s _ = refl
 pub one_tree : (disk : Disk) (t u : Tree) → Shows disk (Some t) → Shows disk (Some u) → t ≡ u
 one_tree disk t u (ps, (a, e)) (qs, (b, f)) = e ∙ ap (tree_in disk) (one_thread (content_at disk) (block_count disk) ps qs a.thread b.thread) ∙ sym f
 
-defined_next : (around : Surroundings) (from to : SystemState) (op : Operation) (reply : Reply) (s : Session) → from.state ≡ Healthy s → Agrees from.disk from.state → IsSessionStep from op reply to →
+defined_next : (around : Surroundings) (from to : SystemState) (op : Operation) (reply : Reply) (s : Session) → from.state ≡ Healthy s → AgreesWithTree from.disk from.state → IsSessionStep from op reply to →
     to.state ≡ Healthy (session_after around s op reply)
 defined_next around from to op reply s healthy agrees turn =
-    go (is_remount op) refl (sym (ap (λ z. cond (is_remount op) (remounted turn.answered.shown) (answered_in turn.answered.around z op)) healthy) ∙ turn.answered.answers)
+    go (is_remount op) refl (sym (ap (λ z. cond (is_remount op) (remounted turn.answered.shown) (answer_of_state turn.answered.around z op)) healthy) ∙ turn.answered.answers)
   where
     effect : Session
     effect = (effect_of around s op).1
@@ -63,18 +63,18 @@ defined_next around from to op reply s healthy agrees turn =
     remount None h e = absurd (let k = ap (λ (z : Option Reply × State). z.0) e in cc)
     remount (Some tree) h e =
         let done = same_Some ops.Done reply (ap (λ (z : Option Reply × State). z.0) e) in
-        let same = one_tree from.disk tree s.tree h (subst (Agrees from.disk) healthy agrees) in
+        let same = one_tree from.disk tree s.tree h (subst (AgreesWithTree from.disk) healthy agrees) in
         sym (ap (λ (z : Option Reply × State). z.1) e) ∙ ap (λ t. Healthy (mounted t)) same ∙ ap (λ r. Healthy (cond (is_refusal r) s (mounted s.tree))) done
 
-    go : (b : Bool) → is_remount op ≡ b → cond b (remounted turn.answered.shown) (answered_in turn.answered.around (Healthy s) op) ≡ (Some reply, to.state) →
+    go : (b : Bool) → is_remount op ≡ b → cond b (remounted turn.answered.shown) (answer_of_state turn.answered.around (Healthy s) op) ≡ (Some reply, to.state) →
         to.state ≡ Healthy (cond (is_refusal reply) s (cond b (mounted s.tree) (effect_of around s op).1))
     go true is e = remount turn.answered.shown (turn.answered.shows is) e
     go false is e =
         let a = turn.answered.around in
-        let k = same_Some (applied a s op).0 reply (ap (λ (z : Option Reply × State). z.0) e) in
+        let k = same_Some (refusal_or_effect a s op).0 reply (ap (λ (z : Option Reply × State). z.0) e) in
         sym (ap (λ (z : Option Reply × State). z.1) e) ∙ ap Healthy (refused a (refusal_of a s op) k)
 
-pub defined : (around : Surroundings) (operations : List Operation) (replies : List Reply) (from to : SystemState) (s : Session) → from.state ≡ Healthy s → Agrees from.disk from.state →
+pub defined : (around : Surroundings) (operations : List Operation) (replies : List Reply) (from to : SystemState) (s : Session) → from.state ≡ Healthy s → AgreesWithTree from.disk from.state →
     AreSessionSteps from operations replies to → to.state ≡ Healthy (session_after_all around s operations replies)
 defined around [] [] from to s h agrees e = sym (ap (λ (m : SystemState). m.state) e) ∙ h
 defined around [] (reply ∷ replies) from to s h agrees e = absurd e
@@ -133,8 +133,8 @@ session_shows from at operations replies known session_steps = record {
   settled = settled;
 }
   where
-    agrees : Agrees from.disk from.state
-    agrees = subst (Agrees from.disk) (sym known.healthy) known.shows
+    agrees : AgreesWithTree from.disk from.state
+    agrees = subst (AgreesWithTree from.disk) (sym known.healthy) known.shows
 
     healthy : IsHealthy from.state
     healthy = subst IsHealthy (sym known.healthy) tt
@@ -158,18 +158,18 @@ fresh_begins from fresh mounts =
     )
 
 -- with a mount
-pub mount_begins : (disk : Disk) (at : SystemState) → IsMounted disk at → AgreesWithDisk at
+pub mount_begins : (disk : Disk) (at : SystemState) → IsJustMounted disk at → AgreesWithDisk at
 mount_begins disk at m = record { session = mounted m.tree; healthy = m.healthy; shows = subst (λ d. Shows d (Some m.tree)) (sym m.on) m.shows }
 
 -- a remount is a mount, also of a session that had failed
-pub remount_mounts : (from to : SystemState) → IsSessionStep from ops.Remount ops.Done to → IsMounted to.disk to
+pub remount_mounts : (from to : SystemState) → IsSessionStep from ops.Remount ops.Done to → IsJustMounted to.disk to
 remount_mounts from to turn = go turn.answered.shown turn.answered.answers
   where
-    go : (shown : Option Tree) → remounted shown ≡ (Some ops.Done, to.state) → IsMounted to.disk to
+    go : (shown : Option Tree) → remounted shown ≡ (Some ops.Done, to.state) → IsJustMounted to.disk to
     go None e = absurd (let k = ap (λ (z : Option Reply × State). z.0) e in cc)
     go (Some tree) e =
         let healthy = sym (ap (λ (z : Option Reply × State). z.1) e) in
-        record { on = refl; tree = tree; shows = subst (Agrees to.disk) healthy turn.agrees; healthy = healthy }
+        record { on = refl; tree = tree; shows = subst (AgreesWithTree to.disk) healthy turn.agrees; healthy = healthy }
 
 -- ---- from a fresh disk
 

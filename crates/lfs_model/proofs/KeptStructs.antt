@@ -7,7 +7,7 @@ use Rattle.lfs_model.specs.Slots.{Slot, Struct, Inline, Ctz, Branch, Attributes}
 use Rattle.lfs_model.specs.Thread.{Pair}
 use Rattle.lfs_model.specs.Tree.{Path, Node, Tree, branch_of, node_of}
 use Rattle.lfs_model.specs.Shown.{contents_in, entries_in, tree_in}
-use Rattle.lfs_model.specs.TreeEdits.{same_path, rest_after, is_file, added, removed, renamed, change_at}
+use Rattle.lfs_model.specs.TreeEdits.{same_path, rest_after, is_file, tree_with_node, tree_without, renamed, change_at}
 use Rattle.lfs_model.specs.Operations as ops
 use Rattle.lfs_model.specs.Operations.{Operation}
 use Rattle.lfs_model.specs.Session.{Session, Writing, Writer, file_of}
@@ -55,14 +55,14 @@ neither true b e = absurd (cc)
 neither false b e = (refl, e)
 
 -- an entry comes where none was
-pub creation_leaves : (t : Tree) (s : Session) (op : Operation) (p : Path) (node : Node) → t p ≡ None → LeavesFiles t s op (added p node)
+pub creation_leaves : (t : Tree) (s : Session) (op : Operation) (p : Path) (node : Node) → t p ≡ None → LeavesFiles t s op (tree_with_node p node)
 creation_leaves t s op p node absent q file off elsewhere = go (paths p q)
   where
-    go : Paths p q → LeavesBytes (added p node) q
+    go : Paths p q → LeavesBytes (tree_with_node p node) q
     go (path_alike e f) = absurd (let k = sym (ap (λ z. is_file (t z)) (sym e) ∙ ap is_file absent) ∙ file in cc)
     go (path_unlike n f) = added_leaves p node q f
 
-pub removal_leaves : (t : Tree) (s : Session) (path : List ℕ) (p : Path) → as_path path ≡ p → LeavesFiles t s (ops.Remove path) (removed p)
+pub removal_leaves : (t : Tree) (s : Session) (path : List ℕ) (p : Path) → as_path path ≡ p → LeavesFiles t s (ops.Remove path) (tree_without p)
 removal_leaves t s path p is q file off elsewhere = removed_leaves p q (not_before p q (none_left (rest_after p q) (ap (λ z. is_some (rest_after z q)) (sym is) ∙ off)))
 
 pub renaming_leaves : (t : Tree) (s : Session) (old_bytes new_bytes : List ℕ) (old new : Path) → as_path old_bytes ≡ old → as_path new_bytes ≡ new →

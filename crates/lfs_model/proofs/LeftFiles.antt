@@ -4,7 +4,7 @@ use Rattle.std.proofs.lemmas.List.{append_cancel_right}
 use Rattle.lfs_model.specs.Names.{Name}
 use Rattle.lfs_model.specs.Slots.{Slot, Struct, Inline, Ctz, Branch, Attributes}
 use Rattle.lfs_model.specs.Tree.{Path, Entries, Node, FileNode, Tree, branch_of, root_slot, slot_at, node_of, tree_of}
-use Rattle.lfs_model.specs.TreeEdits.{same_path, rest_after, change_at, with_names, with_name, without_name, with_attributes, attributes_of, added, removed, renamed, planted, parent_of, last_name}
+use Rattle.lfs_model.specs.TreeEdits.{same_path, rest_after, change_at, with_names, with_name, without_name, with_attributes, attributes_of, tree_with_node, tree_without, renamed, with_subtree_moved, parent_of, last_name}
 use Rattle.lfs_model.specs.Effects.{with_bytes}
 use Rattle.lfs_model.proofs.Paths.{path_itself, rest_itself}
 use Rattle.lfs_model.proofs.Edits.{planted_off, planted_on, not_same}
@@ -36,14 +36,14 @@ names_leave p f t q attributes bytes e = go (same_path p q)
     go true = ap (option_map (with_names f)) e
     go false = e
 
-pub added_leaves : (p : Path) (node : Node) (q : Path) → same_path p q ≡ false → LeavesBytes (added p node) q
+pub added_leaves : (p : Path) (node : Node) (q : Path) → same_path p q ≡ false → LeavesBytes (tree_with_node p node) q
 added_leaves p node q off t attributes bytes e = (
   attributes,
   set_off p (Some node) (change_at (parent_of p) (with_names (with_name (last_name p))) t) q off
       ∙ names_leave (parent_of p) (with_name (last_name p)) t q attributes bytes e,
 )
 
-pub removed_leaves : (p q : Path) → same_path p q ≡ false → LeavesBytes (removed p) q
+pub removed_leaves : (p q : Path) → same_path p q ≡ false → LeavesBytes (tree_without p) q
 removed_leaves p q off t attributes bytes e = (
   attributes,
   set_off p None (change_at (parent_of p) (with_names (without_name (last_name p))) t) q off
@@ -62,9 +62,9 @@ renamed_leaves old new q off aside t attributes bytes e = (attributes, go (same_
     now : Tree
     now = change_at (parent_of new) (with_names put) left
 
-    go : (b : Bool) → cond b t (planted new (λ rest. t (old ++ rest)) (planted old (λ rest. None) now)) q ≡ Some (FileNode attributes bytes)
+    go : (b : Bool) → cond b t (with_subtree_moved new (λ rest. t (old ++ rest)) (with_subtree_moved old (λ rest. None) now)) q ≡ Some (FileNode attributes bytes)
     go true = e
-    go false = planted_off new (λ rest. t (old ++ rest)) (planted old (λ rest. None) now) q aside ∙ planted_off old (λ rest. None) now q off
+    go false = planted_off new (λ rest. t (old ++ rest)) (with_subtree_moved old (λ rest. None) now) q aside ∙ planted_off old (λ rest. None) now q off
         ∙ names_leave (parent_of new) put left q attributes bytes (names_leave (parent_of old) (without_name (last_name old)) t q attributes bytes e)
 
 -- no file's bytes are left beneath the new name
@@ -88,7 +88,7 @@ renamed_moves P n Q m r off leaves =
     only z = one (same_path z (new ++ r))
 
     rest_of : Tree
-    rest_of = change_at Q (with_names (λ ns. with_name m (without_name m ns))) (planted old (λ z. None) (change_at P (with_names (without_name n)) only))
+    rest_of = change_at Q (with_names (λ ns. with_name m (without_name m ns))) (with_subtree_moved old (λ z. None) (change_at P (with_names (without_name n)) only))
 
     apart : (P ++ n ∷ []) ++ r ≡ (Q ++ m ∷ []) ++ r → ⊥
     apart e =

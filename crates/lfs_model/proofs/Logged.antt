@@ -8,9 +8,9 @@ use Rattle.std.proofs.lemmas.Option.{same_Some}
 use Rattle.std.proofs.lemmas.Bool.{cases_lt, ne_eqb, eqb-false, ltb-false, ltb-true}
 use Rattle.byteorder.specs.Endian.{little_number}
 use Rattle.lfs_model.specs.Tag.{tag_with, kind_of, id_of, len_of, class_of, chunk_of, data_size}
-use Rattle.lfs_model.specs.Log.{LogEntry, entry_at, past, IsCommit, IsChain, chain_of, log_entries}
+use Rattle.lfs_model.specs.Log.{LogEntry, entry_at, end_of_entry, IsCommit, IsChain, chain_of, log_entries}
 use Rattle.lfs_model.specs.Slots.{Attributes}
-use Rattle.lfs_model.specs.Content.{RawSlot, RawContent, content_after, content_after_all, slots_after, changed, up_to, empty_slot, slot_of_id, put_attribute, without_attribute, with_attribute, no_content, typed}
+use Rattle.lfs_model.specs.Content.{RawSlot, RawContent, content_after, content_after_all, slots_after, with_slot_changed, slots_up_to, empty_slot, slot_of_id, put_attribute, without_attribute, with_attribute, no_content, part_of_entry}
 use Rattle.lfs_model.specs.EntryTypes.{is_in_table, has_its_id, removes, create_type, delete_type, pair_at, tail_of, gstate_at, hard_tail_type}
 use Rattle.lfs_model.proofs.Chains.{lies, chain_sound}
 use Rattle.lfs_model.proofs.WrittenAnew.{kind_of-tag_with, len_of-tag_with}
@@ -74,7 +74,7 @@ longer_parts [] zero h = tt
 longer_parts [] (suc n) h = (parts_of_empty, longer_parts [] n tt)
 longer_parts (t ∷ slots) n h = (h.0, longer_parts slots n h.1)
 
-changed_parts : (f : RawSlot → RawSlot) (slots : List RawSlot) (i : ℕ) → HaveParts slots → ((s : RawSlot) → HasParts s → HasParts (f s)) → HaveParts (changed f slots i)
+changed_parts : (f : RawSlot → RawSlot) (slots : List RawSlot) (i : ℕ) → HaveParts slots → ((s : RawSlot) → HasParts s → HasParts (f s)) → HaveParts (with_slot_changed f slots i)
 changed_parts f slots i h g = set_parts slots i (f (slot_of_id slots i)) h (g (slot_of_id slots i) (parts_at slots i h))
 
 -- ---- an entry
@@ -134,11 +134,11 @@ slots_parts slots e new h stored t is =
     one_of (class_of e.tag == 0) (kind_of e.tag == create_type) (kind_of e.tag == delete_type) (nat_le (id_of e.tag) (length slots)) (nat_lt (id_of e.tag) (length slots))
     (not (is_some (slot_of_id slots (id_of e.tag)).name)) (class_of e.tag == 2)
     _ _ _ _ _ new
-    (λ k. changed_parts (λ s. record s { name = typed e }) (up_to slots (id_of e.tag)) (id_of e.tag) (longer_parts slots (id_of e.tag + 1 - length slots) h)
+    (λ k. changed_parts (λ s. record s { name = part_of_entry e }) (slots_up_to slots (id_of e.tag)) (id_of e.tag) (longer_parts slots (id_of e.tag + 1 - length slots) h)
     (λ s p. record { name = part_of e 0 stored (λ z. omega arith) (eqb-true (class_of e.tag) 0 k) t; struct = p.struct; attributes = p.attributes }))
     (insert_parts slots (id_of e.tag) empty_slot h parts_of_empty)
     (remove_parts slots (id_of e.tag) h)
-    (λ k. changed_parts (λ s. record s { struct = typed e }) slots (id_of e.tag) h
+    (λ k. changed_parts (λ s. record s { struct = part_of_entry e }) slots (id_of e.tag) h
     (λ s p. record { name = p.name; struct = part_of e 2 stored (λ z. omega arith) (eqb-true (class_of e.tag) 2 k) t; attributes = p.attributes }))
     (changed_parts (λ s. record s { attributes = with_attribute e s.attributes }) slots (id_of e.tag) h (λ s p. record { name = p.name; struct = p.struct; attributes = with_attribute_ascends e s.attributes stored p.attributes }))
     is
@@ -209,7 +209,7 @@ stored_entry block at before e h is =
 stored_commit : (block : List ℕ) (start at before : ℕ) (es : List LogEntry) (end last : ℕ) → ((i : ℕ) → slice_index block i < 256) → IsCommit block start at before es end last → AreStored es
 stored_commit block start at before [] end last h c = absurd c
 stored_commit block start at before (e ∷ []) end last h c = (stored_entry block at before e h c.0, tt)
-stored_commit block start at before (e ∷ f ∷ es) end last h c = (stored_entry block at before e h c.0, stored_commit block start (past at e) e.tag (f ∷ es) end last h c.2)
+stored_commit block start at before (e ∷ f ∷ es) end last h c = (stored_entry block at before e h c.0, stored_commit block start (end_of_entry at e) e.tag (f ∷ es) end last h c.2)
 
 stored_chain : (block : List ℕ) (start at before : ℕ) (cs : List (List LogEntry)) (end last : ℕ) → ((i : ℕ) → slice_index block i < 256) → IsChain block start at before cs end last → AreStored (flat_map (λ c. c) cs)
 stored_chain block start at before [] end last h c = tt

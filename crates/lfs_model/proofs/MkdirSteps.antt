@@ -7,13 +7,13 @@ use Rattle.lfs_model.specs.Thread.{Pair, first_at, gstate_of, superblocks_before
 use Rattle.lfs_model.specs.Tree.{Path, Tree, DirectoryNode, directory_from}
 use Rattle.lfs_model.specs.View.{IsAccepted}
 use Rattle.lfs_model.specs.Profile.{IsWritable}
-use Rattle.lfs_model.specs.Shown.{Leads, entries_in, tree_in}
-use Rattle.lfs_model.specs.TreeEdits.{added, planted}
+use Rattle.lfs_model.specs.Shown.{PathLeadsTo, entries_in, tree_in}
+use Rattle.lfs_model.specs.TreeEdits.{tree_with_node, with_subtree_moved}
 use Rattle.lfs_model.specs.Operations as ops
 use Rattle.lfs_model.specs.Session.{Session}
 use Rattle.lfs_model.specs.Refusals.{as_path}
 use Rattle.lfs_model.specs.SlotEdits.{with_slots, new_directory}
-use Rattle.lfs_model.specs.Layout.{Fits}
+use Rattle.lfs_model.specs.Layout.{FitsOnDisk}
 use Rattle.lfs_model.specs.PowerLoss.{IsLeftByStop}
 use Rattle.lfs_model.proofs.Names.{IsPlace}
 use Rattle.lfs_model.proofs.Sites.{Site, thread_at, begin_of}
@@ -26,22 +26,22 @@ use Rattle.lfs_model.proofs.Changes.{Follows}
 use Rattle.lfs_model.proofs.Became.{Became}
 use Rattle.lfs_model.proofs.Profiles.{step_writable}
 use Rattle.lfs_model.proofs.Chained.{InTwo, mkdir_in_two}
-use Rattle.lfs_model.proofs.StepsTaken.{IsTaken, IsPut, IsPutBeside, beside_taken, put_within, put_filled}
+use Rattle.lfs_model.proofs.StepsTaken.{IsOnlyStep, IsPut, IsPutBeside, beside_taken, put_within, put_filled}
 
 -- ---- in one commit
 
 module _ (disk new : Disk) (chain before left after : List Pair) (p q : Pair) (more : List Pair) (f : Pair) (extra : List ℕ) (l r : List Slot) (P : Path) (name : Name)
     (step : IsStepBeside disk new chain before left after p [] q more f extra [] l [] (new_directory name f.at ∷ []) r)
     (put : IsPutBeside disk (last_site chain before left after) p q more f l [] (new_directory name f.at ∷ []) r)
-    (a : ℕ × ℕ) (leads : Leads (thread_at (last_site chain before left after) (p ∷ [])) P a) (same : same_pair (begin_of (last_site chain before left after) (p ∷ [])) a ≡ true)
+    (a : ℕ × ℕ) (leads : PathLeadsTo (thread_at (last_site chain before left after) (p ∷ [])) P a) (same : same_pair (begin_of (last_site chain before left after) (p ∷ [])) a ≡ true)
     (place : IsPlace disk.order (entries_in (thread_at (last_site chain before left after) (p ∷ [])) a) (place_at (last_site chain before left after) l) name)
     (settled : gstate_of (thread_at (last_site chain before left after) (p ∷ [])) ≡ no_gstate)
     (still : gstate_of (thread_at (last_site chain before left after) (q ∷ (more ++ f ∷ []))) ≡ no_gstate) where
   abbrev w : Site
   w = last_site chain before left after
 
-  taken : IsTaken disk (thread_at (last_site chain before left after) (p ∷ [])) new (thread_at (last_site chain before left after) (q ∷ (more ++ f ∷ []))) (added (P ++ name ∷ []) (DirectoryNode [] []))
-      (planted (P ++ name ∷ []) (directory_from (entries_in (thread_at (last_site chain before left after) (p ∷ []))) (new_directory name f.at)))
+  taken : IsOnlyStep disk (thread_at (last_site chain before left after) (p ∷ [])) new (thread_at (last_site chain before left after) (q ∷ (more ++ f ∷ []))) (tree_with_node (P ++ name ∷ []) (DirectoryNode [] []))
+      (with_subtree_moved (P ++ name ∷ []) (directory_from (entries_in (thread_at (last_site chain before left after) (p ∷ []))) (new_directory name f.at)))
   taken = beside_taken disk new chain before left after p q more f l [] (new_directory name f.at ∷ []) r put extra [] _ _ step P a leads same
       (directory_comes_beside disk new chain before left after p [] q more f extra l r (new_directory name f.at) step P a leads same place refl (λ e. (recovered_from disk (thread_at (last_site chain before left after) (p ∷ [])) step.accepted settled).reached))
 
@@ -78,7 +78,7 @@ module _ (disk middle new : Disk) (chain before front mid after : List Pair) (x 
     (put : IsPutBeside disk (last_site chain before (front ++ p ∷ mid) after) x y [] f l0 [] [] r0)
     (step2 : IsStep middle new (record { chain = chain; before = before; left = front; right = mid ++ y ∷ []; after = f ∷ after }) p [] q more extra2 [] l [] (new_directory name f.at ∷ []) r)
     (put2 : IsPut middle (record { chain = chain; before = before; left = front; right = mid ++ y ∷ []; after = f ∷ after }) p q more l [] (new_directory name f.at ∷ []) r)
-    (a : ℕ × ℕ) (leads : Leads (thread_at (last_site chain before (front ++ p ∷ mid) after) (x ∷ [])) P a)
+    (a : ℕ × ℕ) (leads : PathLeadsTo (thread_at (last_site chain before (front ++ p ∷ mid) after) (x ∷ [])) P a)
     (same : same_pair (begin_of (last_site chain before (front ++ p ∷ mid) after) (x ∷ [])) a ≡ true)
     (place : IsPlace middle.order (entries_in (thread_at (record { chain = chain; before = before; left = front; right = mid ++ y ∷ []; after = f ∷ after }) (p ∷ [])) a)
     (place_at (record { chain = chain; before = before; left = front; right = mid ++ y ∷ []; after = f ∷ after }) l) name)
@@ -104,12 +104,12 @@ module _ (disk middle new : Disk) (chain before front mid after : List Pair) (x 
   same_thread : thread_at (last_site chain before (front ++ p ∷ mid) after) (y ∷ ([] ++ f ∷ [])) ≡ thread_at (record { chain = chain; before = before; left = front; right = mid ++ y ∷ []; after = f ∷ after }) (p ∷ [])
   same_thread = ap (λ z. chain ++ z) (turned (p ∷ []) (y ∷ f ∷ after) ∙ ap (λ z. (before ++ front) ++ (p ∷ z)) (sym (append_assoc mid (y ∷ []) (f ∷ after))))
 
-  first : IsTaken disk (thread_at (last_site chain before (front ++ p ∷ mid) after) (x ∷ [])) middle (thread_at (last_site chain before (front ++ p ∷ mid) after) (y ∷ ([] ++ f ∷ []))) (λ t. t) (λ d. d)
+  first : IsOnlyStep disk (thread_at (last_site chain before (front ++ p ∷ mid) after) (x ∷ [])) middle (thread_at (last_site chain before (front ++ p ∷ mid) after) (y ∷ ([] ++ f ∷ []))) (λ t. t) (λ d. d)
   first = beside_taken disk middle chain before (front ++ p ∷ mid) after x y [] f l0 [] [] r0 put extra [] (λ t. t) (λ d. d) step P a leads same
       (threaded disk middle chain before (front ++ p ∷ mid) after x [] y [] f extra l0 r0 step P a leads same sync)
 
-  leads2 : Leads (thread_at (record { chain = chain; before = before; left = front; right = mid ++ y ∷ []; after = f ∷ after }) (p ∷ [])) P a
-  leads2 = subst (λ z. Leads z P a) same_thread (ap (λ d. d P) first.follows.leads ∙ leads)
+  leads2 : PathLeadsTo (thread_at (record { chain = chain; before = before; left = front; right = mid ++ y ∷ []; after = f ∷ after }) (p ∷ [])) P a
+  leads2 = subst (λ z. PathLeadsTo z P a) same_thread (ap (λ d. d P) first.follows.leads ∙ leads)
 
   same2 : same_pair (begin_of (record { chain = chain; before = before; left = front; right = mid ++ y ∷ []; after = f ∷ after }) (p ∷ [])) a ≡ true
   same2 = ap (λ z. same_pair z a) (go front) ∙ same
@@ -119,7 +119,7 @@ module _ (disk middle new : Disk) (chain before front mid after : List Pair) (x 
       go (z ∷ xs) = refl
 
   both : InTwo disk (thread_at (last_site chain before (front ++ p ∷ mid) after) (x ∷ [])) middle (thread_at (record { chain = chain; before = before; left = front; right = mid ++ y ∷ []; after = f ∷ after }) (p ∷ []))
-      new (thread_at (record { chain = chain; before = before; left = front; right = mid ++ y ∷ []; after = f ∷ after }) (q ∷ more)) (λ t. t) (added (P ++ name ∷ []) (DirectoryNode [] []))
+      new (thread_at (record { chain = chain; before = before; left = front; right = mid ++ y ∷ []; after = f ∷ after }) (q ∷ more)) (λ t. t) (tree_with_node (P ++ name ∷ []) (DirectoryNode [] []))
   both = mkdir_in_two disk middle new chain before (front ++ p ∷ mid) after x [] y [] f extra l0 r0 step P a leads same sync
       (record { chain = chain; before = before; left = front; right = mid ++ y ∷ []; after = f ∷ after }) p q more extra2 l r (new_directory name f.at) step2 same_thread P a leads2 same2 place refl
       (recovered_from disk (thread_at (last_site chain before (front ++ p ∷ mid) after) (x ∷ [])) step.accepted settled).reached
@@ -159,7 +159,7 @@ module _ (disk middle new : Disk) (chain before front mid after : List Pair) (x 
     settled = ap gstate_of (sym were) ∙ settled;
     still = still;
     walk = both.walk_on;
-    follows = subst (λ z. Follows disk z new (thread_at (record { chain = chain; before = before; left = front; right = mid ++ y ∷ []; after = f ∷ after }) (q ∷ more)) (added (P ++ name ∷ []) (DirectoryNode [] [])) both.walk_on) were both.end;
+    follows = subst (λ z. Follows disk z new (thread_at (record { chain = chain; before = before; left = front; right = mid ++ y ∷ []; after = f ∷ after }) (q ∷ more)) (tree_with_node (P ++ name ∷ []) (DirectoryNode [] [])) both.walk_on) were both.end;
     still_writable = second;
     absent = ap (λ z. tree_in disk z (P ++ name ∷ [])) (sym were) ∙ sym (ap (λ t. t (P ++ name ∷ [])) both.between.shows)
         ∙ none_there middle (thread_at there (p ∷ [])) P a (place_at there l) name leads2 place;
@@ -173,10 +173,10 @@ module _ (disk middle new : Disk) (chain before front mid after : List Pair) (x 
   }
     where
       -- the tails don't matter, and the sizes are the same on both disks
-      sized : (d : Pair) → Fits middle d → Fits disk d
+      sized : (d : Pair) → FitsOnDisk middle d → FitsOnDisk disk d
       sized d h = subst₂ (λ b g. FitsPair b g d.content) step.device.geometry.block_size step.device.geometry.page h
 
-      resized : (d : Pair) → Fits disk d → Fits middle d
+      resized : (d : Pair) → FitsOnDisk disk d → FitsOnDisk middle d
       resized d h = subst₂ (λ b g. FitsPair b g d.content) (sym step.device.geometry.block_size) (sym step.device.geometry.page) h
 
       became_cut : (more : List Pair) → Became middle p (with_slots (l ++ (new_directory name f.at ∷ [] ++ r)) p) q more → Cut disk (with_slots (l ++ new_directory name f.at ∷ r) p) q more

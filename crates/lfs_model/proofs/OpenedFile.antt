@@ -8,7 +8,7 @@ use Rattle.lfs_model.specs.Log.{chain_of, chain_within, commit_within, entry_at,
 use Rattle.lfs_model.specs.Content.{content_at, holder_at}
 use Rattle.lfs_model.specs.Slots.{Slot, no_gstate}
 use Rattle.lfs_model.specs.Thread.{Pair, anchor}
-use Rattle.lfs_model.specs.View.{BeginsWith, superblock_entry}
+use Rattle.lfs_model.specs.View.{BeginsWithEntry, superblock_entry}
 use Rattle.lfs_model.specs.Shown.{used_blocks}
 use Rattle.lfs_model.specs.Fresh.{IsFresh, fresh_pair, superblock_slot}
 use Rattle.lfs_model.specs.SlotEdits.{new_file}
@@ -63,7 +63,7 @@ holds : content_at large_appended anchor ≡ Some next.content
 unfolding chain_of chain_within commit_within entry_at closes crc_of next_bits
 holds = refl
 
-begins : BeginsWith (holder_at large_appended anchor) superblock_entry
+begins : BeginsWithEntry (holder_at large_appended anchor) superblock_entry
 unfolding chain_of chain_within commit_within entry_at closes crc_of next_bits
 begins = refl
 

@@ -13,12 +13,12 @@ use Rattle.lfs_model.specs.Disk.{Disk, block_count, block_at}
 use Rattle.lfs_model.specs.Names.{Name, name_cmp, is_less, is_name}
 use Rattle.lfs_model.specs.Slots.{Content, Slot, Kind, File, Directory, Superblock, Struct, Inline, Ctz, Branch, Gstate, same_pair}
 use Rattle.lfs_model.specs.Content.{content_at, has_commit}
-use Rattle.lfs_model.specs.Thread.{Pair, anchor, Links, next_of, blocks_of, directory_pairs, starts_with_superblock, gstate_of, root_of, ThreadDirectory}
+use Rattle.lfs_model.specs.Thread.{Pair, anchor, LinkByTails, next_of, blocks_of, directory_pairs, starts_with_superblock, gstate_of, root_of, ThreadDirectory}
 use Rattle.lfs_model.specs.Tree.{Path, root_slot, names_at}
 use Rattle.lfs_model.specs.TreeEdits.{same_path}
 use Rattle.lfs_model.specs.View.{IsAccepted, first_slots, IsMove, NamesSlot, IsOtherSlot, IsEntry, Suits, MayHaveSuperblock, IsSuperblockStruct, superblock_pairs, other_pairs, IsListIfCtz}
 use Rattle.lfs_model.specs.Profile.{IsWritable, FitsSlot}
-use Rattle.lfs_model.specs.Shown.{Leads, IsReached, directories_in, entries_in, used_blocks, all_slots}
+use Rattle.lfs_model.specs.Shown.{PathLeadsTo, IsReached, directories_in, entries_in, used_blocks, all_slots}
 use Rattle.lfs_model.specs.examples.Images.{IsRefused, IsReadOnly}
 use Rattle.lfs_model.proofs.Acceptance.{are_apart, apart_from, all_to, rise, begins, led, on_branches, outline_in, is_move, names_slot, is_other, is_entry, suits, is_inline, has_superblock, is_struct}
 use Rattle.lfs_model.proofs.Outlines.{is_outlined}
@@ -32,10 +32,10 @@ use Rattle.lfs_model.proofs.Uniqueness.{one_way}
 record Begun (disk : Disk) (at : Option (ℕ × ℕ)) (ps : List Pair) (c : Content) (here : ℕ × ℕ) : Type 0 where
   rest : List Pair
   is : ps ≡ record { at = here; content = c } ∷ rest
-  links : Links (next_of c.tail) rest
+  links : LinkByTails (next_of c.tail) rest
   contents : All (λ p. content_at disk p.at ≡ Some p.content) rest
 
-begun : (disk : Disk) (ps : List Pair) (c : Content) (here : ℕ × ℕ) → Links (Some here) ps → All (λ p. content_at disk p.at ≡ Some p.content) ps → content_at disk here ≡ Some c → Begun disk (Some here) ps c here
+begun : (disk : Disk) (ps : List Pair) (c : Content) (here : ℕ × ℕ) → LinkByTails (Some here) ps → All (λ p. content_at disk p.at ≡ Some p.content) ps → content_at disk here ≡ Some c → Begun disk (Some here) ps c here
 begun disk [] c here l all is = absurd (cc)
 begun disk (p ∷ ps) c here l all is =
     let P : Pair → Type 0 = λ p. content_at disk p.at ≡ Some p.content in
@@ -43,7 +43,7 @@ begun disk (p ∷ ps) c here l all is =
     let content : c ≡ p.content = same_Some c p.content (sym is ∙ ap (content_at disk) at ∙ All-head P p ps all) in
     record { rest = ps; is = rw (at, content) refl; links = rw content l.1; contents = All-tail P p ps all }
 
-none_stands : (disk : Disk) (ps : List Pair) (here : ℕ × ℕ) → Links (Some here) ps → All (λ p. content_at disk p.at ≡ Some p.content) ps → content_at disk here ≡ None → ⊥
+none_stands : (disk : Disk) (ps : List Pair) (here : ℕ × ℕ) → LinkByTails (Some here) ps → All (λ p. content_at disk p.at ≡ Some p.content) ps → content_at disk here ≡ None → ⊥
 none_stands disk [] here l all is = cc
 none_stands disk (p ∷ ps) here l all is =
     let at : here ≡ p.at = same_Some here p.at l.0 in
@@ -85,7 +85,7 @@ no_distinct disk c d to first next second twice ps a =
     front (x ∷ xs) ys h = (left x xs ys h.0, front xs ys h.1)
 
 -- these pairs are the thread, so no others are accepted
-pub refused_with : (disk : Disk) (qs : List Pair) → Links (Some anchor) qs → AllByRecursion (λ p. content_at disk p.at ≡ Some p.content) qs → (IsAccepted disk qs → ⊥) → IsRefused disk
+pub refused_with : (disk : Disk) (qs : List Pair) → LinkByTails (Some anchor) qs → AllByRecursion (λ p. content_at disk p.at ≡ Some p.content) qs → (IsAccepted disk qs → ⊥) → IsRefused disk
 refused_with disk qs links contents never ps a =
     let is : ps ≡ qs = one_way (content_at disk) (Some anchor) ps qs a.thread.links links a.thread.contents (All-from_recursion (λ p. content_at disk p.at ≡ Some p.content) qs contents) in
     never (subst (IsAccepted disk) is a)
@@ -104,15 +104,15 @@ pub fails_range : (disk : Disk) (ps : List Pair) → list_all (λ b. nat_lt b (b
 fails_range disk ps fails a = let e = all_to (λ b. nat_lt b (block_count disk)) (λ b. b < block_count disk) (λ b. lt-ltb b (block_count disk)) (blocks_of ps) a.thread.in_range in cc
 
 -- the names of a directory don't rise
-pub fails_order : (disk : Disk) (ps : List Pair) (path : Path) (at : ℕ × ℕ) → Leads ps path at → rise disk.order (names_at (entries_in ps) at) ≡ false → IsAccepted disk ps → ⊥
+pub fails_order : (disk : Disk) (ps : List Pair) (path : Path) (at : ℕ × ℕ) → PathLeadsTo ps path at → rise disk.order (names_at (entries_in ps) at) ≡ false → IsAccepted disk ps → ⊥
 fails_order disk ps path at leads fails a = let e = rise_to disk.order (names_at (entries_in ps) at) (a.order path at leads) in cc
 
 -- a path leads to what is no directory
-pub fails_branches : (disk : Disk) (ps : List Pair) (path : Path) (at : ℕ × ℕ) → Leads ps path at → begins ps at ≡ false → IsAccepted disk ps → ⊥
+pub fails_branches : (disk : Disk) (ps : List Pair) (path : Path) (at : ℕ × ℕ) → PathLeadsTo ps path at → begins ps at ≡ false → IsAccepted disk ps → ⊥
 fails_branches disk ps path at leads fails a = let e = list_any-from_Any (λ d. same_pair d.at at) (directories_in ps) (a.branches path at leads) in cc
 
 -- two paths lead to one directory
-pub fails_once : (disk : Disk) (ps : List Pair) (path other : Path) (at to : ℕ × ℕ) → Leads ps path at → Leads ps other to → same_pair at to ≡ true → same_path path other ≡ false → IsAccepted disk ps → ⊥
+pub fails_once : (disk : Disk) (ps : List Pair) (path other : Path) (at to : ℕ × ℕ) → PathLeadsTo ps path at → PathLeadsTo ps other to → same_pair at to ≡ true → same_path path other ≡ false → IsAccepted disk ps → ⊥
 fails_once disk ps path other at to leads second same apart a =
     let is = a.once path other at to leads second same in
     let e : same_path path path ≡ false = rw (← is) at apart in
@@ -216,7 +216,7 @@ fails_lists disk ps fails a = let e = all_to (λ s. is_list_if_ctz disk s.struct
 
 -- ---- images that may not be written
 
-pub read_only_with : (disk : Disk) (qs : List Pair) → Links (Some anchor) qs → AllByRecursion (λ p. content_at disk p.at ≡ Some p.content) qs → (IsWritable disk qs → ⊥) → IsReadOnly disk
+pub read_only_with : (disk : Disk) (qs : List Pair) → LinkByTails (Some anchor) qs → AllByRecursion (λ p. content_at disk p.at ≡ Some p.content) qs → (IsWritable disk qs → ⊥) → IsReadOnly disk
 read_only_with disk qs links contents never ps a w =
     let is : ps ≡ qs = one_way (content_at disk) (Some anchor) ps qs a.thread.links links a.thread.contents (All-from_recursion (λ p. content_at disk p.at ≡ Some p.content) qs contents) in
     never (subst (IsWritable disk) is w)

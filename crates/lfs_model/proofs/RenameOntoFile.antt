@@ -6,7 +6,7 @@ use Rattle.lfs_model.specs.Disk.{Disk}
 use Rattle.lfs_model.specs.Slots.{Slot, is_superblock, same_pair}
 use Rattle.lfs_model.specs.Thread.{Pair, blocks_of}
 use Rattle.lfs_model.specs.Tree.{Path, branch_of}
-use Rattle.lfs_model.specs.Shown.{Leads, entries_in, tree_in}
+use Rattle.lfs_model.specs.Shown.{PathLeadsTo, entries_in, tree_in}
 use Rattle.lfs_model.specs.Operations as ops
 use Rattle.lfs_model.specs.Session.{Session}
 use Rattle.lfs_model.specs.Refusals.{as_path}
@@ -32,7 +32,7 @@ entry_among xs u ys other = both_entries xs (u ∷ ys) ∙ ap (λ z. entries_onl
 module _ (disk new : Disk) (w : Site) (p q : Pair) (more : List Pair) (l : List Slot) (u : Slot) (passed : List Slot) (target : Slot) (r : List Slot)
     (c : IsCommit disk new w p q more [] l (u ∷ (passed ++ target ∷ [])) (passed ++ record u { name = target.name } ∷ []) r) (other : is_superblock u ≡ false) (entry : is_superblock target ≡ false) (file : branch_of target.struct ≡ None)
     (differs : target.name ≡ u.name → ⊥)
-    (P : Path) (a : ℕ × ℕ) (leads : Leads (thread_at w (p ∷ [])) P a) (same : same_pair (begin_of w (p ∷ [])) a ≡ true)
+    (P : Path) (a : ℕ × ℕ) (leads : PathLeadsTo (thread_at w (p ∷ [])) P a) (same : same_pair (begin_of w (p ∷ [])) a ≡ true)
     (s : Session) (old_bytes new_bytes : List ℕ) (tree : s.tree ≡ tree_in disk (thread_at w (p ∷ []))) (old_is : as_path old_bytes ≡ P ++ u.name ∷ []) (new_is : as_path new_bytes ≡ P ++ target.name ∷ []) where
   abbrev moved : Slot
   moved = record u { name = target.name }
@@ -80,7 +80,7 @@ module _ (disk new : Disk) (w : Site) (p q : Pair) (more : List Pair) (l : List 
 module _ (disk new : Disk) (w : Site) (p q : Pair) (more : List Pair) (l : List Slot) (u : Slot) (passed : List Slot) (target : Slot) (r : List Slot)
     (c : IsCommit disk new w p q more [] l (target ∷ (passed ++ u ∷ [])) (record u { name = target.name } ∷ passed) r) (other : is_superblock u ≡ false) (entry : is_superblock target ≡ false) (file : branch_of target.struct ≡ None)
     (differs : target.name ≡ u.name → ⊥)
-    (P : Path) (a : ℕ × ℕ) (leads : Leads (thread_at w (p ∷ [])) P a) (same : same_pair (begin_of w (p ∷ [])) a ≡ true)
+    (P : Path) (a : ℕ × ℕ) (leads : PathLeadsTo (thread_at w (p ∷ [])) P a) (same : same_pair (begin_of w (p ∷ [])) a ≡ true)
     (s : Session) (old_bytes new_bytes : List ℕ) (tree : s.tree ≡ tree_in disk (thread_at w (p ∷ []))) (old_is : as_path old_bytes ≡ P ++ u.name ∷ []) (new_is : as_path new_bytes ≡ P ++ target.name ∷ []) where
   abbrev moved2 : Slot
   moved2 = record u { name = target.name }

@@ -15,8 +15,8 @@ use Rattle.lfs_model.specs.TreeEdits.{last_name, renamed, rest_after, same_path}
 use Rattle.lfs_model.specs.Operations as ops
 use Rattle.lfs_model.specs.Session.{Session}
 use Rattle.lfs_model.specs.Refusals.{as_path}
-use Rattle.lfs_model.specs.SlotEdits.{with_slots, slot_of_path, IsSpliced, Clears}
-use Rattle.lfs_model.specs.Layout.{Goes, directory_of, removed_directories, begin_from, onward, IsLaidOut}
+use Rattle.lfs_model.specs.SlotEdits.{with_slots, slot_of_path, IsSpliced, RemovesSlot}
+use Rattle.lfs_model.specs.Layout.{RemovesDirectory, directory_of, removed_directories, directory_begin, directory_after, IsLaidOut}
 use Rattle.lfs_model.proofs.Counts.{Each, each_append, each_left, each_right, each_weaker}
 use Rattle.lfs_model.proofs.Superblocks.{IsChain, pairs_behind}
 use Rattle.lfs_model.proofs.Laws.{Walk}
@@ -77,7 +77,7 @@ module _ (disk new : Disk) (rs : List Pair) (b : Bool) (chain front mid back : L
   op = ops.Rename old_bytes new_bytes
 
   abbrev Goes_ : ℕ × ℕ → Type 0
-  Goes_ = Goes ps op
+  Goes_ = RemovesDirectory ps op
 
   gone : removed_directories ps op ≡ d ∷ []
   gone = ap (λ t. cond t [] (directory_of (slot_of_path ps (as_path new_bytes)))) (ap₂ same_path old_is new_is ∙ not_before old_path new_path c.not_beneath)
@@ -114,8 +114,8 @@ module _ (disk new : Disk) (rs : List Pair) (b : Bool) (chain front mid back : L
   goes_there = subst (λ ds. (IsReached ps o.at → ⊥) ⊎ Any (λ at. same_pair o.at at ≡ true) ds) (sym gone) (inr (any_from (λ at. same_pair o.at at ≡ true) (d ∷ []) (inl c.alike_address)))
 
   -- nothing goes on after o
-  ends_there : (from : Option (ℕ × ℕ)) → onward from o ≡ None
-  ends_there from = ap (λ t. cond t (Some (begin_from from o)) None) c.soft
+  ends_there : (from : Option (ℕ × ℕ)) → directory_after from o ≡ None
+  ends_there from = ap (λ t. cond t (Some (directory_begin from o)) None) c.soft
 
   from_start : (x : ℕ × ℕ) → None ≡ Some x → same_pair x d ≡ true → ⊥
   from_start x e k = absurd (cc)
@@ -151,7 +151,7 @@ module _ (disk new : Disk) (rs : List Pair) (b : Bool) (chain front mid back : L
       (none_goes_left Goes_ None front (p ∷ mid) n.0) behind.1 (subst (λ z. NoneGoes Goes_ z back) (sym (ends_there (onward_all (onward_all (onward_all None front) (p ∷ [])) mid))) n.1)
       (λ from. refl) (λ from. refl)
       (λ h. (became_stands disk _ _ p (with_slots (l ++ record u { name = name } ∷ r) p) q more c.at c.is c.became behind.0 (λ e. some_filled l r (record u { name = name })), tt))
-      (λ h. (inl (subst (λ z. Goes_ (begin_from z o)) (sym start) goes_there), tt)))
+      (λ h. (inl (subst (λ z. Goes_ (directory_begin z o)) (sym start) goes_there), tt)))
   stood_by false is_chain ok reached apart begins =
       let a = apart_seg front (mid ++ (p ∷ [] ++ back)) apart in
       let n = none_around front (mid ++ (p ∷ [] ++ back)) reached a.0 a.1 in
@@ -161,9 +161,9 @@ module _ (disk new : Disk) (rs : List Pair) (b : Bool) (chain front mid back : L
       (ap (λ x. chain ++ (front ++ (mid ++ (x ++ back)))) (append-nil (q ∷ more)))
       (stand_apart disk Goes_ chain front (o ∷ []) (o ∷ []) mid (p ∷ []) (with_slots (l ++ record u { name = name } ∷ r) p ∷ []) back ([] ∷ []) ((q ∷ more) ∷ []) is_chain ok
       n.0 (subst (λ z. NoneGoes Goes_ z mid) (sym start) (none_goes_left Goes_ None mid (p ∷ back) n.1))
-      (subst (λ z. NoneGoes Goes_ (onward (onward_all z mid) p) back) (sym start) second.1)
+      (subst (λ z. NoneGoes Goes_ (directory_after (onward_all z mid) p) back) (sym start) second.1)
       (λ from. refl) (λ from. refl)
-      (λ h. (inl (subst (λ z. Goes_ (begin_from z o)) (sym begins) goes_there), tt))
+      (λ h. (inl (subst (λ z. Goes_ (directory_begin z o)) (sym begins) goes_there), tt))
       (λ h. (became_stands disk _ _ p (with_slots (l ++ record u { name = name } ∷ r) p) q more c.at c.is c.became (subst (λ z. NoneGoes Goes_ (onward_all z mid) (p ∷ [])) (sym start) (second.0, tt)).0 (λ e. some_filled l r (record u { name = name })), tt)))
 
   stood : Stood disk Goes_ (superblocks_before ps) None drafts rs
@@ -187,7 +187,7 @@ module _ (disk new : Disk) (rs : List Pair) (b : Bool) (chain front mid back : L
         (
           ap (slot_of_path ps) old_is ∙ c.from_slot,
           subst (λ z. IsSpliced (u ∷ []) [] z without_old) (sym (nothing_moved ps c.settled)) (splice_old b chain front mid (o ∷ []) back p lo (u ∷ []) [] ro c.held),
-          subst (λ t. Clears t without_old cleared) (sym (ap (slot_of_path ps) new_is ∙ c.to_slot)) (splice_old b chain front mid (o ∷ []) back (with_slots (lo ++ ro) p) l (target ∷ []) [] r c.left_over),
+          subst (λ t. RemovesSlot t without_old cleared) (sym (ap (slot_of_path ps) new_is ∙ c.to_slot)) (splice_old b chain front mid (o ∷ []) back (with_slots (lo ++ ro) p) l (target ∷ []) [] r c.left_over),
           subst (λ n. IsSpliced [] (record u { name = n } ∷ []) cleared drafts) (sym (ap last_name new_is ∙ c.to_name))
               (splice_old b chain front mid (o ∷ []) back (with_slots (l ++ r) p) l [] (record u { name = name } ∷ []) r refl),
         ),

@@ -8,7 +8,7 @@ use Rattle.std.proofs.lemmas.Bool.Decides.{nat_tests}
 use Rattle.std.proofs.lemmas.List.{drop-replicate, length-replicate}
 use Rattle.byteorder.specs.Endian.{big_number}
 use Rattle.lfs_model.specs.Tag.{kind_of, ends_commit}
-use Rattle.lfs_model.specs.Log.{LogEntry, Chain, with_entry, entry_at, past, is_checksum, closes, commit_at, chain_of, log_with, revision_of}
+use Rattle.lfs_model.specs.Log.{LogEntry, Chain, with_entry, entry_at, end_of_entry, is_checksum, closes, commit_at, chain_of, log_with, revision_of}
 use Rattle.lfs_model.specs.Stops.{HasNoLog}
 use Rattle.lfs_model.proofs.Chains.{lies, commit_none, commit_refused, commit_on, chain_none}
 use Rattle.lfs_model.proofs.Skips.{all_below, below_from}
@@ -79,7 +79,7 @@ no_first n byte small =
                 commit_refused block 0 4 0xffffffff e is sum (not_closed block 0 4 e other)
             | false ↦ λ other.
                 commit_on block 0 4 0xffffffff e is other
-                ∙ ap (option_map (with_entry e)) (commit_none block 0 (past 4 e) e.tag (no_second n byte (past 4 e) e tag right.1))
+                ∙ ap (option_map (with_entry e)) (commit_none block 0 (end_of_entry 4 e) e.tag (no_second n byte (end_of_entry 4 e) e tag right.1))
           ] refl
     ] refl
 

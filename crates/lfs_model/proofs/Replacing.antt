@@ -7,7 +7,7 @@ use Rattle.lfs_model.specs.Disk.{Disk}
 use Rattle.lfs_model.specs.Slots.{same_pair}
 use Rattle.lfs_model.specs.Thread.{Pair, ThreadDirectory, is_hard, root_of}
 use Rattle.lfs_model.specs.Tree.{Path, Tree, directory_at}
-use Rattle.lfs_model.specs.TreeEdits.{rest_after, planted, renamed}
+use Rattle.lfs_model.specs.TreeEdits.{rest_after, with_subtree_moved, renamed}
 use Rattle.lfs_model.specs.Shown.{IsReached, directories_in, entries_in, tree_in}
 use Rattle.lfs_model.specs.PowerLoss.{IsLeftByStop}
 use Rattle.lfs_model.proofs.LeftFiles.{ends_same}
@@ -19,7 +19,7 @@ use Rattle.lfs_model.proofs.Sites.{IsLedTo}
 use Rattle.lfs_model.proofs.Moves.{AllReached, AllReachedBut}
 use Rattle.lfs_model.proofs.Renames.{rename_walk}
 use Rattle.lfs_model.proofs.Committed.{no_move_from}
-use Rattle.lfs_model.proofs.StepsTaken.{IsTaken, taken_then}
+use Rattle.lfs_model.proofs.StepsTaken.{IsOnlyStep, taken_then}
 use Rattle.lfs_model.proofs.Unthreaded.{IsReady, unthread}
 use Rattle.lfs_model.proofs.RmdirSteps.{IsGone}
 
@@ -38,11 +38,11 @@ module _ (was : Path → Option (ℕ × ℕ)) (old new : Path) (d : ℕ × ℕ) 
   replaced_unled path x h s = at_new (rest new path)
     where
       at_new : Rest new path → ⊥
-      at_new (beyond t e f) = not_old t (c.once (old ++ t) new x d (sym (planted_on new (λ t. was (old ++ t)) (planted old (λ t. None) was) path t f) ∙ h) c.there (pair_back d x s))
+      at_new (beyond t e f) = not_old t (c.once (old ++ t) new x d (sym (planted_on new (λ t. was (old ++ t)) (with_subtree_moved old (λ t. None) was) path t f) ∙ h) c.there (pair_back d x s))
       at_new (aside n f) = at_old (rest old path)
         where
-          left : planted old (λ t. None) was path ≡ Some x
-          left = sym (planted_off new (λ t. was (old ++ t)) (planted old (λ t. None) was) path f) ∙ h
+          left : with_subtree_moved old (λ t. None) was path ≡ Some x
+          left = sym (planted_off new (λ t. was (old ++ t)) (with_subtree_moved old (λ t. None) was) path f) ∙ h
 
           at_old : Rest old path → ⊥
           at_old (beyond t e g) = absurd (let k = sym (planted_on old (λ t. None) was path t g) ∙ left in cc)
@@ -52,11 +52,11 @@ module _ (was : Path → Option (ℕ × ℕ)) (old new : Path) (d : ℕ × ℕ) 
   replaced_reached x (path, at, (k, s)) = at_old (rest old path)
     where
       at_old : Rest old path → IsLedTo (rename_walk old new was) x ⊎ (same_pair x d ≡ true)
-      at_old (beyond t e f) = inl (new ++ t, at, (planted_on new (λ t. was (old ++ t)) (planted old (λ t. None) was) (new ++ t) t (rest_itself new t) ∙ ap was (sym e) ∙ k, s))
+      at_old (beyond t e f) = inl (new ++ t, at, (planted_on new (λ t. was (old ++ t)) (with_subtree_moved old (λ t. None) was) (new ++ t) t (rest_itself new t) ∙ ap was (sym e) ∙ k, s))
       at_old (aside n f) = at_new (rest new path)
         where
           at_new : Rest new path → IsLedTo (rename_walk old new was) x ⊎ (same_pair x d ≡ true)
-          at_new (aside m g) = inl (path, at, (planted_off new (λ t. was (old ++ t)) (planted old (λ t. None) was) path g ∙ planted_off old (λ t. None) was path f ∙ k, s))
+          at_new (aside m g) = inl (path, at, (planted_off new (λ t. was (old ++ t)) (with_subtree_moved old (λ t. None) was) path g ∙ planted_off old (λ t. None) was path f ∙ k, s))
           at_new (beyond t e g) =
               let none : t ≡ [] = c.alone t at (ap was (sym e) ∙ k) in
               let here : at ≡ d = same_Some at d (sym k ∙ ap was (e ∙ ap (λ z. new ++ z) none ∙ append-nil new) ∙ c.there) in
@@ -66,7 +66,7 @@ module _ (was : Path → Option (ℕ × ℕ)) (old new : Path) (d : ℕ × ℕ) 
 
 -- The first step makes the rename, with the sync bit set; the second drops the pair o of the directory.
 module _ (disk middle new : Disk) (ps : List Pair) (old_path new_path : Path) (d : ℕ × ℕ) (chain front : List Pair) (x o y : Pair) (back : List Pair)
-    (first : IsTaken disk ps middle (chain ++ (front ++ x ∷ o ∷ back)) (renamed old_path new_path) (rename_walk old_path new_path)) (ready : IsReady middle chain (front ++ x ∷ o ∷ back))
+    (first : IsOnlyStep disk ps middle (chain ++ (front ++ x ∷ o ∷ back)) (renamed old_path new_path) (rename_walk old_path new_path)) (ready : IsReady middle chain (front ++ x ∷ o ∷ back))
     (replaced : IsReplaced (directory_at (entries_in ps) (root_of ps)) old_path new_path d) (reached : AllReached ps)
     (every : (Q : ℕ × ℕ → Type 0) → All (λ z. Q z.at) (directories_in ps) → All (λ z. Q z.at) (directories_in (chain ++ (front ++ x ∷ o ∷ back))))
     (address : same_pair o.at d ≡ true) (alone : is_hard o.content.tail ≡ false) (gone : IsGone middle new chain front x o y back) where
@@ -82,7 +82,7 @@ module _ (disk middle new : Disk) (ps : List Pair) (old_path new_path : Path) (d
       go z (inl (path, at, (k, s))) = inl (path, at, (ap (λ walk. walk path) first.follows.leads ∙ k, s))
       go z (inr e) = inr (pair_on z d o.at e (pair_back o.at d address))
 
-  pub replacing_taken : IsTaken disk ps new (chain ++ (front ++ y ∷ back)) (renamed old_path new_path) (rename_walk old_path new_path)
+  pub replacing_taken : IsOnlyStep disk ps new (chain ++ (front ++ y ∷ back)) (renamed old_path new_path) (rename_walk old_path new_path)
   replacing_taken = taken_then disk middle new ps qs (chain ++ (front ++ y ∷ back)) (renamed old_path new_path) (λ t. t) (rename_walk old_path new_path) (λ z. z) (ends_same (renamed old_path new_path)) first
       (unthread middle new chain front x o y back ready (record {
         device = gone.device;

@@ -9,14 +9,14 @@ use Rattle.lfs_model.specs.Slots.{Slot, Tail, Branch, no_gstate, is_superblock, 
 use Rattle.lfs_model.specs.Thread.{Pair, ThreadDirectory, blocks_of, gstate_of, is_hard, superblocks_before}
 use Rattle.lfs_model.specs.Tree.{Path, Tree}
 use Rattle.lfs_model.specs.View.{IsAccepted}
-use Rattle.lfs_model.specs.Shown.{IsReached, Leads, directories_in, entries_in, tree_in}
+use Rattle.lfs_model.specs.Shown.{IsReached, PathLeadsTo, directories_in, entries_in, tree_in}
 use Rattle.lfs_model.specs.Profile.{IsWritable, FitsSlot, HaveSlots}
-use Rattle.lfs_model.specs.TreeEdits.{removed, planted}
+use Rattle.lfs_model.specs.TreeEdits.{tree_without, with_subtree_moved}
 use Rattle.lfs_model.specs.Operations as ops
 use Rattle.lfs_model.specs.Session.{Session}
 use Rattle.lfs_model.specs.Refusals.{as_path}
 use Rattle.lfs_model.specs.SlotEdits.{with_slots, slot_of_path}
-use Rattle.lfs_model.specs.Layout.{begin_from, onward}
+use Rattle.lfs_model.specs.Layout.{directory_begin, directory_after}
 use Rattle.lfs_model.specs.PowerLoss.{IsLeftByStop}
 use Rattle.lfs_model.proofs.LeftFiles.{ends_same}
 use Rattle.lfs_model.proofs.Counts.{Each, each_append, each_left, each_right, each_weaker}
@@ -29,7 +29,7 @@ use Rattle.lfs_model.proofs.Splices.{IsDevice, splice_change}
 use Rattle.lfs_model.proofs.Moves.{IsStep, AllReachedBut, place_at, goes_from, directory_goes, directory_goes_reached, directory_goes_unled}
 use Rattle.lfs_model.proofs.Beside.{last_site}
 use Rattle.lfs_model.proofs.Became.{fits_same}
-use Rattle.lfs_model.proofs.Writable.{IsWithin, flag}
+use Rattle.lfs_model.proofs.Writable.{IsWithin, ends_in_hard_tail}
 use Rattle.lfs_model.proofs.Profiles.{drop_writable}
 use Rattle.lfs_model.proofs.Layouts.{onward_all}
 use Rattle.lfs_model.proofs.Alike.{AreAlike, alike_itself, alike_append}
@@ -38,7 +38,7 @@ use Rattle.lfs_model.proofs.Committed.{IsCompleted, recovered_from, no_move_from
 use Rattle.lfs_model.proofs.TwoPlaces.{two, fits_fewer}
 use Rattle.lfs_model.proofs.RemovedDirectory.{IsRmdir, rmdir_completed, onward_append}
 use Rattle.lfs_model.proofs.Drops.{softened, IsStepDrop, directory_goes_beside}
-use Rattle.lfs_model.proofs.StepsTaken.{IsTaken, taken_then, within_at, fit_spliced}
+use Rattle.lfs_model.proofs.StepsTaken.{IsOnlyStep, taken_then, within_at, fit_spliced}
 use Rattle.lfs_model.proofs.Unthreaded.{Unthreads, unthread}
 use Rattle.lfs_model.proofs.Searches.{avoids_front, avoids_behind}
 
@@ -61,7 +61,7 @@ pub record IsGone (middle new : Disk) (chain front : List Pair) (x o y : Pair) (
 
 module _ (disk middle new : Disk) (w : Site) (p : Pair) (mids : List Pair) (q : Pair) (l r : List Slot) (u : Slot) (step : IsStep disk middle w p mids q [] [] [] l (u ∷ []) [] r) (other : is_superblock u ≡ false)
     (writable : IsWritable middle (thread_at w (q ∷ [])))
-    (P : Path) (a : ℕ × ℕ) (leads : Leads (thread_at w (p ∷ mids)) P a) (same : same_pair (begin_of w (p ∷ mids)) a ≡ true)
+    (P : Path) (a : ℕ × ℕ) (leads : PathLeadsTo (thread_at w (p ∷ mids)) P a) (same : same_pair (begin_of w (p ∷ mids)) a ≡ true)
     (d : ℕ × ℕ) (branch : u.struct ≡ Branch d) (empty : entries_in (thread_at w (p ∷ mids)) d ≡ []) (sync : (gstate_of (thread_at w (q ∷ []))).sync ≡ true)
     (settled : gstate_of (thread_at w (p ∷ mids)) ≡ no_gstate)
     (front : List Pair) (x o y : Pair) (back : List Pair) (there : dirs_at w (q ∷ []) ≡ front ++ x ∷ o ∷ back) (address : same_pair o.at d ≡ true) (alone : is_hard o.content.tail ≡ false)
@@ -72,7 +72,7 @@ module _ (disk middle new : Disk) (w : Site) (p : Pair) (mids : List Pair) (q : 
   abbrev path : Path
   path = P ++ u.name ∷ []
 
-  first : IsTaken disk (thread_at w (p ∷ mids)) middle (thread_at w (q ∷ [])) (removed (P ++ u.name ∷ [])) (planted (P ++ u.name ∷ []) (λ t. None))
+  first : IsOnlyStep disk (thread_at w (p ∷ mids)) middle (thread_at w (q ∷ [])) (tree_without (P ++ u.name ∷ [])) (with_subtree_moved (P ++ u.name ∷ []) (λ t. None))
   first = record { follows = directory_goes disk middle w p mids q [] [] [] l r u step other P a leads same d branch empty sync; writable = writable }
 
   thread_is : thread_at w (q ∷ []) ≡ w.chain ++ (front ++ x ∷ o ∷ back)
@@ -104,27 +104,27 @@ module _ (disk middle new : Disk) (w : Site) (p : Pair) (mids : List Pair) (q : 
         slots = gone.slots;
         tail = gone.tail;
         unled = λ other_path z k e. directory_goes_unled disk middle w p mids q [] [] [] l r u step other P a leads same d branch empty sync other_path z
-            (subst (λ xs. Leads xs other_path z) (sym thread_is) k) (pair_on d o.at z (pair_back o.at d address) e);
+            (subst (λ xs. PathLeadsTo xs other_path z) (sym thread_is) k) (pair_on d o.at z (pair_back o.at d address) e);
         reached = λ e. (alone, subst (λ xs. AllReachedBut xs o.at) thread_is but_o);
       })
 
-  pub rmdir_taken : IsTaken disk (thread_at w (p ∷ mids)) new (w.chain ++ (front ++ y ∷ back)) (removed (P ++ u.name ∷ [])) (planted (P ++ u.name ∷ []) (λ t. None))
-  rmdir_taken = taken_then disk middle new ps (thread_at w (q ∷ [])) (w.chain ++ (front ++ y ∷ back)) (removed (P ++ u.name ∷ [])) (λ t. t) (planted (P ++ u.name ∷ []) (λ t. None)) (λ z. z) (ends_same (removed (P ++ u.name ∷ []))) first
-      (subst (λ z. IsTaken middle z new (w.chain ++ (front ++ y ∷ back)) (λ t. t) (λ z. z)) (sym thread_is) second.taken)
+  pub rmdir_taken : IsOnlyStep disk (thread_at w (p ∷ mids)) new (w.chain ++ (front ++ y ∷ back)) (tree_without (P ++ u.name ∷ [])) (with_subtree_moved (P ++ u.name ∷ []) (λ t. None))
+  rmdir_taken = taken_then disk middle new ps (thread_at w (q ∷ [])) (w.chain ++ (front ++ y ∷ back)) (tree_without (P ++ u.name ∷ [])) (λ t. t) (with_subtree_moved (P ++ u.name ∷ []) (λ t. None)) (λ z. z) (ends_same (tree_without (P ++ u.name ∷ []))) first
+      (subst (λ z. IsOnlyStep middle z new (w.chain ++ (front ++ y ∷ back)) (λ t. t) (λ z. z)) (sym thread_is) second.taken)
 
   pub rmdir_named : slot_of_path (thread_at w (p ∷ mids)) (P ++ u.name ∷ []) ≡ Some u
   rmdir_named = slot_there disk ps P a (place_at w l) u step.accepted leads (goes_from disk middle w p mids q [] [] [] l r u step other P a leads same)
 
 -- nothing goes on after a soft tail
 soft_end : (from : Option (ℕ × ℕ)) (xs : List Pair) (x : Pair) → is_hard x.content.tail ≡ false → onward_all from (xs ++ x ∷ []) ≡ None
-soft_end from [] x e = ap (λ b. cond b (Some (begin_from from x)) None) e
-soft_end from (z ∷ xs) x e = soft_end (onward from z) xs x e
+soft_end from [] x e = ap (λ b. cond b (Some (directory_begin from x)) None) e
+soft_end from (z ∷ xs) x e = soft_end (directory_after from z) xs x e
 
 -- ---- the pair of the entry stays, ahead of the one that goes
 
 module _ (disk middle new : Disk) (w : Site) (p q : Pair) (l r : List Slot) (u : Slot) (step : IsStep disk middle w p [] q [] [] [] l (u ∷ []) [] r) (other : is_superblock u ≡ false)
     (old_writable : IsWritable disk (thread_at w (p ∷ []))) (writable : IsWritable middle (thread_at w (q ∷ [])))
-    (P : Path) (a : ℕ × ℕ) (leads : Leads (thread_at w (p ∷ [])) P a) (same : same_pair (begin_of w (p ∷ [])) a ≡ true)
+    (P : Path) (a : ℕ × ℕ) (leads : PathLeadsTo (thread_at w (p ∷ [])) P a) (same : same_pair (begin_of w (p ∷ [])) a ≡ true)
     (d : ℕ × ℕ) (branch : u.struct ≡ Branch d) (empty : entries_in (thread_at w (p ∷ [])) d ≡ []) (sync : (gstate_of (thread_at w (q ∷ []))).sync ≡ true)
     (settled : gstate_of (thread_at w (p ∷ [])) ≡ no_gstate)
     (mid : List Pair) (x o y : Pair) (back : List Pair) (ahead : w.right ++ w.after ≡ mid ++ x ∷ o ∷ back) (address : same_pair o.at d ≡ true) (alone : is_hard o.content.tail ≡ false)
@@ -136,7 +136,7 @@ module _ (disk middle new : Disk) (w : Site) (p q : Pair) (l r : List Slot) (u :
   there : dirs_at w (q ∷ []) ≡ ((w.before ++ w.left) ++ q ∷ mid) ++ x ∷ o ∷ back
   there = ap (λ z. in_front ++ q ∷ z) ahead ∙ sym (append_assoc in_front (q ∷ mid) (x ∷ o ∷ back))
 
-  taken : IsTaken disk (thread_at w (p ∷ [])) new (w.chain ++ (((w.before ++ w.left) ++ q ∷ mid) ++ y ∷ back)) (removed (P ++ u.name ∷ [])) (planted (P ++ u.name ∷ []) (λ t. None))
+  taken : IsOnlyStep disk (thread_at w (p ∷ [])) new (w.chain ++ (((w.before ++ w.left) ++ q ∷ mid) ++ y ∷ back)) (tree_without (P ++ u.name ∷ [])) (with_subtree_moved (P ++ u.name ∷ []) (λ t. None))
   taken = rmdir_taken disk middle new w p [] q l r u step other writable P a leads same d branch empty sync settled ((w.before ++ w.left) ++ q ∷ mid) x o y back there address alone gone
 
   were : thread_at w (p ∷ []) ≡ w.chain ++ two true (w.before ++ w.left) (p ∷ []) (mid ++ x ∷ []) (o ∷ []) back
@@ -168,8 +168,8 @@ module _ (disk middle new : Disk) (w : Site) (p q : Pair) (l r : List Slot) (u :
     writable = subst (IsWritable disk) were old_writable;
     settled = ap gstate_of (sym were) ∙ settled;
     still = gone.settled;
-    walk = planted (P ++ u.name ∷ []) (λ t. None);
-    follows = subst (λ z. Follows disk z new (w.chain ++ (((w.before ++ w.left) ++ q ∷ mid) ++ y ∷ back)) (removed (P ++ u.name ∷ [])) (planted (P ++ u.name ∷ []) (λ t. None))) were taken.follows;
+    walk = with_subtree_moved (P ++ u.name ∷ []) (λ t. None);
+    follows = subst (λ z. Follows disk z new (w.chain ++ (((w.before ++ w.left) ++ q ∷ mid) ++ y ∷ back)) (tree_without (P ++ u.name ∷ [])) (with_subtree_moved (P ++ u.name ∷ []) (λ t. None))) were taken.follows;
     still_writable = taken.writable;
     held = held;
     branch = branch;
@@ -193,7 +193,7 @@ module _ (disk middle new : Disk) (w : Site) (p q : Pair) (l r : List Slot) (u :
 
 module _ (disk middle new : Disk) (w : Site) (p q : Pair) (l r : List Slot) (u : Slot) (step : IsStep disk middle w p [] q [] [] [] l (u ∷ []) [] r) (other : is_superblock u ≡ false)
     (old_writable : IsWritable disk (thread_at w (p ∷ []))) (writable : IsWritable middle (thread_at w (q ∷ [])))
-    (P : Path) (a : ℕ × ℕ) (leads : Leads (thread_at w (p ∷ [])) P a) (same : same_pair (begin_of w (p ∷ [])) a ≡ true)
+    (P : Path) (a : ℕ × ℕ) (leads : PathLeadsTo (thread_at w (p ∷ [])) P a) (same : same_pair (begin_of w (p ∷ [])) a ≡ true)
     (d : ℕ × ℕ) (branch : u.struct ≡ Branch d) (empty : entries_in (thread_at w (p ∷ [])) d ≡ []) (sync : (gstate_of (thread_at w (q ∷ []))).sync ≡ true)
     (settled : gstate_of (thread_at w (p ∷ [])) ≡ no_gstate)
     (front : List Pair) (x o y : Pair) (mid : List Pair) (behind : w.before ++ w.left ≡ front ++ x ∷ o ∷ mid) (address : same_pair o.at d ≡ true) (alone : is_hard o.content.tail ≡ false)
@@ -206,7 +206,7 @@ module _ (disk middle new : Disk) (w : Site) (p q : Pair) (l r : List Slot) (u :
   turned : (z : Pair) → (w.before ++ w.left) ++ z ∷ (w.right ++ w.after) ≡ front ++ x ∷ o ∷ (mid ++ z ∷ (w.right ++ w.after))
   turned z = ap (λ xs. xs ++ z ∷ back) behind ∙ append_assoc front (x ∷ o ∷ mid) (z ∷ back)
 
-  taken2 : IsTaken disk (thread_at w (p ∷ [])) new (w.chain ++ (front ++ y ∷ (mid ++ q ∷ (w.right ++ w.after)))) (removed (P ++ u.name ∷ [])) (planted (P ++ u.name ∷ []) (λ t. None))
+  taken2 : IsOnlyStep disk (thread_at w (p ∷ [])) new (w.chain ++ (front ++ y ∷ (mid ++ q ∷ (w.right ++ w.after)))) (tree_without (P ++ u.name ∷ [])) (with_subtree_moved (P ++ u.name ∷ []) (λ t. None))
   taken2 = rmdir_taken disk middle new w p [] q l r u step other writable P a leads same d branch empty sync settled front x o y (mid ++ q ∷ (w.right ++ w.after)) (turned q) address alone gone
 
   were2 : thread_at w (p ∷ []) ≡ w.chain ++ two false (front ++ x ∷ []) (p ∷ []) mid (o ∷ []) (w.right ++ w.after)
@@ -222,8 +222,8 @@ module _ (disk middle new : Disk) (w : Site) (p q : Pair) (l r : List Slot) (u :
     writable = subst (IsWritable disk) were2 old_writable;
     settled = ap gstate_of (sym were2) ∙ settled;
     still = gone.settled;
-    walk = planted (P ++ u.name ∷ []) (λ t. None);
-    follows = subst (λ z. Follows disk z new (w.chain ++ (front ++ y ∷ (mid ++ q ∷ (w.right ++ w.after)))) (removed (P ++ u.name ∷ [])) (planted (P ++ u.name ∷ []) (λ t. None))) were2 taken2.follows;
+    walk = with_subtree_moved (P ++ u.name ∷ []) (λ t. None);
+    follows = subst (λ z. Follows disk z new (w.chain ++ (front ++ y ∷ (mid ++ q ∷ (w.right ++ w.after)))) (tree_without (P ++ u.name ∷ [])) (with_subtree_moved (P ++ u.name ∷ []) (λ t. None))) were2 taken2.follows;
     still_writable = taken2.writable;
     held = held;
     branch = branch;
@@ -251,19 +251,19 @@ module _ (disk middle new : Disk) (w : Site) (p q : Pair) (l r : List Slot) (u :
 
 module _ (disk new : Disk) (chain before left after : List Pair) (p o q : Pair) (l r : List Slot) (u : Slot) (step : IsStepDrop disk new chain before left after p [] o q [] [] [] l (u ∷ []) [] r) (other : is_superblock u ≡ false)
     (old_writable : IsWritable disk (thread_at (last_site chain before left after) (p ∷ ([] ++ o ∷ []))))
-    (P : Path) (a : ℕ × ℕ) (leads : Leads (thread_at (last_site chain before left after) (p ∷ ([] ++ o ∷ []))) P a)
+    (P : Path) (a : ℕ × ℕ) (leads : PathLeadsTo (thread_at (last_site chain before left after) (p ∷ ([] ++ o ∷ []))) P a)
     (same : same_pair (begin_of (last_site chain before left (o ∷ after)) (p ∷ [])) a ≡ true)
     (d : ℕ × ℕ) (branch : u.struct ≡ Branch d) (empty : entries_in (thread_at (last_site chain before left after) (p ∷ ([] ++ o ∷ []))) d ≡ [])
     (settled : gstate_of (thread_at (last_site chain before left after) (p ∷ ([] ++ o ∷ []))) ≡ no_gstate) (still : gstate_of (thread_at (last_site chain before left after) (q ∷ [])) ≡ no_gstate)
     (address : same_pair o.at d ≡ true) (alone : is_hard o.content.tail ≡ false) (soft : is_hard p.content.tail ≡ false) (tail : q.content.tail ≡ softened o.content.tail)
-    (held : p.content.slots ≡ l ++ u ∷ r) (kept : q.content.slots ≡ l ++ r) (some : is_some (onward_all None (before ++ left)) ≡ true → l ++ r ≢ []) (full : flag false (before ++ left) ≡ true → l ++ r ≢ []) where
+    (held : p.content.slots ≡ l ++ u ∷ r) (kept : q.content.slots ≡ l ++ r) (some : is_some (onward_all None (before ++ left)) ≡ true → l ++ r ≢ []) (full : ends_in_hard_tail false (before ++ left) ≡ true → l ++ r ≢ []) where
   abbrev all : List Pair
   all = thread_at (last_site chain before left after) (p ∷ ([] ++ o ∷ []))
 
   abbrev those : List Pair
   those = thread_at (last_site chain before left after) (q ∷ [])
 
-  follows : Follows disk (thread_at (last_site chain before left after) (p ∷ ([] ++ o ∷ []))) new (thread_at (last_site chain before left after) (q ∷ [])) (removed (P ++ u.name ∷ [])) (planted (P ++ u.name ∷ []) (λ t. None))
+  follows : Follows disk (thread_at (last_site chain before left after) (p ∷ ([] ++ o ∷ []))) new (thread_at (last_site chain before left after) (q ∷ [])) (tree_without (P ++ u.name ∷ [])) (with_subtree_moved (P ++ u.name ∷ []) (λ t. None))
   follows = directory_goes_beside disk new chain before left after p [] o q [] [] [] l r u step other P a leads same d branch (pair_back o.at d address) empty
       (λ e. (alone, (recovered_from disk (thread_at (last_site chain before left after) (p ∷ ([] ++ o ∷ []))) step.accepted settled).reached))
 

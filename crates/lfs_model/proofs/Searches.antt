@@ -13,10 +13,10 @@ use Rattle.lfs_model.specs.Slots.{Slot, is_superblock, same_pair}
 use Rattle.lfs_model.specs.Thread.{Pair, is_hard, blocks_of, gstate_of, superblocks_before, directory_pairs}
 use Rattle.lfs_model.specs.Tree.{Path}
 use Rattle.lfs_model.specs.View.{IsAccepted, IsEntry}
-use Rattle.lfs_model.specs.Shown.{Leads, entries_in}
+use Rattle.lfs_model.specs.Shown.{PathLeadsTo, entries_in}
 use Rattle.lfs_model.specs.SlotEdits.{slot_of_path}
 use Rattle.lfs_model.specs.Frame.{run_of, pairs_at, pairs_of_path}
-use Rattle.lfs_model.specs.InDirectory.{entries_only, slots_in, BeginsAbove, HaveNoSuperblock, IsJoined, run_length, Runs, last_is_joined, IsBehind, BeginsAt, Stands, Belongs}
+use Rattle.lfs_model.specs.InDirectory.{entries_only, slots_in, BeginsAbove, HaveNoSuperblock, HasHardTail, run_length, IsHardTailRun, last_is_joined, IsPairOfDirectory, BeginsAt, HasNameAtPlace, BelongsInDirectory}
 use Rattle.lfs_model.proofs.Counts.{Each, each_append, each_right, each_weaker}
 use Rattle.lfs_model.proofs.Global.{HasNoMove}
 use Rattle.lfs_model.proofs.Pairs.{pair_back, pair_on}
@@ -56,7 +56,7 @@ pub record IsDirectory (ps : List Pair) (a : ℕ × ℕ) (first : ℕ) : Type 0 
   pub directory : HasDirectory (directory_pairs ps) a
   pub number : first ≡ superblocks_before ps + length directory.before
 
-pub begins_directory : (disk : Disk) (ps : List Pair) (P : Path) (a : ℕ × ℕ) (first : ℕ) → IsAccepted disk ps → Leads ps P a → BeginsAt ps a first → IsDirectory ps a first
+pub begins_directory : (disk : Disk) (ps : List Pair) (P : Path) (a : ℕ × ℕ) (first : ℕ) → IsAccepted disk ps → PathLeadsTo ps P a → BeginsAt ps a first → IsDirectory ps a first
 begins_directory disk ps P a first ok leads b = record { directory = d; number = number }
   where
     d : HasDirectory (directory_pairs ps) a
@@ -109,7 +109,7 @@ length_run p [] after h = ap (λ b. cond b (1 + run_length after) 1) h
 length_run p (q ∷ run) after h = ap (λ b. cond b (1 + run_length (q ∷ (run ++ after))) 1) h.0 ∙ (let e = length_run q run after h.1 in omega (arith, e))
 
 -- the pairs of a directory that a path leads to, and how many they are
-pub directory_pairs_at : (disk : Disk) (ps : List Pair) (P : Path) (a : ℕ × ℕ) (ok : IsAccepted disk ps) → Leads ps P a → (d : HasDirectory (directory_pairs ps) a) → pairs_at ps a ≡ d.first ∷ d.run
+pub directory_pairs_at : (disk : Disk) (ps : List Pair) (P : Path) (a : ℕ × ℕ) (ok : IsAccepted disk ps) → PathLeadsTo ps P a → (d : HasDirectory (directory_pairs ps) a) → pairs_at ps a ≡ d.first ∷ d.run
 directory_pairs_at disk ps P a ok leads d =
     let whole : ps ≡ (take (superblocks_before ps) ps ++ d.before) ++ (d.first ∷ (d.run ++ d.after))
     = (chain_of_thread ps).0 ∙ ap (λ z. take (superblocks_before ps) ps ++ z) d.is ∙ sym (append_assoc (take (superblocks_before ps) ps) d.before (d.first ∷ (d.run ++ d.after))) in
@@ -127,7 +127,7 @@ abbrev count_at : List Pair → Option (ℕ × ℕ) → ℕ
 count_at ps None = 0
 count_at ps (Some at) = length (pairs_at ps at)
 
-pub run_length_is : (disk : Disk) (ps : List Pair) (P : Path) (a : ℕ × ℕ) (first : ℕ) → IsAccepted disk ps → Leads ps P a → BeginsAt ps a first → run_length (drop first ps) ≡ pairs_of_path ps P
+pub run_length_is : (disk : Disk) (ps : List Pair) (P : Path) (a : ℕ × ℕ) (first : ℕ) → IsAccepted disk ps → PathLeadsTo ps P a → BeginsAt ps a first → run_length (drop first ps) ≡ pairs_of_path ps P
 run_length_is disk ps P a first ok leads b =
     let i = begins_directory disk ps P a first ok leads b in
     let d = i.directory in
@@ -158,7 +158,7 @@ record Parted (run left : List Pair) (pair : Pair) (rest after : List Pair) : Ty
   rest_is : rest ≡ ys ++ after
   runs : IsRun (pair ∷ ys)
 
-run_parts : (run left : List Pair) (pair : Pair) (rest after : List Pair) → run ≢ [] → IsRun run → Each IsJoined left → left ++ pair ∷ rest ≡ run ++ after → Parted run left pair rest after
+run_parts : (run left : List Pair) (pair : Pair) (rest after : List Pair) → run ≢ [] → IsRun run → Each HasHardTail left → left ++ pair ∷ rest ≡ run ++ after → Parted run left pair rest after
 run_parts [] left pair rest after some is joined e = absurd (some refl)
 run_parts (r ∷ run) [] pair rest after some is joined e =
     let h : pair ≡ r = cc in let t : rest ≡ run ++ after = cc in
@@ -174,7 +174,7 @@ record Goes (pair : Pair) (ys later : List Pair) : Type 0 where
   is : ys ≡ later ++ more
   last : last_is_joined pair later ≡ false → more ≡ []
 
-goes : (pair : Pair) (ys later rest after : List Pair) → IsRun (pair ∷ ys) → Runs pair later → later ++ rest ≡ ys ++ after → Goes pair ys later
+goes : (pair : Pair) (ys later rest after : List Pair) → IsRun (pair ∷ ys) → IsHardTailRun pair later → later ++ rest ≡ ys ++ after → Goes pair ys later
 goes pair [] [] rest after is runs e = record { more = []; is = refl; last = λ k. refl }
 goes pair (y ∷ ys) [] rest after is runs e = record { more = y ∷ ys; is = refl; last = λ k. absurd (let j = is.0 in cc) }
 goes pair [] (q ∷ later) rest after is runs e = absurd (let j = runs.0 in cc)
@@ -185,7 +185,7 @@ goes pair (y ∷ ys) (q ∷ later) rest after is runs e =
 
 -- ---- the site
 
-module _ (disk : Disk) (ps : List Pair) (P : Path) (a : ℕ × ℕ) (ok : IsAccepted disk ps) (leads : Leads ps P a) (first index : ℕ) (pair : Pair) (rest : List Pair) (b : IsBehind ps first index pair rest)
+module _ (disk : Disk) (ps : List Pair) (P : Path) (a : ℕ × ℕ) (ok : IsAccepted disk ps) (leads : PathLeadsTo ps P a) (first index : ℕ) (pair : Pair) (rest : List Pair) (b : IsPairOfDirectory ps first index pair rest)
     (begins : BeginsAt ps a first) where
   abbrev chain : List Pair
   chain = take (superblocks_before ps) ps
@@ -236,15 +236,15 @@ module _ (disk : Disk) (ps : List Pair) (P : Path) (a : ℕ × ℕ) (ok : IsAcce
 
 -- ---- a name that stands there
 
-pub slot_of_stands : (disk : Disk) (ps : List Pair) (P : Path) (a : ℕ × ℕ) (ok : IsAccepted disk ps) (leads : Leads ps P a) (first index id : ℕ) (name : Name) → HasNoMove (gstate_of ps)
-    → (s : Stands ps first name index id) → BeginsAt ps a first → slot_of_path ps (P ++ name ∷ []) ≡ Some s.stands.slot
+pub slot_of_stands : (disk : Disk) (ps : List Pair) (P : Path) (a : ℕ × ℕ) (ok : IsAccepted disk ps) (leads : PathLeadsTo ps P a) (first index id : ℕ) (name : Name) → HasNoMove (gstate_of ps)
+    → (s : HasNameAtPlace ps first name index id) → BeginsAt ps a first → slot_of_path ps (P ++ name ∷ []) ≡ Some s.stands.slot
 slot_of_stands disk ps P a ok leads first index id name none s begins =
     let w = site disk ps P a ok leads first index s.pair s.rest s.place begins in
     let is = thread_is disk ps P a ok leads first index s.pair s.rest s.place begins in
     subst (λ z. slot_of_path ps (P ++ z ∷ []) ≡ Some s.stands.slot) s.stands.named
     (subst (λ z. slot_of_path z (P ++ s.stands.slot.name ∷ []) ≡ Some s.stands.slot) (sym is)
     (slot_found disk w s.pair s.stands.left s.stands.slot s.stands.right P a (subst (IsAccepted disk) is ok) (is_site disk ps P a ok leads first index s.pair s.rest s.place begins)
-    (subst (λ z. HasNoMove (gstate_of z)) is none) (subst (λ z. Leads z P a) is leads) (same disk ps P a ok leads first index s.pair s.rest s.place begins) s.stands.held s.stands.entry))
+    (subst (λ z. HasNoMove (gstate_of z)) is none) (subst (λ z. PathLeadsTo z P a) is leads) (same disk ps P a ok leads first index s.pair s.rest s.place begins) s.stands.held s.stands.entry))
 
 -- ---- a name that belongs there
 
@@ -259,8 +259,8 @@ last_of [] n = absurd (n refl)
 last_of (x ∷ []) n = record { front = []; last = x; is = refl }
 last_of (x ∷ y ∷ xs) n = let l = last_of (y ∷ xs) (λ e. absurd (cc)) in record { front = x ∷ l.front; last = l.last; is = ap (λ z. x ∷ z) l.is }
 
-module _ (disk : Disk) (ps : List Pair) (P : Path) (a : ℕ × ℕ) (ok : IsAccepted disk ps) (leads : Leads ps P a) (first index id : ℕ) (name : Name) (none : HasNoMove (gstate_of ps))
-    (b : Belongs disk.order ps first name index id) (begins : BeginsAt ps a first) where
+module _ (disk : Disk) (ps : List Pair) (P : Path) (a : ℕ × ℕ) (ok : IsAccepted disk ps) (leads : PathLeadsTo ps P a) (first index id : ℕ) (name : Name) (none : HasNoMove (gstate_of ps))
+    (b : BelongsInDirectory disk.order ps first name index id) (begins : BeginsAt ps a first) where
   abbrev at_site : Site
   at_site = site disk ps P a ok leads first index b.pair (b.later ++ b.rest) b.place begins
 

@@ -7,12 +7,12 @@ use Rattle.lfs_model.specs.Shown.{tree_in}
 use Rattle.lfs_model.specs.Operations as ops
 use Rattle.lfs_model.specs.Operations.{Operation, Reply, Refusal, BadFile}
 use Rattle.lfs_model.specs.Session.{Session, Surroundings, Reader, reader_of, file_of, refuse_if}
-use Rattle.lfs_model.specs.Effects.{applied, reply_or, read_effect}
+use Rattle.lfs_model.specs.Effects.{refusal_or_effect, reply_or, read_effect}
 use Rattle.lfs_model.specs.Refusals.{refusal_of}
-use Rattle.lfs_model.specs.State.{State, HasFailed, Healthy, is_remount, answered_in, remounted, mounted}
+use Rattle.lfs_model.specs.State.{State, HasFailed, Healthy, is_remount, answer_of_state, remounted, mounted}
 use Rattle.lfs_model.specs.Fresh.{IsFresh, fresh_pair, empty_tree}
-use Rattle.lfs_model.specs.Headline.{AgreesWithDisk, is_question, IsFromScratch, read_from, IsReadFromScratch, AreParted}
-use Rattle.lfs_model.specs.Run.{SystemState, Shows, Agrees, IsSessionStep, AreSessionSteps}
+use Rattle.lfs_model.specs.Headline.{AgreesWithDisk, is_question, IsFromScratch, read_from, IsReadFromScratch, AreRunParts}
+use Rattle.lfs_model.specs.Run.{SystemState, Shows, AgreesWithTree, IsSessionStep, AreSessionSteps}
 use Rattle.lfs_model.proofs.Uniqueness.{one_thread}
 use Rattle.lfs_model.proofs.Fresh.{accepted, shows}
 
@@ -26,7 +26,7 @@ session_steps_joined (op ∷ operations) more [] others a b c e h = absurd e
 session_steps_joined (op ∷ operations) more (reply ∷ replies) others a b c (next, (turn, rest)) h =
     (next, (turn, session_steps_joined operations more replies others next b c rest h))
 
-pub session_steps_parted : (operations more : List Operation) (replies : List Reply) (a c : SystemState) → AreSessionSteps a (operations ++ more) replies c → AreParted operations more replies a c
+pub session_steps_parted : (operations more : List Operation) (replies : List Reply) (a c : SystemState) → AreSessionSteps a (operations ++ more) replies c → AreRunParts operations more replies a c
 session_steps_parted [] more replies a c h = record { between = a; front = []; back = replies; joined = refl; first = refl; second = h }
 session_steps_parted (op ∷ operations) more [] a c h = absurd h
 session_steps_parted (op ∷ operations) more (reply ∷ replies) a c (next, (turn, rest)) =
@@ -46,7 +46,7 @@ session_step_is_healthy from to op reply turn h = go (is_remount op) (from.state
     remounts None e = absurd (let k = ap (λ (z : Option Reply × State). z.0) e in cc)
     remounts (Some tree) e = subst IsHealthy (ap (λ (z : Option Reply × State). z.1) e) tt
 
-    go : (b : Bool) (state : State) → IsHealthy state → (shown : Option _) → cond b (remounted shown) (answered_in turn.answered.around state op) ≡ (Some reply, to.state) → IsHealthy to.state
+    go : (b : Bool) (state : State) → IsHealthy state → (shown : Option _) → cond b (remounted shown) (answer_of_state turn.answered.around state op) ≡ (Some reply, to.state) → IsHealthy to.state
     go true state k shown e = remounts shown e
     go false HasFailed k shown e = absurd k
     go false (Healthy s) k shown e = subst IsHealthy (ap (λ (z : Option Reply × State). z.1) e) tt
@@ -58,18 +58,18 @@ session_steps_are_healthy (op ∷ operations) [] from to e h = absurd e
 session_steps_are_healthy (op ∷ operations) (reply ∷ replies) from to (next, (turn, rest)) h =
     session_steps_are_healthy operations replies next to rest (session_step_is_healthy from next op reply turn h)
 
-pub session_steps_agree : (operations : List Operation) (replies : List Reply) (from to : SystemState) → AreSessionSteps from operations replies to → Agrees from.disk from.state → Agrees to.disk to.state
-session_steps_agree [] [] from to e h = subst (λ (m : SystemState). Agrees m.disk m.state) e h
+pub session_steps_agree : (operations : List Operation) (replies : List Reply) (from to : SystemState) → AreSessionSteps from operations replies to → AgreesWithTree from.disk from.state → AgreesWithTree to.disk to.state
+session_steps_agree [] [] from to e h = subst (λ (m : SystemState). AgreesWithTree m.disk m.state) e h
 session_steps_agree [] (reply ∷ replies) from to e h = absurd e
 session_steps_agree (op ∷ operations) [] from to e h = absurd e
 session_steps_agree (op ∷ operations) (reply ∷ replies) from to (next, (turn, rest)) h = session_steps_agree operations replies next to rest turn.agrees
 
 -- ---- from a fresh disk
 
-pub true_from : (at : SystemState) → IsHealthy at.state → Agrees at.disk at.state → AgreesWithDisk at
+pub true_from : (at : SystemState) → IsHealthy at.state → AgreesWithTree at.disk at.state → AgreesWithDisk at
 true_from at h a = go at.state refl h a
   where
-    go : (state : State) → at.state ≡ state → IsHealthy state → Agrees at.disk state → AgreesWithDisk at
+    go : (state : State) → at.state ≡ state → IsHealthy state → AgreesWithTree at.disk state → AgreesWithDisk at
     go HasFailed e k b = absurd k
     go (Healthy s) e k b = record { session = s; healthy = e; shows = b }
 
@@ -83,7 +83,7 @@ same_reply None s t x y e = e
 same_reply (Some error) s t x y e = refl
 
 -- the answer doesn't depend on open files
-of_tree : (around : Surroundings) (s : Session) (op : Operation) → is_question op ≡ true → (applied around s op).0 ≡ (applied around (mounted s.tree) op).0
+of_tree : (around : Surroundings) (s : Session) (op : Operation) → is_question op ≡ true → (refusal_or_effect around s op).0 ≡ (refusal_or_effect around (mounted s.tree) op).0
 of_tree around s (ops.ListAll path) e = same_reply (refusal_of around s (ops.ListAll path)) s (mounted s.tree) _ _ refl
 of_tree around s (ops.Stat path) e = same_reply (refusal_of around s (ops.Stat path)) s (mounted s.tree) _ _ refl
 of_tree around s (ops.GetAttr path kind) e = same_reply (refusal_of around s (ops.GetAttr path kind)) s (mounted s.tree) _ _ refl
@@ -106,17 +106,17 @@ question_answered from to op reply known asks turn =
       accepted = s.1.0;
       around = a.around;
       surrounds = s.1.1;
-      is = is_answer a.around (sym (ap (λ b. cond b (remounted a.shown) (answered_in a.around from.state op)) (not_remount op asks)) ∙ a.answers)
+      is = is_answer a.around (sym (ap (λ b. cond b (remounted a.shown) (answer_of_state a.around from.state op)) (not_remount op asks)) ∙ a.answers)
           ∙ of_tree a.around known.session op asks
-          ∙ ap (λ z. (applied a.around (mounted z) op).0) (t.1.1 ∙ ap (tree_in from.disk) (one_thread (content_at from.disk) (block_count from.disk) t.0 s.0 t.1.0.thread s.1.0.thread));
+          ∙ ap (λ z. (refusal_or_effect a.around (mounted z) op).0) (t.1.1 ∙ ap (tree_in from.disk) (one_thread (content_at from.disk) (block_count from.disk) t.0 s.0 t.1.0.thread s.1.0.thread));
     }
   where
-    is_answer : (around : Surroundings) → answered_in around from.state op ≡ (Some reply, to.state) → reply ≡ (applied around known.session op).0
+    is_answer : (around : Surroundings) → answer_of_state around from.state op ≡ (Some reply, to.state) → reply ≡ (refusal_or_effect around known.session op).0
     is_answer around e =
-        let k : Some (applied around known.session op).0 ≡ Some reply = ap (λ (z : Option Reply × State). z.0) (sym (ap (λ state. answered_in around state op) known.healthy) ∙ e) in
-        sym (same_Some (applied around known.session op).0 reply k)
+        let k : Some (refusal_or_effect around known.session op).0 ≡ Some reply = ap (λ (z : Option Reply × State). z.0) (sym (ap (λ state. answer_of_state around state op) known.healthy) ∙ e) in
+        sym (same_Some (refusal_or_effect around known.session op).0 reply k)
 
-reader_reply : (around : Surroundings) (s : Session) (fd count : ℕ) → (applied around s (ops.Read fd count)).0 ≡ read_from s.tree (reader_of (file_of s.files fd)) count
+reader_reply : (around : Surroundings) (s : Session) (fd count : ℕ) → (refusal_or_effect around s (ops.Read fd count)).0 ≡ read_from s.tree (reader_of (file_of s.files fd)) count
 reader_reply around s fd count = go (reader_of (file_of s.files fd))
   where
     go : (r : Option Reader) → (reply_or (refuse_if (is_none r) BadFile) s (read_effect s fd count r)).0 ≡ read_from s.tree r count
@@ -133,7 +133,7 @@ reader_answered from to fd count reply known turn =
       accepted = t.1.0;
       session = known.session;
       healthy = known.healthy;
-      is = sym (same_Some (applied a.around known.session (ops.Read fd count)).0 reply (ap (λ (z : Option Reply × State). z.0) (sym (ap (λ state. answered_in a.around state (ops.Read fd count)) known.healthy) ∙ a.answers)))
+      is = sym (same_Some (refusal_or_effect a.around known.session (ops.Read fd count)).0 reply (ap (λ (z : Option Reply × State). z.0) (sym (ap (λ state. answer_of_state a.around state (ops.Read fd count)) known.healthy) ∙ a.answers)))
           ∙ reader_reply a.around known.session fd count
           ∙ ap (λ z. read_from z (reader_of (file_of known.session.files fd)) count) t.1.1;
     }

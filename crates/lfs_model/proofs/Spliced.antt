@@ -5,11 +5,11 @@ use Rattle.lfs_model.specs.Slots.{Slot}
 use Rattle.lfs_model.specs.Thread.{Pair}
 use Rattle.lfs_model.specs.SlotEdits.{with_slots, IsSpliced}
 use Rattle.lfs_model.specs.Layout.{slots_of}
-use Rattle.lfs_model.proofs.Sites.{Among, among_left, among_right}
+use Rattle.lfs_model.proofs.Sites.{SomeIn, among_left, among_right}
 
 -- a slot that comes is among those that stand then
-pub comes : (v : Slot) (olds : List Slot) (old new : List Pair) → IsSpliced olds (v ∷ []) old new → Among (λ s. s ≡ v) (slots_of new)
-comes v olds old new h = subst (λ qs. Among (λ s. s ≡ v) (slots_of qs)) (sym h.is)
-    (subst (Among (λ s. s ≡ v)) (sym (flat_map-append (λ (p : Pair). p.content.slots) h.before (with_slots (h.left ++ v ∷ h.right) h.pair ∷ h.after)))
+pub comes : (v : Slot) (olds : List Slot) (old new : List Pair) → IsSpliced olds (v ∷ []) old new → SomeIn (λ s. s ≡ v) (slots_of new)
+comes v olds old new h = subst (λ qs. SomeIn (λ s. s ≡ v) (slots_of qs)) (sym h.is)
+    (subst (SomeIn (λ s. s ≡ v)) (sym (flat_map-append (λ (p : Pair). p.content.slots) h.before (with_slots (h.left ++ v ∷ h.right) h.pair ∷ h.after)))
     (among_right (λ s. s ≡ v) (slots_of h.before) (slots_of (with_slots (h.left ++ v ∷ h.right) h.pair ∷ h.after))
     (among_left (λ s. s ≡ v) (h.left ++ v ∷ h.right) (slots_of h.after) (among_right (λ s. s ≡ v) h.left (v ∷ h.right) (inl refl)))))

@@ -10,9 +10,9 @@ use Rattle.lfs_model.specs.Stops.{Stops, ErasesCleanly}
 use Rattle.lfs_model.specs.FailedCalls.{FailAsStopped}
 use Rattle.lfs_model.specs.Operations.{Operation}
 use Rattle.lfs_model.specs.PowerLoss.{FailsAsStopped, IsAtWork, IsLeftByStop, SurvivesStops, SurvivesLoss, with_blocks}
-use Rattle.lfs_model.specs.Run.{Agrees, SystemState}
+use Rattle.lfs_model.specs.Run.{AgreesWithTree, SystemState}
 use Rattle.lfs_model.specs.Session.{Session, Surroundings}
-use Rattle.lfs_model.specs.Effects.{applied}
+use Rattle.lfs_model.specs.Effects.{refusal_or_effect}
 use Rattle.lfs_model.specs.Shown.{tree_in}
 use Rattle.lfs_model.specs.Standing.{IsOneDevice}
 use Rattle.lfs_model.specs.Thread.{Pair}
@@ -73,14 +73,14 @@ one_device from to called then now conforms same = record {
   conforms = conforms;
 }
 
-pub device_survives_loss : (from to : SystemState) (op : Operation) → Agrees from.disk from.state → IsOneDevice from to → SurvivesStops from op to → SurvivesLoss from op to
+pub device_survives_loss : (from to : SystemState) (op : Operation) → AgreesWithTree from.disk from.state → IsOneDevice from to → SurvivesStops from op to → SurvivesLoss from op to
 device_survives_loss from to op agrees device survives = record { stops = survives; stands = behind }
   where
     behind : (s : Session) (ps : List Pair) (around : Surroundings) → IsAtWork from s ps around
-        → EachSince ErasesCleanly from.calls to.calls → EachSince FailsAsStopped from.calls to.calls → IsLeftByStop to.disk s.tree (applied around s op).1.tree
+        → EachSince ErasesCleanly from.calls to.calls → EachSince FailsAsStopped from.calls to.calls → IsLeftByStop to.disk s.tree (refusal_or_effect around s op).1.tree
     behind s ps around work cleanly fails =
-        let after : Tree = (applied around s op).1.tree in
-        let tree = one_tree from.disk (tree_in from.disk ps) s.tree (ps, (work.accepted, refl)) (subst (Agrees from.disk) work.healthy agrees) in
+        let after : Tree = (refusal_or_effect around s op).1.tree in
+        let tree = one_tree from.disk (tree_in from.disk ps) s.tree (ps, (work.accepted, refl)) (subst (AgreesWithTree from.disk) work.healthy agrees) in
         let here = left_before from.disk ps s.tree after work.accepted work.writable tree in
         subst (λ (disk : Disk). IsLeftByStop disk s.tree after) (sym device.same)
         (stands {P = λ blocks. IsLeftByStop (with_blocks blocks from.disk) s.tree after} to.disk.blocks

@@ -13,9 +13,9 @@ use Rattle.lfs_model.specs.Operations.{Operation, Reply, Refusal, Failed}
 use Rattle.lfs_model.specs.Session.{Session, Surroundings, Reader, reader_of, file_of}
 use Rattle.lfs_model.specs.Refusals.{refusal_of}
 use Rattle.lfs_model.specs.Effects.{effect_of, read_effect, reply_or}
-use Rattle.lfs_model.specs.State.{Surrounds, State, HasFailed, Healthy, is_remount, remounted, answered_in, mounted}
+use Rattle.lfs_model.specs.State.{Surrounds, State, HasFailed, Healthy, is_remount, remounted, answer_of_state, mounted}
 use Rattle.lfs_model.specs.Recovery.{IsRecovered, recovers}
-use Rattle.lfs_model.specs.Run.{IsAnswered, is_refusal, only_asks, creates_nothing, fills, needs_no_call, renames_to_itself, is_recover, lays_out, NoWrites, IsUntouched, IsEffectOnDisk, IsSessionStep}
+use Rattle.lfs_model.specs.Run.{IsReplyFromDisk, is_refusal, only_asks, creates_nothing, fills, needs_no_call, renames_to_itself, is_recover, lays_out, NoWrites, IsUntouched, IsEffectOnDisk, IsSessionStep}
 use Rattle.lfs_model.proofs.Uniqueness.{one_thread}
 use Rattle.lfs_model.proofs.Arranged.{IsFinished}
 
@@ -33,13 +33,13 @@ pub record IsOver (disk : Disk) (ps : List Pair) (s : Session) (around : Surroun
   pub tree : s.tree ≡ tree_in disk ps
 
 answered_by : (disk : Disk) (ps : List Pair) (s : Session) (around : Surroundings) (op : Operation) (reply : Reply) (after : Session) → IsOver disk ps s around → is_remount op ≡ false →
-    reply_or (refusal_of around s op) s (effect_of around s op) ≡ (reply, after) → IsAnswered disk (Healthy s) op reply (Healthy after)
+    reply_or (refusal_of around s op) s (effect_of around s op) ≡ (reply, after) → IsReplyFromDisk disk (Healthy s) op reply (Healthy after)
 answered_by disk ps s around op reply after over other e = record {
   around = around;
   shown = None;
   surrounds = λ t f. (ps, (over.accepted, over.surrounds));
   shows = λ f. absurd (let k = sym other ∙ f in cc);
-  answers = ap (λ b. cond b (remounted None) (answered_in around (Healthy s) op)) other ∙ ap (λ z. (Some z.0, Healthy z.1)) e;
+  answers = ap (λ b. cond b (remounted None) (answer_of_state around (Healthy s) op)) other ∙ ap (λ z. (Some z.0, Healthy z.1)) e;
 }
 
 -- what an applied operation does is said of any pairs, and those of an accepted disk are known
@@ -227,7 +227,7 @@ failed_step disk around op old other = record {
     shown = None;
     surrounds = λ s e. absurd (cc);
     shows = λ f. absurd (let k = sym other ∙ f in cc);
-    answers = ap (λ b. cond b (remounted None) (answered_in around HasFailed op)) other;
+    answers = ap (λ b. cond b (remounted None) (answer_of_state around HasFailed op)) other;
   };
   agrees = tt;
   geometry = record { block_size = refl; page = refl; order = refl; count = refl };

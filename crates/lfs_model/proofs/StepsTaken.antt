@@ -7,9 +7,9 @@ use Rattle.lfs_model.specs.Slots.{Slot, Tail, same_pair, FitsPair}
 use Rattle.lfs_model.specs.Thread.{Pair, is_hard}
 use Rattle.lfs_model.specs.Tree.{Path, Tree}
 use Rattle.lfs_model.specs.Profile.{IsWritable, FitsSlot, HaveSlots}
-use Rattle.lfs_model.specs.Shown.{Leads, tree_in}
+use Rattle.lfs_model.specs.Shown.{PathLeadsTo, tree_in}
 use Rattle.lfs_model.specs.SlotEdits.{with_slots}
-use Rattle.lfs_model.specs.Layout.{Fits}
+use Rattle.lfs_model.specs.Layout.{FitsOnDisk}
 use Rattle.lfs_model.specs.PowerLoss.{IsLeftByStop}
 use Rattle.lfs_model.proofs.Counts.{Each, each_append, each_left, each_right, each_pieces}
 use Rattle.lfs_model.proofs.Laws.{Walk}
@@ -24,21 +24,21 @@ use Rattle.lfs_model.proofs.MoveSets.{IsMoveSet}
 use Rattle.lfs_model.proofs.Rests.{IsMoveEnd}
 use Rattle.lfs_model.proofs.Writable.{IsWithin}
 use Rattle.lfs_model.proofs.Became.{Became, became_within, became_filled, fits_same, cut_some}
-use Rattle.lfs_model.proofs.Writable.{flag}
+use Rattle.lfs_model.proofs.Writable.{ends_in_hard_tail}
 use Rattle.lfs_model.proofs.LeftFiles.{Parts}
 use Rattle.lfs_model.proofs.MadeDirectory.{Cut, follows_then}
 use Rattle.lfs_model.proofs.Profiles.{step_writable, drop_writable, beside_writable, set_writable, end_writable}
-use Rattle.lfs_model.specs.Steps.{IsTaken}
-pub use Rattle.lfs_model.specs.Steps.{IsTaken}
+use Rattle.lfs_model.specs.Steps.{IsOnlyStep}
+pub use Rattle.lfs_model.specs.Steps.{IsOnlyStep}
 
 -- ---- what a step comes to
 
 -- one after another
-pub taken_then : (a b c : Disk) (ps qs rs : List Pair) (f g : Tree → Tree) (v w : Walk → Walk) → Parts f g → IsTaken a ps b qs f v → IsTaken b qs c rs g w → IsTaken a ps c rs (λ t. g (f t)) (λ d. w (v d))
+pub taken_then : (a b c : Disk) (ps qs rs : List Pair) (f g : Tree → Tree) (v w : Walk → Walk) → Parts f g → IsOnlyStep a ps b qs f v → IsOnlyStep b qs c rs g w → IsOnlyStep a ps c rs (λ t. g (f t)) (λ d. w (v d))
 taken_then a b c ps qs rs f g v w parts first second = record { follows = follows_then a b c ps qs rs f g v w parts first.follows second.follows; writable = second.writable }
 
 -- the tree is still the one from before, or already the one from after it
-pub taken_before : (disk : Disk) (ps : List Pair) (new : Disk) (qs : List Pair) (walk : Walk → Walk) (after : Tree) → IsTaken disk ps new qs (λ t. t) walk → IsLeftByStop new (tree_in disk ps) after
+pub taken_before : (disk : Disk) (ps : List Pair) (new : Disk) (qs : List Pair) (walk : Walk → Walk) (after : Tree) → IsOnlyStep disk ps new qs (λ t. t) walk → IsLeftByStop new (tree_in disk ps) after
 taken_before disk ps new qs walk after step = record { pairs = qs; accepted = step.follows.accepted; writable = step.writable; tree = inl step.follows.shows }
 
 -- ---- the profile of a pair that changes
@@ -46,7 +46,7 @@ taken_before disk ps new qs walk after step = record { pairs = qs; accepted = st
 -- the pair of a site keeps to the profile
 pub within_at : (disk : Disk) (w : Site) (p : Pair) (rest : List Pair) → IsWritable disk (thread_at w (p ∷ rest)) → IsWithin disk.block_size disk.page p
 within_at disk w p rest ok = record {
-  pair = here (Fits disk) (recursion_from_All (Fits disk) (thread_at w (p ∷ rest)) ok.pairs);
+  pair = here (FitsOnDisk disk) (recursion_from_All (FitsOnDisk disk) (thread_at w (p ∷ rest)) ok.pairs);
   slots = here (λ (x : Pair). All (FitsSlot disk.block_size disk.page) x.content.slots) (recursion_from_All (λ (x : Pair). All (FitsSlot disk.block_size disk.page) x.content.slots) (thread_at w (p ∷ rest)) ok.slots);
 }
   where
@@ -74,18 +74,18 @@ pub record IsPut (disk : Disk) (w : Site) (p q : Pair) (more : List Pair) (l old
   pub is : slots_in (q ∷ more) ≡ l ++ (news ++ r)
   pub became : Became disk p (with_slots (l ++ (news ++ r)) p) q more
   pub fit : Each (FitsSlot disk.block_size disk.page) news
-  pub filled : flag false (w.before ++ w.left) ≡ true → l ++ (news ++ r) ≢ []
+  pub filled : ends_in_hard_tail false (w.before ++ w.left) ≡ true → l ++ (news ++ r) ≢ []
 
 module _ (disk : Disk) (w : Site) (p q : Pair) (more : List Pair) (l olds news r : List Slot) (c : IsPut disk w p q more l olds news r) where
   pub put_within : Each (IsWithin disk.block_size disk.page) (q ∷ more)
   put_within = became_within disk p (with_slots (l ++ (news ++ r)) p) q more c.is c.became (fit_spliced disk p l olds news r (within_at disk w p [] c.writable) c.was c.fit)
 
-  pub put_filled : HaveSlots (flag false (w.before ++ w.left)) (p ∷ [] ++ (w.right ++ w.after)) → HaveSlots (flag false (w.before ++ w.left)) (q ∷ more ++ (w.right ++ w.after))
-  put_filled h = became_filled disk p (with_slots (l ++ (news ++ r)) p) q more (w.right ++ w.after) c.is c.became (flag false (w.before ++ w.left)) c.filled h
+  pub put_filled : HaveSlots (ends_in_hard_tail false (w.before ++ w.left)) (p ∷ [] ++ (w.right ++ w.after)) → HaveSlots (ends_in_hard_tail false (w.before ++ w.left)) (q ∷ more ++ (w.right ++ w.after))
+  put_filled h = became_filled disk p (with_slots (l ++ (news ++ r)) p) q more (w.right ++ w.after) c.is c.became (ends_in_hard_tail false (w.before ++ w.left)) c.filled h
 
   -- a commit that changes slots, and perhaps the delta of the global state but for a move
   pub commit_taken : (new : Disk) (extra fresh : List ℕ) (change : Tree → Tree) (walk : Walk → Walk) → IsStep disk new w p [] q more extra fresh l olds news r
-      → Follows disk (thread_at w (p ∷ [])) new (thread_at w (q ∷ more)) change walk → IsTaken disk (thread_at w (p ∷ [])) new (thread_at w (q ∷ more)) change walk
+      → Follows disk (thread_at w (p ∷ [])) new (thread_at w (q ∷ more)) change walk → IsOnlyStep disk (thread_at w (p ∷ [])) new (thread_at w (q ∷ more)) change walk
   commit_taken new extra fresh change walk step follows = record {
     follows = follows;
     writable = step_writable disk new w p [] q more extra fresh l olds news r step c.writable put_within put_filled;
@@ -94,7 +94,7 @@ module _ (disk : Disk) (w : Site) (p q : Pair) (more : List Pair) (l olds news r
   -- the first step of a rename across pairs: the slot comes, and a set move names the old one
   pub set_taken : (new : Disk) (wo : Site) (o : Pair) (lo : List Slot) (u : Slot) (ro : List Slot) (extra : List ℕ) (v : Slot) (change : Tree → Tree) (walk : Walk → Walk)
       → IsMoveSet disk new wo o lo u ro w p [] q more extra l olds v r → Follows disk (thread_at w (p ∷ [])) new (thread_at w (q ∷ more)) change walk
-      → IsTaken disk (thread_at w (p ∷ [])) new (thread_at w (q ∷ more)) change walk
+      → IsOnlyStep disk (thread_at w (p ∷ [])) new (thread_at w (q ∷ more)) change walk
   set_taken new wo o lo u ro extra v change walk step follows = record {
     follows = follows;
     writable = set_writable disk new wo o lo u ro w p [] q more extra l olds v r step c.writable put_within put_filled;
@@ -102,7 +102,7 @@ module _ (disk : Disk) (w : Site) (p q : Pair) (more : List Pair) (l olds news r
 
 -- the second one: the old slot goes, and the set move ends
 pub end_taken : (disk new : Disk) (w : Site) (p q : Pair) (more : List Pair) (l : List Slot) (u : Slot) (r : List Slot) (change : Tree → Tree) (walk : Walk → Walk) → IsPut disk w p q more l (u ∷ []) [] r
-    → IsMoveEnd disk new w p [] q more l u r → Follows disk (thread_at w (p ∷ [])) new (thread_at w (q ∷ more)) change walk → IsTaken disk (thread_at w (p ∷ [])) new (thread_at w (q ∷ more)) change walk
+    → IsMoveEnd disk new w p [] q more l u r → Follows disk (thread_at w (p ∷ [])) new (thread_at w (q ∷ more)) change walk → IsOnlyStep disk (thread_at w (p ∷ [])) new (thread_at w (q ∷ more)) change walk
 end_taken disk new w p q more l u r change walk c step follows = record {
   follows = follows;
   writable = end_writable disk new w p [] q more l u r step c.writable (put_within disk w p q more l (u ∷ []) [] r c) (put_filled disk w p q more l (u ∷ []) [] r c);
@@ -120,12 +120,12 @@ module _ (disk : Disk) (w : Site) (p o q : Pair) (c : IsTakenOver disk w p o q) 
   over_within : Each (IsWithin disk.block_size disk.page) (q ∷ [])
   over_within = (within_same disk p q c.slots (within_at disk w p (o ∷ []) c.writable), tt)
 
-  over_filled : HaveSlots (flag false (w.before ++ w.left)) (p ∷ o ∷ [] ++ (w.right ++ w.after)) → HaveSlots (flag false (w.before ++ w.left)) (q ∷ [] ++ (w.right ++ w.after))
+  over_filled : HaveSlots (ends_in_hard_tail false (w.before ++ w.left)) (p ∷ o ∷ [] ++ (w.right ++ w.after)) → HaveSlots (ends_in_hard_tail false (w.before ++ w.left)) (q ∷ [] ++ (w.right ++ w.after))
   over_filled h = ((λ e n. h.0 e (sym c.slots ∙ n)), subst (λ t. HaveSlots (is_hard t) (w.right ++ w.after)) (sym c.tail) h.1.1)
 
   -- with its only slot
   pub drop_taken : (new : Disk) (extra fresh : List ℕ) (l olds news r : List Slot) (change : Tree → Tree) (walk : Walk → Walk) → IsStep disk new w p (o ∷ []) q [] extra fresh l olds news r
-      → Follows disk (thread_at w (p ∷ o ∷ [])) new (thread_at w (q ∷ [])) change walk → IsTaken disk (thread_at w (p ∷ o ∷ [])) new (thread_at w (q ∷ [])) change walk
+      → Follows disk (thread_at w (p ∷ o ∷ [])) new (thread_at w (q ∷ [])) change walk → IsOnlyStep disk (thread_at w (p ∷ o ∷ [])) new (thread_at w (q ∷ [])) change walk
   drop_taken new extra fresh l olds news r change walk step follows = record {
     follows = follows;
     writable = step_writable disk new w p (o ∷ []) q [] extra fresh l olds news r step c.writable over_within over_filled;
@@ -133,7 +133,7 @@ module _ (disk : Disk) (w : Site) (p o q : Pair) (c : IsTakenOver disk w p o q) 
 
   -- with the slot that the set move names
   pub end_drop_taken : (new : Disk) (l : List Slot) (u : Slot) (r : List Slot) (change : Tree → Tree) (walk : Walk → Walk) → IsMoveEnd disk new w p (o ∷ []) q [] l u r
-      → Follows disk (thread_at w (p ∷ o ∷ [])) new (thread_at w (q ∷ [])) change walk → IsTaken disk (thread_at w (p ∷ o ∷ [])) new (thread_at w (q ∷ [])) change walk
+      → Follows disk (thread_at w (p ∷ o ∷ [])) new (thread_at w (q ∷ [])) change walk → IsOnlyStep disk (thread_at w (p ∷ o ∷ [])) new (thread_at w (q ∷ [])) change walk
   end_drop_taken new l u r change walk step follows = record {
     follows = follows;
     writable = end_writable disk new w p (o ∷ []) q [] l u r step c.writable over_within over_filled;
@@ -144,7 +144,7 @@ pub unthread_taken : (disk new : Disk) (chain before left after : List Pair) (p 
     → IsWritable disk (thread_at (last_site chain before left after) (p ∷ ([] ++ o ∷ []))) → q.content.tail ≡ softened o.content.tail → q.content.slots ≡ p.content.slots
     → IsStepDrop disk new chain before left after p [] o q [] [] [] l [] [] r
     → Follows disk (thread_at (last_site chain before left after) (p ∷ ([] ++ o ∷ []))) new (thread_at (last_site chain before left after) (q ∷ [])) change walk
-    → IsTaken disk (thread_at (last_site chain before left after) (p ∷ ([] ++ o ∷ []))) new (thread_at (last_site chain before left after) (q ∷ [])) change walk
+    → IsOnlyStep disk (thread_at (last_site chain before left after) (p ∷ ([] ++ o ∷ []))) new (thread_at (last_site chain before left after) (q ∷ [])) change walk
 unthread_taken disk new chain before left after p o q l r change walk ok tail slots step follows = record {
   follows = follows;
   writable = drop_writable disk new chain before left after p [] o q [] [] [] l [] [] r step ok (within_same disk p q slots (within_at disk (last_site chain before left after) p (o ∷ []) ok), tt)
@@ -168,7 +168,7 @@ pub record IsPutBeside (disk : Disk) (w : Site) (p q : Pair) (more : List Pair) 
   pub is : slots_in (q ∷ more) ≡ l ++ (news ++ r)
   pub cut : Cut disk (with_slots (l ++ (news ++ r)) p) q more
   pub fit : Each (FitsSlot disk.block_size disk.page) news
-  pub filled : flag false (w.before ++ w.left) ≡ true → l ++ (news ++ r) ≢ []
+  pub filled : ends_in_hard_tail false (w.before ++ w.left) ≡ true → l ++ (news ++ r) ≢ []
   pub run : IsRun (q ∷ more)
   pub empty : f.content.slots ≡ []
   pub tail : f.content.tail ≡ p.content.tail
@@ -207,7 +207,7 @@ module _ (disk new : Disk) (chain before left after : List Pair) (p q : Pair) (m
   soft_front t e k = absurd (let z = sym e ∙ k in cc)
 
   beside_filled : (more : List Pair) → slots_in (q ∷ more) ≡ l ++ (news ++ r) → Cut disk (with_slots (l ++ (news ++ r)) p) q more → IsRun (q ∷ more)
-      → HaveSlots (flag false (before ++ left)) (p ∷ [] ++ after) → HaveSlots (flag false (before ++ left)) (q ∷ (more ++ f ∷ []) ++ after)
+      → HaveSlots (ends_in_hard_tail false (before ++ left)) (p ∷ [] ++ after) → HaveSlots (ends_in_hard_tail false (before ++ left)) (q ∷ (more ++ f ∷ []) ++ after)
   beside_filled [] e k run h = (
     (λ front none. c.filled front (sym (sym (append-nil q.content.slots) ∙ e) ∙ none)),
     (soft_front (is_hard q.content.tail) run, subst (λ t. HaveSlots (is_hard t) after) (sym c.tail) h.1),
@@ -218,9 +218,9 @@ module _ (disk new : Disk) (chain before left after : List Pair) (p q : Pair) (m
   beside_filled (g ∷ i ∷ more) e k run h = absurd k
 
   pub beside_taken : (extra fresh : List ℕ) (change : Tree → Tree) (walk : Walk → Walk) → IsStepBeside disk new chain before left after p [] q more f extra fresh l olds news r
-      → (P : Path) (a : ℕ × ℕ) → Leads (thread_at (last_site chain before left after) (p ∷ [])) P a → same_pair (begin_of (last_site chain before left after) (p ∷ [])) a ≡ true
+      → (P : Path) (a : ℕ × ℕ) → PathLeadsTo (thread_at (last_site chain before left after) (p ∷ [])) P a → same_pair (begin_of (last_site chain before left after) (p ∷ [])) a ≡ true
       → Follows disk (thread_at (last_site chain before left after) (p ∷ [])) new (thread_at (last_site chain before left after) (q ∷ (more ++ f ∷ []))) change walk
-      → IsTaken disk (thread_at (last_site chain before left after) (p ∷ [])) new (thread_at (last_site chain before left after) (q ∷ (more ++ f ∷ []))) change walk
+      → IsOnlyStep disk (thread_at (last_site chain before left after) (p ∷ [])) new (thread_at (last_site chain before left after) (q ∷ (more ++ f ∷ []))) change walk
   beside_taken extra fresh change walk step P a leads same follows = record {
     follows = follows;
     writable = beside_writable disk new chain before left after p [] q more f extra fresh l olds news r step P a leads same c.writable (beside_within more c.is c.cut) (beside_filled more c.is c.cut c.run);

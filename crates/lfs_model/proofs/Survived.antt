@@ -15,20 +15,20 @@ use Rattle.lfs_model.specs.Shown.{tree_in, used_blocks}
 use Rattle.lfs_model.specs.Operations as ops
 use Rattle.lfs_model.specs.Operations.{Operation, Reply, ReadOnly}
 use Rattle.lfs_model.specs.Session.{Session, Surroundings, refuse_if}
-use Rattle.lfs_model.specs.Effects.{applied, reply_or}
-use Rattle.lfs_model.specs.State.{State, Healthy, answered_in, mounted}
+use Rattle.lfs_model.specs.Effects.{refusal_or_effect, reply_or}
+use Rattle.lfs_model.specs.State.{State, Healthy, answer_of_state, mounted}
 use Rattle.lfs_model.specs.Recovery.{IsRecovered}
-use Rattle.lfs_model.specs.Run.{SystemState, Shows, Agrees, is_refusal, IsSessionStep}
+use Rattle.lfs_model.specs.Run.{SystemState, Shows, AgreesWithTree, is_refusal, IsSessionStep}
 use Rattle.lfs_model.specs.Headline.{AgreesWithDisk}
 use Rattle.lfs_model.specs.Stops.{Stops, ErasesCleanly}
 use Rattle.lfs_model.specs.PowerLoss.{IsLeftByStop, with_blocks, IsAtWork, SurvivesLoss}
-use Rattle.lfs_model.specs.Performed.{IsPerformed, ArePerformed, IsRun}
-use Rattle.lfs_model.specs.RepeatedPowerLoss.{IsMounted, SameBytes, IsRestored, IsSafe, IsStoppedSince, IsStopped, IsCutIn, IsCutAtEnd, IsCutAmong, IsSurvived, LosesPowerRepeatedly, AreSurvived, MayLosePower, SurvivesPowerLoss}
+use Rattle.lfs_model.specs.Performed.{IsPerformed, ArePerformed, IsRunOfOperations}
+use Rattle.lfs_model.specs.RepeatedPowerLoss.{IsJustMounted, SameBytes, IsRestored, IsSafe, IsStoppedSince, IsStopped, IsRunCutIn, IsCutAtEnd, IsCutAmong, IsSurvived, LosesPowerRepeatedly, AreSurvived, MayLosePower, SurvivesPowerLoss}
 use Rattle.lfs_model.specs.History.{Event, EachEvent, EachSince, LeavesOnly}
 use Rattle.lfs_model.specs.ReadBounds.{if_accepted}
 use Rattle.lfs_model.proofs.AfterStops.{left_before}
 use Rattle.lfs_model.proofs.Histories.{began, goes_on_by, EachSince-until, EachSince-behind}
-use Rattle.lfs_model.proofs.Sites.{Among, among_from, any_from, among_parts}
+use Rattle.lfs_model.proofs.Sites.{SomeIn, among_from, any_from, among_parts}
 use Rattle.lfs_model.proofs.Uniqueness.{one_thread}
 use Rattle.lfs_model.proofs.SessionSteps.{IsHealthy, true_from, session_step_is_healthy}
 use Rattle.lfs_model.proofs.Kept.{mount_begins, one_tree, turn_keeps, profile_stays}
@@ -52,10 +52,10 @@ recover_keeps from to reply ps ok fits state turn =
     let s = a.surrounds (mounted (tree_in from.disk ps)) state in
     let same = one_thread (content_at from.disk) (block_count from.disk) ps s.0 ok.thread s.1.0.thread in
     let writes = s.1.1.writable.1 (subst (IsWritable from.disk) same fits) in
-    let answer = sym (ap (λ state. answered_in a.around state ops.Recover) state) ∙ a.answers in
+    let answer = sym (ap (λ state. answer_of_state a.around state ops.Recover) state) ∙ a.answers in
     let e = allowed a.around writes ∙ answer in
     let done : reply ≡ ops.Done = sym (same_Some ops.Done reply (ap (λ (z : Option Reply × State). z.0) e)) in
-    let shown = subst (Agrees to.disk) (sym (ap (λ (z : Option Reply × State). z.1) e)) turn.agrees in
+    let shown = subst (AgreesWithTree to.disk) (sym (ap (λ (z : Option Reply × State). z.1) e)) turn.agrees in
     let carried = turn.effect_on_disk (ap is_refusal done) (mounted (tree_in from.disk ps)) state ps shown.0 ok shown.1.0 in
     record {
       done = done;
@@ -67,7 +67,7 @@ recover_keeps from to reply ps ok fits state turn =
     }
   where
     allowed : (around : Surroundings) → around.writable ≡ true →
-        (Some ops.Done, Healthy (mounted (tree_in from.disk ps))) ≡ answered_in around (Healthy (mounted (tree_in from.disk ps))) ops.Recover
+        (Some ops.Done, Healthy (mounted (tree_in from.disk ps))) ≡ answer_of_state around (Healthy (mounted (tree_in from.disk ps))) ops.Recover
     allowed around e = ap (λ b. (
       Some (reply_or (refuse_if (not b) ReadOnly) (mounted (tree_in from.disk ps)) (ops.Done, mounted (tree_in from.disk ps))).0,
       Healthy (reply_or (refuse_if (not b) ReadOnly) (mounted (tree_in from.disk ps)) (ops.Done, mounted (tree_in from.disk ps))).1,
@@ -88,7 +88,7 @@ record IsFound (disk : Disk) (ps : List Pair) (begin : SystemState) : Type 0 whe
   tree : tree_in begin.disk ps ≡ tree_in disk ps
   state : begin.state ≡ Healthy (mounted (tree_in disk ps))
 
-found : (disk other : Disk) (ps : List Pair) (begin : SystemState) → IsAccepted disk ps → IsWritable disk ps → SameBytes disk other → IsMounted other begin → IsFound disk ps begin
+found : (disk other : Disk) (ps : List Pair) (begin : SystemState) → IsAccepted disk ps → IsWritable disk ps → SameBytes disk other → IsJustMounted other begin → IsFound disk ps begin
 found disk other ps begin ok fits same m =
     let s = m.shows in
     let pairs = same_thread disk other ps s.0 same ok s.1.0 in
@@ -120,7 +120,7 @@ safe_with disk ps ok fits = record {
 
 -- a session that has its disk's tree
 shows_tree : (at : SystemState) (s : Session) → AgreesWithDisk at → at.state ≡ Healthy s → Shows at.disk (Some s.tree)
-shows_tree at s agrees healthy = subst (Agrees at.disk) (sym agrees.healthy ∙ healthy) agrees.shows
+shows_tree at s agrees healthy = subst (AgreesWithTree at.disk) (sym agrees.healthy ∙ healthy) agrees.shows
 
 stays : (at : SystemState) (s : Session) (ps : List Pair) (around : Surroundings) (after : Tree) → AgreesWithDisk at → IsAtWork at s ps around → IsLeftByStop at.disk s.tree after
 stays at s ps around after agrees work = left_before at.disk ps s.tree after work.accepted work.writable
@@ -142,19 +142,19 @@ stopped_has : (P : Blocks → Type 0) (old new : List Event) (blocks : Blocks) �
 stopped_has P old new blocks all since =
     among all.events (all.each) (among_from (λ e. Stops e blocks) all.events (subst (λ es. Any (λ e. Stops e blocks) es) (append_cancel_right since.events all.events old (sym since.extends ∙ all.extends)) since.stopped))
   where
-    among : (events : List Event) → EachEvent (λ e. (disk : Blocks) → Stops e disk → P disk) events → Among (λ e. Stops e blocks) events → P blocks
+    among : (events : List Event) → EachEvent (λ e. (disk : Blocks) → Stops e disk → P disk) events → SomeIn (λ e. Stops e blocks) events → P blocks
     among [] h k = absurd k
     among (e ∷ events) h (inl k) = h.0 blocks k
     among (e ∷ events) h (inr k) = among events h.1 k
 
 stop_leaves : (from to : SystemState) (op : Operation) (s : Session) (ps : List Pair) (around : Surroundings) (left : Disk) → AgreesWithDisk from → IsAtWork from s ps around → SurvivesLoss from op to →
-    EachSince ErasesCleanly from.calls to.calls → IsStopped from to left → IsLeftByStop left s.tree (applied around s op).1.tree
+    EachSince ErasesCleanly from.calls to.calls → IsStopped from to left → IsLeftByStop left s.tree (refusal_or_effect around s op).1.tree
 stop_leaves from to op s ps around left agrees work survives_loss cleanly stop = go stop
   where
     after : Tree
-    after = (applied around s op).1.tree
+    after = (refusal_or_effect around s op).1.tree
 
-    go : IsStopped from to left → IsLeftByStop left s.tree (applied around s op).1.tree
+    go : IsStopped from to left → IsLeftByStop left s.tree (refusal_or_effect around s op).1.tree
     go (inl e) = subst (λ d. IsLeftByStop d s.tree after) (sym e) (stays from s ps around after agrees work)
     go (inr (inl (blocks, (e, since)))) = subst (λ d. IsLeftByStop d s.tree after) (sym e)
         (stopped_has (λ b. IsLeftByStop (with_blocks b from.disk) s.tree after) from.calls to.calls blocks (survives_loss.stops s ps around work cleanly) since)
@@ -170,7 +170,7 @@ record IsSurvivedWith (Cut : Tree → Type 0) (left : Disk) : Type 0 where
 
 -- in one operation
 in_one : (from next : SystemState) (op : Operation) (left : Disk) → AgreesWithDisk from → IsInProfile from.disk → SurvivesLoss from op next →
-    EachSince ErasesCleanly from.calls next.calls → IsStopped from next left → IsSurvivedWith (IsCutIn from op next left) left
+    EachSince ErasesCleanly from.calls next.calls → IsStopped from next left → IsSurvivedWith (IsRunCutIn from op next left) left
 in_one from next op left agrees profile survives_loss cleanly stop =
     let work = at_work from agrees profile in
     let k = stop_leaves from next op agrees.session profile.0 (around_of from.disk profile.0) left agrees work survives_loss cleanly stop in
@@ -209,13 +209,13 @@ abbrev IsEither : (from next to : SystemState) (blocks : Blocks) → Type 0
 IsEither from next to blocks = IsStoppedSince from.calls next.calls blocks ⊎ IsStoppedSince next.calls to.calls blocks
 
 either_part : (from next to : SystemState) (blocks : Blocks) {P Q : Event → Type 0} → EachSince P from.calls next.calls → EachSince Q next.calls to.calls → IsStoppedSince from.calls to.calls blocks → IsEither from next to blocks
-either_part from next to blocks first second since = go (among_parts (λ e. Stops e blocks) second.events first.events (subst (Among (λ e. Stops e blocks)) same (among_from (λ e. Stops e blocks) since.events since.stopped)))
+either_part from next to blocks first second since = go (among_parts (λ e. Stops e blocks) second.events first.events (subst (SomeIn (λ e. Stops e blocks)) same (among_from (λ e. Stops e blocks) since.events since.stopped)))
   where
     same : since.events ≡ second.events ++ first.events
     same = append_cancel_right since.events (second.events ++ first.events) from.calls
         (sym since.extends ∙ second.extends ∙ ap (λ (l : List Event). second.events ++ l) first.extends ∙ sym (append_assoc second.events first.events from.calls))
 
-    go : Among (λ e. Stops e blocks) second.events ⊎ Among (λ e. Stops e blocks) first.events → IsEither from next to blocks
+    go : SomeIn (λ e. Stops e blocks) second.events ⊎ SomeIn (λ e. Stops e blocks) first.events → IsEither from next to blocks
     go (inl k) = inr (record { events = second.events; extends = second.extends; stopped = any_from (λ e. Stops e blocks) second.events k })
     go (inr k) = inl (record { events = first.events; extends = first.extends; stopped = any_from (λ e. Stops e blocks) first.events k })
 
@@ -230,11 +230,11 @@ same_blocks disk new blocks g =
 
 -- one operation before others that are survived
 further : (before : Option Operation) (op : Operation) (reply : Reply) (Others : Tree → Type 0) (from next to : SystemState) (left : Disk) → IsPerformed before from op reply next → EachSince IsAny next.calls to.calls →
-    (MayLosePower next to → IsStopped next to left → IsSurvivedWith Others left) → MayLosePower from to → IsStopped from to left → IsSurvivedWith (λ tree. IsCutIn from op next left tree ⊎ Others tree) left
+    (MayLosePower next to → IsStopped next to left → IsSurvivedWith Others left) → MayLosePower from to → IsStopped from to left → IsSurvivedWith (λ tree. IsRunCutIn from op next left tree ⊎ Others tree) left
 further before op reply Others from next to left one second last may stop = go stop
   where
     Here : Type 0
-    Here = IsSurvivedWith (λ tree. IsCutIn from op next left tree ⊎ Others tree) left
+    Here = IsSurvivedWith (λ tree. IsRunCutIn from op next left tree ⊎ Others tree) left
 
     first : EachSince IsAny from.calls next.calls
     first = calls_since from.calls next.calls one.turn.calls one.turn.called
@@ -277,12 +277,12 @@ run_survived before (op ∷ operations) (reply ∷ replies) AtEnd from at to lef
     (goes_on_by (performed_since (if_accepted op reply) operations replies next at rest) tail)
     (λ may stop. run_survived (if_accepted op reply) operations replies AtEnd next at to left rest tail last may stop) may stop
 
-once_survived : (from : SystemState) (operations : List Operation) (to : SystemState) (left : Disk) (run : IsRun from operations to) → MayLosePower from to → IsStopped from to left → IsSurvived from operations to run left
+once_survived : (from : SystemState) (operations : List Operation) (to : SystemState) (left : Disk) (run : IsRunOfOperations from operations to) → MayLosePower from to → IsStopped from to left → IsSurvived from operations to run left
 once_survived from operations to left (inl (replies, h)) may stop =
     let s = run_survived None operations replies (IsCutAtEnd to left) from to to left h began (λ may stop. at_end to left may.agrees may.profile stop) may stop in
     record { tree = s.tree; cut = s.cut; safe = s.safe }
 once_survived from operations to left (inr c) may stop =
-    let s = run_survived None c.done c.replies (IsCutIn c.at c.next to left) from c.at to left c.performed (calls_since c.at.calls to.calls c.fails.calls c.fails.called)
+    let s = run_survived None c.done c.replies (IsRunCutIn c.at c.next to left) from c.at to left c.performed (calls_since c.at.calls to.calls c.fails.calls c.fails.called)
     (λ may stop. in_one c.at to c.next left may.agrees may.profile c.survives_loss may.cleanly stop) may stop in
     record { tree = s.tree; cut = s.cut; safe = s.safe }
 
@@ -299,7 +299,7 @@ again_survived disk tree (left ∷ others) safe (o, more) = (one, again_survived
     one = once_survived o.begin o.operations o.to left o.run
         (record { agrees = mount_begins o.other o.begin o.mounts; profile = (safe.pairs, (f.accepted, f.writable)); cleanly = o.cleanly }) o.stop
 
-pub run_survives : (from : SystemState) (operations : List Operation) (to : SystemState) → IsRun from operations to → MayLosePower from to → SurvivesPowerLoss from operations to
+pub run_survives : (from : SystemState) (operations : List Operation) (to : SystemState) → IsRunOfOperations from operations to → MayLosePower from to → SurvivesPowerLoss from operations to
 run_survives from operations to run may = record {
   run = run;
   once = λ left stop. once_survived from operations to left run may stop;

@@ -4,11 +4,11 @@ use Rattle.lfs_model.specs.Content.{content_at}
 use Rattle.lfs_model.specs.Disk.{Disk, block_count}
 use Rattle.lfs_model.specs.Operations.{Operation, Reply}
 use Rattle.lfs_model.specs.PowerLoss.{IsAtWork, IsLeftByStop, SurvivesStops, SurvivesLoss}
-use Rattle.lfs_model.specs.Run.{Agrees, IsSessionStep, SystemState, is_refusal}
+use Rattle.lfs_model.specs.Run.{AgreesWithTree, IsSessionStep, SystemState, is_refusal}
 use Rattle.lfs_model.specs.Session.{Session, Surroundings}
 use Rattle.lfs_model.specs.Slots.{Gstate}
-use Rattle.lfs_model.specs.State.{Healthy, State, Surrounds, answered_in, is_remount, remounted}
-use Rattle.lfs_model.specs.Effects.{applied}
+use Rattle.lfs_model.specs.State.{Healthy, State, Surrounds, answer_of_state, is_remount, remounted}
+use Rattle.lfs_model.specs.Effects.{refusal_or_effect}
 use Rattle.lfs_model.specs.Thread.{Pair}
 use Rattle.lfs_model.specs.View.{IsAccepted}
 use Rattle.lfs_model.specs.Shown.{tree_in}
@@ -37,33 +37,33 @@ same_surroundings disk ps qs a b one other around about =
 -- ---- a turn
 
 -- What is at the end of a session step is what the definitions have there, so a session step that survives stops survives them.
-pub session_step_survives_loss : (from : SystemState) (op : Operation) (reply : Reply) (to : SystemState) → Agrees from.disk from.state → IsSessionStep from op reply to → SurvivesStops from op to → SurvivesLoss from op to
+pub session_step_survives_loss : (from : SystemState) (op : Operation) (reply : Reply) (to : SystemState) → AgreesWithTree from.disk from.state → IsSessionStep from op reply to → SurvivesStops from op to → SurvivesLoss from op to
 session_step_survives_loss from op reply to agrees turn survives = record { stops = survives; stands = λ s ps around work clean fails. stands s ps around work }
   where
-    stands : (s : Session) (ps : List Pair) (around : Surroundings) → IsAtWork from s ps around → IsLeftByStop to.disk s.tree (applied around s op).1.tree
+    stands : (s : Session) (ps : List Pair) (around : Surroundings) → IsAtWork from s ps around → IsLeftByStop to.disk s.tree (refusal_or_effect around s op).1.tree
     stands s ps around work = by_op (is_remount op) refl
       where
-        untouched : to.disk ≡ from.disk → IsLeftByStop to.disk s.tree (applied around s op).1.tree
-        untouched e = subst (λ d. IsLeftByStop d s.tree (applied around s op).1.tree) (sym e)
-            (left_before from.disk ps s.tree (applied around s op).1.tree work.accepted work.writable
-            (one_tree from.disk (tree_in from.disk ps) s.tree (ps, (work.accepted, refl)) (subst (Agrees from.disk) work.healthy agrees)))
+        untouched : to.disk ≡ from.disk → IsLeftByStop to.disk s.tree (refusal_or_effect around s op).1.tree
+        untouched e = subst (λ d. IsLeftByStop d s.tree (refusal_or_effect around s op).1.tree) (sym e)
+            (left_before from.disk ps s.tree (refusal_or_effect around s op).1.tree work.accepted work.writable
+            (one_tree from.disk (tree_in from.disk ps) s.tree (ps, (work.accepted, refl)) (subst (AgreesWithTree from.disk) work.healthy agrees)))
 
-        done : is_remount op ≡ false → is_refusal reply ≡ false → IsLeftByStop to.disk s.tree (applied around s op).1.tree
+        done : is_remount op ≡ false → is_refusal reply ≡ false → IsLeftByStop to.disk s.tree (refusal_or_effect around s op).1.tree
         done other accepted =
             let a = turn.answered in
             let about = a.surrounds s work.healthy in
             let same = same_surroundings from.disk about.0 ps a.around around about.1.0 work.accepted about.1.1 work.surrounds in
-            let state : Healthy (applied around s op).1 ≡ to.state =
+            let state : Healthy (refusal_or_effect around s op).1 ≡ to.state =
             ap (λ (z : Option Reply × State). z.1)
-            (sym (ap (λ z. answered_in z (Healthy s) op) same) ∙ sym (ap (λ z. answered_in a.around z op) work.healthy) ∙ sym (ap (λ b. cond b (remounted a.shown) (answered_in a.around from.state op)) other) ∙ a.answers) in
-            let shown = subst (Agrees to.disk) (sym state) turn.agrees in
-            left_after to.disk shown.0 s.tree (applied around s op).1.tree shown.1.0
+            (sym (ap (λ z. answer_of_state z (Healthy s) op) same) ∙ sym (ap (λ z. answer_of_state a.around z op) work.healthy) ∙ sym (ap (λ b. cond b (remounted a.shown) (answer_of_state a.around from.state op)) other) ∙ a.answers) in
+            let shown = subst (AgreesWithTree to.disk) (sym state) turn.agrees in
+            left_after to.disk shown.0 s.tree (refusal_or_effect around s op).1.tree shown.1.0
             ((turn.effect_on_disk accepted s work.healthy ps shown.0 work.accepted shown.1.0).profile work.writable) (sym shown.1.1)
 
-        by_reply : (b : Bool) → is_refusal reply ≡ b → is_remount op ≡ false → IsLeftByStop to.disk s.tree (applied around s op).1.tree
+        by_reply : (b : Bool) → is_refusal reply ≡ b → is_remount op ≡ false → IsLeftByStop to.disk s.tree (refusal_or_effect around s op).1.tree
         by_reply true e other = untouched (turn.refused e).0
         by_reply false e other = done other e
 
-        by_op : (b : Bool) → is_remount op ≡ b → IsLeftByStop to.disk s.tree (applied around s op).1.tree
+        by_op : (b : Bool) → is_remount op ≡ b → IsLeftByStop to.disk s.tree (refusal_or_effect around s op).1.tree
         by_op true e = untouched (turn.remounted e).0
         by_op false e = by_reply (is_refusal reply) refl e

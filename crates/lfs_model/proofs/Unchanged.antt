@@ -6,7 +6,7 @@ use Rattle.std.proofs.lemmas.List.Elements.{All-from_recursion, recursion_from_A
 use Rattle.std.proofs.lemmas.List.Concat.{flat_map-append}
 use Rattle.lfs_model.specs.Disk.{Disk, block_count}
 use Rattle.lfs_model.specs.Slots.{Slot, gstate_xor}
-use Rattle.lfs_model.specs.Thread.{Pair, blocks_of, from_slots, gstate_of, starts_with_superblock, unmoved}
+use Rattle.lfs_model.specs.Thread.{Pair, blocks_of, from_slots, gstate_of, starts_with_superblock, slots_not_moved}
 use Rattle.lfs_model.specs.View.{IsListIfCtz, IsAccepted, first_name}
 use Rattle.lfs_model.specs.Shown.{all_slots, used_blocks}
 use Rattle.lfs_model.proofs.Counts.{Each, each_always, each_both, each_right, count}
@@ -56,7 +56,7 @@ module _ (disk new : Disk) (chain : List Pair) (p : Pair) (rest : List Pair) (is
 
   owns_same : used_blocks new same_pairs ≡ used_blocks disk same_pairs
   owns_same = owned_same disk new (gstate_of same_pairs) (gstate_of same_pairs) same_pairs device_same.geometry
-      (each_always (λ r. unmoved (gstate_of same_pairs) r ≡ unmoved (gstate_of same_pairs) r) (λ r. refl) same_pairs) files_same
+      (each_always (λ r. slots_not_moved (gstate_of same_pairs) r ≡ slots_not_moved (gstate_of same_pairs) r) (λ r. refl) same_pairs) files_same
 
   in_range_here : Each (λ b. b < block_count disk) (blocks_of (p ∷ []))
   in_range_here =

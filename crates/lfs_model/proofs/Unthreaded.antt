@@ -7,7 +7,7 @@ use Rattle.lfs_model.specs.Thread.{Pair, is_hard, gstate_of, superblocks_before,
 use Rattle.lfs_model.specs.Tree.{Path}
 use Rattle.lfs_model.specs.View.{IsAccepted}
 use Rattle.lfs_model.specs.Profile.{IsWritable}
-use Rattle.lfs_model.specs.Shown.{Leads}
+use Rattle.lfs_model.specs.Shown.{PathLeadsTo}
 use Rattle.lfs_model.proofs.Global.{HasNoMove}
 use Rattle.lfs_model.proofs.Superblocks.{IsChain}
 use Rattle.lfs_model.proofs.Listings.{IsRun}
@@ -18,7 +18,7 @@ use Rattle.lfs_model.proofs.Moves.{AllReachedBut}
 use Rattle.lfs_model.proofs.Beside.{last_site}
 use Rattle.lfs_model.proofs.Drops.{IsStepDrop, softened, unthread_shape, drop_change, unthreaded}
 use Rattle.lfs_model.proofs.Indexes.{HasSite, site_of_number}
-use Rattle.lfs_model.proofs.StepsTaken.{IsTaken, unthread_taken}
+use Rattle.lfs_model.proofs.StepsTaken.{IsOnlyStep, unthread_taken}
 
 -- lists that part at the same place
 pub record SameParts (xs : List Pair) (p : Pair) (ys us : List Pair) (q : Pair) (vs : List Pair) : Type 0 where
@@ -43,7 +43,7 @@ pub record IsUnthreaded (disk new : Disk) (chain front : List Pair) (p o q : Pai
   pub slots : q.content.slots ≡ p.content.slots
   pub tail : q.content.tail ≡ softened o.content.tail
   -- no path leads to o, and where the sync bit isn't set afterwards, one leads to each other directory
-  pub unled : (path : Path) (x : ℕ × ℕ) → Leads (chain ++ (front ++ p ∷ o ∷ back)) path x → same_pair o.at x ≡ true → ⊥
+  pub unled : (path : Path) (x : ℕ × ℕ) → PathLeadsTo (chain ++ (front ++ p ∷ o ∷ back)) path x → same_pair o.at x ≡ true → ⊥
   pub reached : (gstate_of (chain ++ (front ++ q ∷ back))).sync ≡ false → (is_hard o.content.tail ≡ false) × AllReachedBut (chain ++ (front ++ p ∷ o ∷ back)) o.at
 
 -- the disk is accepted and in the profile, no move is set, and so many pairs are before the root directory
@@ -61,7 +61,7 @@ run_ends (x ∷ []) p right h e = run_ends [] p right h.1 e
 run_ends (x ∷ y ∷ left) p right h e = run_ends (y ∷ left) p right h.1 e
 
 pub record Unthreads (disk new : Disk) (chain old now : List Pair) : Type 0 where
-  pub taken : IsTaken disk (chain ++ old) new (chain ++ now) (λ t. t) (λ d. d)
+  pub taken : IsOnlyStep disk (chain ++ old) new (chain ++ now) (λ t. t) (λ d. d)
   pub ready : IsReady new chain now
 
 pub unthread : (disk new : Disk) (chain front : List Pair) (p o q : Pair) (back : List Pair) → IsReady disk chain (front ++ p ∷ o ∷ back) → IsUnthreaded disk new chain front p o q back
@@ -137,12 +137,12 @@ unthread disk new chain front p o q back r c = record { taken = taken; ready = r
       splice = record { front = λ e. refl; entries = tt; lists = tt; blocks = λ b. omega arith };
     }
 
-    taken : IsTaken disk (chain ++ (front ++ p ∷ o ∷ back)) new (chain ++ (front ++ q ∷ back)) (λ t. t) (λ d. d)
-    taken = subst (λ z. IsTaken disk z new (chain ++ (front ++ q ∷ back)) (λ t. t) (λ d. d)) (sym old_is)
-        (subst (λ z. IsTaken disk (thread_at (last_site at.site.chain at.site.before at.site.left back) (p ∷ ([] ++ o ∷ []))) new z (λ t. t) (λ d. d)) (sym new_is)
+    taken : IsOnlyStep disk (chain ++ (front ++ p ∷ o ∷ back)) new (chain ++ (front ++ q ∷ back)) (λ t. t) (λ d. d)
+    taken = subst (λ z. IsOnlyStep disk z new (chain ++ (front ++ q ∷ back)) (λ t. t) (λ d. d)) (sym old_is)
+        (subst (λ z. IsOnlyStep disk (thread_at (last_site at.site.chain at.site.before at.site.left back) (p ∷ ([] ++ o ∷ []))) new z (λ t. t) (λ d. d)) (sym new_is)
         (unthread_taken disk new at.site.chain at.site.before at.site.left back p o q p.content.slots [] (λ t. t) (λ d. d) (subst (IsWritable disk) old_is r.writable) c.tail c.slots step
         (unthreaded disk new at.site.chain at.site.before at.site.left back p [] o q [] p.content.slots [] step
-        (λ path x l e. c.unled path x (subst (λ z. Leads z path x) (sym old_is) l) e)
+        (λ path x l e. c.unled path x (subst (λ z. PathLeadsTo z path x) (sym old_is) l) e)
         (λ e. let k = c.reached (ap (λ z. (gstate_of z).sync) new_is ∙ e) in (k.0, subst (λ z. AllReachedBut z o.at) old_is k.1)))))
 
     ready : IsReady new chain (front ++ q ∷ back)

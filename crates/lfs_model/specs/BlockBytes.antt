@@ -2,7 +2,7 @@
 use Rattle.std.specs.Prelude.{ℕ, ◌-◌, List, [], ◌∷◌, ◌++◌, length, replicate}
 use Rattle.byteorder.specs.Endian.{little_bytes}
 use Rattle.lfs_model.specs.Log.{LogEntry}
-use Rattle.lfs_model.specs.Commit.{stored}
+use Rattle.lfs_model.specs.Commit.{bytes_of_entries}
 use Rattle.lfs_model.specs.Names.{Name}
 use Rattle.lfs_model.specs.EntryTypes.{file_name_type, directory_name_type, directory_struct_type, inline_struct_type, ctz_struct_type, move_state_type, no_id}
 use Rattle.lfs_model.specs.WrittenContent.{entry_with, pair_bytes}
@@ -14,8 +14,8 @@ abbrev pub unwritten : ℕ → List ℕ
 unwritten size = replicate size 0xff
 
 -- these bytes, and unwritten storage to the end of the block
-abbrev pub filled : ℕ → List ℕ → List ℕ
-filled size bytes = bytes ++ unwritten (size - length bytes)
+abbrev pub block_of_bytes : ℕ → List ℕ → List ℕ
+block_of_bytes size bytes = bytes ++ unwritten (size - length bytes)
 
 -- ---- entries
 
@@ -43,4 +43,4 @@ checksum_entry number padding = entry_with 0x500 no_id (little_bytes 4 number ++
 -- ---- in bytes
 
 abbrev pub metadata_block : ℕ → ℕ → List LogEntry → List ℕ
-metadata_block block_size revision entries = filled block_size (little_bytes 4 revision ++ stored 0xffffffff entries)
+metadata_block block_size revision entries = block_of_bytes block_size (little_bytes 4 revision ++ bytes_of_entries 0xffffffff entries)

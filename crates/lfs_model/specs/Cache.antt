@@ -13,9 +13,9 @@ abbrev pub cached : CachedBlocks → ℕ → Option (List ℕ)
 cached cache b = lookup (nat_eq b) cache
 
 -- all but this block, in their order
-abbrev pub without : CachedBlocks → ℕ → CachedBlocks
-without cache b = filter (λ e. not (nat_eq b e.0)) cache
+abbrev pub without_block : CachedBlocks → ℕ → CachedBlocks
+without_block cache b = filter (λ e. not (nat_eq b e.0)) cache
 
 -- this block with these bytes, followed by the others without it; the last one is dropped where there is one too many
 abbrev pub put_first : CachedBlocks → ℕ → List ℕ → CachedBlocks
-put_first cache b bytes = take cache_limit ((b, bytes) ∷ without cache b)
+put_first cache b bytes = take cache_limit ((b, bytes) ∷ without_block cache b)

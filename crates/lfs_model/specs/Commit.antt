@@ -6,9 +6,9 @@ use Rattle.lfs_model.specs.Tag.{carried}
 use Rattle.lfs_model.specs.Log.{LogEntry}
 
 -- each tag XORed with the one before it, then its bytes
-abbrev pub stored : ℕ → List LogEntry → List ℕ
-stored before [] = []
-stored before (e ∷ es) = big_bytes 4 (bit_xor e.tag before) ++ e.bytes ++ stored (carried e.tag) es
+abbrev pub bytes_of_entries : ℕ → List LogEntry → List ℕ
+bytes_of_entries before [] = []
+bytes_of_entries before (e ∷ es) = big_bytes 4 (bit_xor e.tag before) ++ e.bytes ++ bytes_of_entries (carried e.tag) es
 
 -- the bytes that entries take, each with its tag
 abbrev pub entries_size : List LogEntry → ℕ
@@ -19,8 +19,8 @@ abbrev pub page_end : ℕ → ℕ → ℕ
 page_end page at = next_multiple_of (at + 8) page
 
 -- the four bytes of a block from an offset on, or none where there are fewer
-abbrev pub next_at : List ℕ → ℕ → Option (List ℕ)
-next_at block at = if nat_lt (length block) (at + 4) then None else Some (take 4 (drop at block))
+abbrev pub next_four_bytes : List ℕ → ℕ → Option (List ℕ)
+next_four_bytes block at = if nat_lt (length block) (at + 4) then None else Some (take 4 (drop at block))
 
 -- The type of the checksum before these bytes. They must decode as an invalid tag, and 0x501 inverts the top bit of that tag.
 abbrev pub checksum_type : Option (List ℕ) → ℕ

@@ -10,11 +10,11 @@ pub record FitSlots (block_size page : ℕ) (slots : List RawSlot) : Type 0 wher
   pub count : length slots ≤ slot_limit
 
 -- so many slots are before the cut, and both parts fit
-pub record IsCut (block_size page : ℕ) (slots : List RawSlot) (cut : ℕ) : Type 0 where
+pub record IsCutOfSlots (block_size page : ℕ) (slots : List RawSlot) (cut : ℕ) : Type 0 where
   pub within : cut ≤ length slots
   pub front : FitSlots block_size page (take cut slots)
   pub back : FitSlots block_size page (drop cut slots)
 
 pub record CanBeCut (block_size page : ℕ) (slots : List RawSlot) : Type 0 where
   pub cut : ℕ
-  pub is_cut : IsCut block_size page slots cut
+  pub is_cut : IsCutOfSlots block_size page slots cut

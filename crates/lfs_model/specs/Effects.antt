@@ -6,7 +6,7 @@ use Rattle.lfs_model.specs.Content.{attribute_of, without_attribute, put_attribu
 use Rattle.lfs_model.specs.Tree.{Path, Node, FileNode, DirectoryNode, Tree}
 use Rattle.lfs_model.specs.Operations as ops
 use Rattle.lfs_model.specs.Operations.{Refusal, Flags, Operation, Item, Reply}
-use Rattle.lfs_model.specs.TreeEdits.{attributes_of, bytes_at, names_of, with_attributes, added, removed, renamed, change_at}
+use Rattle.lfs_model.specs.TreeEdits.{attributes_of, bytes_at, names_of, with_attributes, tree_with_node, tree_without, renamed, change_at}
 use Rattle.lfs_model.specs.Session.{Session, Surroundings, OpenFile, Reading, Writing, Reader, file_of, reader_of, writer_of, free_number, put_file}
 use Rattle.lfs_model.specs.Writers.{after_write, after_truncate, after_sync, opened_writer}
 use Rattle.lfs_model.specs.Refusals.{as_path, refusal_of}
@@ -14,10 +14,10 @@ use Rattle.lfs_model.specs.Slots.{set_move}
 
 -- the reply to an operation that no check refuses, and the session after it
 
-abbrev pub size_of : Option Node → Option ℕ
-size_of None = None
-size_of (Some (FileNode attributes bytes)) = Some (length bytes)
-size_of (Some (DirectoryNode attributes names)) = None
+abbrev pub node_size : Option Node → Option ℕ
+node_size None = None
+node_size (Some (FileNode attributes bytes)) = Some (length bytes)
+node_size (Some (DirectoryNode attributes names)) = None
 
 abbrev pub answers : Reply → Session → Reply × Session
 answers reply s = (reply, s)
@@ -27,15 +27,15 @@ with_bytes bytes (FileNode attributes old) = FileNode attributes bytes
 with_bytes bytes (DirectoryNode attributes names) = DirectoryNode attributes names
 
 -- the tree after a commit of a dirty writer's contents
-abbrev pub committed : Option OpenFile → Tree → Tree
-committed None t = t
-committed (Some (Reading r)) t = t
-committed (Some (Writing w)) t = if w.dirty then change_at w.path (with_bytes w.contents) t else t
+abbrev pub tree_after_commit : Option OpenFile → Tree → Tree
+tree_after_commit None t = t
+tree_after_commit (Some (Reading r)) t = t
+tree_after_commit (Some (Writing w)) t = if w.dirty then change_at w.path (with_bytes w.contents) t else t
 
-abbrev pub cleaned : Option OpenFile → Option OpenFile
-cleaned None = None
-cleaned (Some (Reading r)) = Some (Reading r)
-cleaned (Some (Writing w)) = Some (Writing (after_sync w))
+abbrev pub clean_file : Option OpenFile → Option OpenFile
+clean_file None = None
+clean_file (Some (Reading r)) = Some (Reading r)
+clean_file (Some (Writing w)) = Some (Writing (after_sync w))
 
 abbrev pub moved_to : ℕ → OpenFile → OpenFile
 moved_to position (Reading r) = Reading (record r { position = position })
@@ -45,7 +45,7 @@ abbrev pub open_effect : Session → Path → Flags → Reply × Session
 open_effect s p flags = (
   ops.Opened (free_number s.files),
   record {
-    tree = if is_none (s.tree p) then added p (FileNode [] []) s.tree else s.tree;
+    tree = if is_none (s.tree p) then tree_with_node p (FileNode [] []) s.tree else s.tree;
     files = put_file s.files (free_number s.files)
         (Some (if flags.write then Writing (opened_writer p flags (bytes_at (s.tree p))) else Reading (record { path = p; position = 0 })));
   },
@@ -65,7 +65,7 @@ read_effect s fd count (Some r) = (
 
 -- the entries of a directory, in name order
 abbrev pub items_in : Tree → Path → List Item
-items_in t path = map (λ name. record { name = name; size = size_of (t (path ++ name ∷ [])) }) (names_of (t path))
+items_in t path = map (λ name. record { name = name; size = node_size (t (path ++ name ∷ [])) }) (names_of (t path))
 
 abbrev pub effect_of : Surroundings → Session → Operation → Reply × Session
 effect_of around s (ops.Open path flags) = open_effect s (as_path path) flags
@@ -91,22 +91,22 @@ effect_of around s (ops.Truncate fd size) = (
 effect_of around s (ops.Sync fd) = (
   ops.Done,
   record {
-    tree = committed (file_of s.files fd) s.tree;
-    files = put_file s.files fd (cleaned (file_of s.files fd));
+    tree = tree_after_commit (file_of s.files fd) s.tree;
+    files = put_file s.files fd (clean_file (file_of s.files fd));
   },
 )
 effect_of around s (ops.Close fd) = (
   ops.Done,
   record {
-    tree = committed (file_of s.files fd) s.tree;
+    tree = tree_after_commit (file_of s.files fd) s.tree;
     files = put_file s.files fd None;
   },
 )
-effect_of around s (ops.Mkdir path) = (ops.Done, record s { tree = added (as_path path) (DirectoryNode [] []) s.tree })
-effect_of around s (ops.Remove path) = (ops.Done, record s { tree = removed (as_path path) s.tree })
+effect_of around s (ops.Mkdir path) = (ops.Done, record s { tree = tree_with_node (as_path path) (DirectoryNode [] []) s.tree })
+effect_of around s (ops.Remove path) = (ops.Done, record s { tree = tree_without (as_path path) s.tree })
 effect_of around s (ops.Rename old new) = (ops.Done, record s { tree = renamed (as_path old) (as_path new) s.tree })
 effect_of around s (ops.ListAll path) = (ops.Items (items_in s.tree (as_path path)), s)
-effect_of around s (ops.Stat path) = (ops.StatIs (size_of (s.tree (as_path path))), s)
+effect_of around s (ops.Stat path) = (ops.StatIs (node_size (s.tree (as_path path))), s)
 effect_of around s (ops.GetAttr path kind) = (ops.Bytes (unwrap_or (attribute_of kind (attributes_of (s.tree (as_path path)))) []), s)
 effect_of around s (ops.SetAttr path kind bytes) = (
   ops.Done,
@@ -135,5 +135,5 @@ abbrev pub reply_or : Option Refusal → Session → Reply × Session → Reply 
 reply_or (Some error) s accepted = (ops.Refused error, s)
 reply_or None s accepted = accepted
 
-abbrev pub applied : Surroundings → Session → Operation → Reply × Session
-applied around s op = reply_or (refusal_of around s op) s (effect_of around s op)
+abbrev pub refusal_or_effect : Surroundings → Session → Operation → Reply × Session
+refusal_or_effect around s op = reply_or (refusal_of around s op) s (effect_of around s op)

@@ -6,7 +6,7 @@ use Rattle.lfs_model.specs.Thread.{Pair, is_hard, root_of}
 use Rattle.lfs_model.specs.Tree.{Path, directory_at}
 use Rattle.lfs_model.specs.Names.{Name, same_name}
 use Rattle.lfs_model.specs.TreeEdits.{parent_of, last_name}
-use Rattle.lfs_model.specs.Shown.{entries_in, all_slots, file_blocks, Leads}
+use Rattle.lfs_model.specs.Shown.{entries_in, all_slots, file_blocks, PathLeadsTo}
 use Rattle.lfs_model.specs.History.{Event, reads}
 use Rattle.lfs_model.specs.Operations as ops
 use Rattle.lfs_model.specs.Operations.{Operation, Refusal, Reply, BadFile, Invalid, ReadOnly, Failed}
@@ -46,13 +46,13 @@ paths_of s (ops.Close fd) = path_of_open (file_of s.files fd)
 paths_of s _ = []
 
 -- the slot is an entry of that name; a superblock's slot isn't
-abbrev pub IsNamed : Name → Slot → Type 0
-IsNamed name s = (is_superblock s ≡ false) × (same_name name s.name ≡ true)
+abbrev pub IsEntryNamed : Name → Slot → Type 0
+IsEntryNamed name s = (is_superblock s ≡ false) × (same_name name s.name ≡ true)
 
 -- the pair holds the slot of that path
 abbrev pub HoldsSlot : List Pair → Pair → Path → Type 0
-HoldsSlot ps p path = (at : ℕ × ℕ) × (Leads ps (parent_of path) at × Contains (pairs_at ps at) p
-    × Any (IsNamed (last_name path)) p.content.slots)
+HoldsSlot ps p path = (at : ℕ × ℕ) × (PathLeadsTo ps (parent_of path) at × Contains (pairs_at ps at) p
+    × Any (IsEntryNamed (last_name path)) p.content.slots)
 
 abbrev pub SameBlocks : Disk → Disk → Pair → Type 0
 SameBlocks disk new p = (block_at new p.at.0 ≡ block_at disk p.at.0) × (block_at new p.at.1 ≡ block_at disk p.at.1)
@@ -71,11 +71,11 @@ parents [] = []
 parents (name ∷ path) = [] ∷ map (λ p. name ∷ p) (parents path)
 
 -- the directories that a look-up searches, by their paths
-abbrev pub searched : Operation → List Path
-searched (ops.Stat path) = parents (as_path path)
-searched (ops.GetAttr path kind) = parents (as_path path)
-searched (ops.ListAll path) = parents (as_path path) ++ as_path path ∷ []
-searched _ = []
+abbrev pub searched_directories : Operation → List Path
+searched_directories (ops.Stat path) = parents (as_path path)
+searched_directories (ops.GetAttr path kind) = parents (as_path path)
+searched_directories (ops.ListAll path) = parents (as_path path) ++ as_path path ∷ []
+searched_directories _ = []
 
 abbrev pub looks_up : Operation → Bool
 looks_up (ops.Stat path) = true
@@ -93,14 +93,14 @@ pairs_of_path ps path = count (directory_at (entries_in ps) (root_of ps) path)
 
 -- a look-up reads no more pairs than its directories have
 abbrev pub ReadsFew : List Pair → Operation → List Event → Type 0
-ReadsFew ps op calls = looks_up op ≡ true → reads calls ≤ sum_by (pairs_of_path ps) (searched op)
+ReadsFew ps op calls = looks_up op ≡ true → reads calls ≤ sum_by (pairs_of_path ps) (searched_directories op)
 
 -- the session answers the operation from its own state, without the device
-abbrev pub is_kept : Operation → Bool
-is_kept ops.AskGstate = true
-is_kept (ops.IsUsed block) = true
-is_kept ops.UsedCount = true
-is_kept _ = false
+abbrev pub is_answered_from_memory : Operation → Bool
+is_answered_from_memory ops.AskGstate = true
+is_answered_from_memory (ops.IsUsed block) = true
+is_answered_from_memory ops.UsedCount = true
+is_answered_from_memory _ = false
 
 -- The operation looks up in directories that the one before has just searched, at most eight of one pair each.
 pub record FollowsLookUp (ps : List Pair) (before op : Operation) : Type 0 where
@@ -108,9 +108,9 @@ pub record FollowsLookUp (ps : List Pair) (before op : Operation) : Type 0 where
   pub stat : before ≡ ops.Stat path
   pub below : is_root (as_path path) ≡ false
   pub again : looks_up op ≡ true
-  pub within : All (λ p. Contains (searched before) p) (searched op)
-  pub few : length (searched before) ≤ 8
-  pub small : All (λ p. pairs_of_path ps p ≡ 1) (searched before)
+  pub within : All (λ p. Contains (searched_directories before) p) (searched_directories op)
+  pub few : length (searched_directories before) ≤ 8
+  pub small : All (λ p. pairs_of_path ps p ≡ 1) (searched_directories before)
 
 -- ---- what comes at once
 

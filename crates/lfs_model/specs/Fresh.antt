@@ -8,7 +8,7 @@ use Rattle.lfs_model.specs.Slots.{Slot, Superblock, Inline, Content, no_gstate}
 use Rattle.lfs_model.specs.Content.{content_at, holder_at}
 use Rattle.lfs_model.specs.Thread.{Pair, anchor}
 use Rattle.lfs_model.specs.Tree.{Tree, DirectoryNode}
-use Rattle.lfs_model.specs.View.{BeginsWith, superblock_entry}
+use Rattle.lfs_model.specs.View.{BeginsWithEntry, superblock_entry}
 use Rattle.lfs_model.specs.Names.{name_limit}
 
 -- version 2.0, block size, block count, and the limits of names, files and attributes
@@ -29,7 +29,7 @@ fresh_pair disk = record { at = anchor; content = fresh_content disk.block_size 
 pub record IsFresh (disk : Disk) : Type 0 where
   pub geometry : IsGeometry disk.block_size disk.page (block_count disk)
   pub content : content_at disk anchor ≡ Some (fresh_content disk.block_size (block_count disk))
-  pub first : BeginsWith (holder_at disk anchor) superblock_entry
+  pub first : BeginsWithEntry (holder_at disk anchor) superblock_entry
 
 -- a root without entries
 abbrev pub empty_tree : Tree

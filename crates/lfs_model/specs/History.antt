@@ -102,9 +102,9 @@ abbrev pub LeavesOnly : (Event → Blocks → Type 0) → List Event → List Ev
 LeavesOnly stops old new P = EachSince (λ e. (disk : Blocks) → stops e disk → P disk) old new
 
 -- the newest call again, with the blocks that it left and whether it failed
-abbrev pub amended : List Event → Blocks → Bool → List Event
-amended [] after failed = []
-amended (e ∷ older) after failed = event e.call e.before after failed ∷ older
+abbrev pub with_newest_left : List Event → Blocks → Bool → List Event
+with_newest_left [] after failed = []
+with_newest_left (e ∷ older) after failed = event e.call e.before after failed ∷ older
 
 -- the newest call left these blocks
 abbrev pub IsNewest : List Event → Blocks → Type 0

@@ -18,7 +18,7 @@ abbrev pub slots_in : List Pair → List Slot
 slots_in ps = flat_map (λ p. p.content.slots) ps
 
 -- the entry at the id has the name
-pub record StandsAt (slots : List Slot) (name : Name) (id : ℕ) : Type 0 where
+pub record IsNameAt (slots : List Slot) (name : Name) (id : ℕ) : Type 0 where
   pub left : List Slot
   pub slot : Slot
   pub right : List Slot
@@ -46,8 +46,8 @@ pub record PlaceAt (order : NameOrder) (slots : List Slot) (name : Name) (id : �
 
 -- ---- in a directory
 
-abbrev pub IsJoined : Pair → Type 0
-IsJoined p = is_hard p.content.tail ≡ true
+abbrev pub HasHardTail : Pair → Type 0
+HasHardTail p = is_hard p.content.tail ≡ true
 
 -- only the first pair of a directory may have a superblock
 abbrev pub HaveNoSuperblock : List Pair → Type 0
@@ -59,22 +59,22 @@ run_length [] = 0
 run_length (p ∷ ps) = if is_hard p.content.tail then 1 + run_length ps else 1
 
 -- each of these pairs but the last has a hard tail
-abbrev pub Runs : Pair → List Pair → Type 0
-Runs p [] = Unit {0}
-Runs p (q ∷ qs) = IsJoined p × Runs q qs
+abbrev pub IsHardTailRun : Pair → List Pair → Type 0
+IsHardTailRun p [] = Unit {0}
+IsHardTailRun p (q ∷ qs) = HasHardTail p × IsHardTailRun q qs
 
 abbrev pub last_is_joined : Pair → List Pair → Bool
 last_is_joined p [] = is_hard p.content.tail
 last_is_joined p (q ∷ qs) = last_is_joined q qs
 
 -- a pair of the directory that begins with the pair of number `first`, and the directory's pairs before it
-pub record IsBehind (ps : List Pair) (first index : ℕ) (pair : Pair) (rest : List Pair) : Type 0 where
+pub record IsPairOfDirectory (ps : List Pair) (first index : ℕ) (pair : Pair) (rest : List Pair) : Type 0 where
   pub front : List Pair
   pub left : List Pair
   pub parts : ps ≡ front ++ (left ++ pair ∷ rest)
   pub begins : length front ≡ first
   pub number : length front + length left ≡ index
-  pub joined : AllByRecursion IsJoined left
+  pub joined : AllByRecursion HasHardTail left
 
 -- the pair of number `first` is at that address
 pub record BeginsAt (ps : List Pair) (at : ℕ × ℕ) (first : ℕ) : Type 0 where
@@ -83,20 +83,20 @@ pub record BeginsAt (ps : List Pair) (at : ℕ × ℕ) (first : ℕ) : Type 0 wh
   pub same : same_pair pair.at at ≡ true
 
 -- the directory has the name at this place
-pub record Stands (ps : List Pair) (first : ℕ) (name : Name) (index id : ℕ) : Type 0 where
+pub record HasNameAtPlace (ps : List Pair) (first : ℕ) (name : Name) (index id : ℕ) : Type 0 where
   pub pair : Pair
   pub rest : List Pair
-  pub place : IsBehind ps first index pair rest
-  pub stands : StandsAt pair.content.slots name id
+  pub place : IsPairOfDirectory ps first index pair rest
+  pub stands : IsNameAt pair.content.slots name id
 
 -- The name belongs at this place. The pair is the directory's first or has an entry less than the name. After the place a greater
 -- name comes first, in this pair or a later one, or no entry is left in the directory.
-pub record Belongs (order : NameOrder) (ps : List Pair) (first : ℕ) (name : Name) (index id : ℕ) : Type 0 where
+pub record BelongsInDirectory (order : NameOrder) (ps : List Pair) (first : ℕ) (name : Name) (index id : ℕ) : Type 0 where
   pub pair : Pair
   pub later : List Pair
   pub rest : List Pair
-  pub place : IsBehind ps first index pair (later ++ rest)
-  pub runs : Runs pair later
+  pub place : IsPairOfDirectory ps first index pair (later ++ rest)
+  pub runs : IsHardTailRun pair later
   pub left : List Slot
   pub right : List Slot
   pub held : pair.content.slots ≡ left ++ right

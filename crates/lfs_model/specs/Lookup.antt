@@ -12,14 +12,14 @@ bytes_typed type None = None
 bytes_typed type (Some part) = if part.0 == type then Some part.1 else None
 
 -- the bytes that a slot holds of a name's, a struct's or an attribute's type; a slot holds no other type
-abbrev pub bytes_in : ℕ → RawSlot → Option (List ℕ)
-bytes_in type s =
+abbrev pub slot_bytes : ℕ → RawSlot → Option (List ℕ)
+slot_bytes type s =
     if type / 2 ^ 8 == 0 then bytes_typed type s.name
     else (if type / 2 ^ 8 == 2 then bytes_typed type s.struct
     else (if type / 2 ^ 8 == 3 then attribute_of (type % 2 ^ 8) s.attributes else None))
 
 abbrev pub typed_bytes_at : List RawSlot → ℕ → ℕ → Option (List ℕ)
-typed_bytes_at slots type id = bytes_in type (slot_of_id slots id)
+typed_bytes_at slots type id = slot_bytes type (slot_of_id slots id)
 
 -- ---- names
 
@@ -31,17 +31,17 @@ entry_name s = option_and_then (λ name. if name.0 == superblock_name_type then 
 abbrev pub is_named : (Name → Bool) → Option ℕ → List RawSlot → ℕ → Bool
 is_named passes skip slots id = option_map_or passes (entry_name (slot_of_id slots id)) false && not (option_map_or (λ k. k == id) skip false)
 
-abbrev pub is_behind : NameOrder → Name → Name → Bool
-is_behind order name other = is_less (name_cmp order name other)
+abbrev pub is_name_after : NameOrder → Name → Name → Bool
+is_name_after order name other = is_less (name_cmp order name other)
 
 -- the least id that has a name, one slot passed over
-pub record IsFound (name : Name) (skip : Option ℕ) (slots : List RawSlot) (id : ℕ) : Type 0 where
+pub record IsLeastIdOf (name : Name) (skip : Option ℕ) (slots : List RawSlot) (id : ℕ) : Type 0 where
   pub named : is_named (same_name name) skip slots id ≡ true
   pub least : (other : ℕ) → other < id → is_named (same_name name) skip slots other ≡ false
 
 -- no slot has the name, and this is the least id of a greater name, or the number of slots where there is none
 pub record IsPlace (order : NameOrder) (name : Name) (skip : Option ℕ) (slots : List RawSlot) (id : ℕ) : Type 0 where
   pub absent : (other : ℕ) → is_named (same_name name) skip slots other ≡ false
-  pub least : (other : ℕ) → other < id → is_named (is_behind order name) skip slots other ≡ false
-  pub greater : id < length slots → is_named (is_behind order name) skip slots id ≡ true
+  pub least : (other : ℕ) → other < id → is_named (is_name_after order name) skip slots other ≡ false
+  pub greater : id < length slots → is_named (is_name_after order name) skip slots id ≡ true
   pub within : id ≤ length slots

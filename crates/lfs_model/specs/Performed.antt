@@ -33,5 +33,5 @@ pub record IsCutShort (from : SystemState) (operations : List Operation) (to : S
   pub few : AsksFew at next to
 
 -- the operations are all performed, or the run is cut short
-abbrev pub IsRun : SystemState → List Operation → SystemState → Type 0
-IsRun from operations to = ((replies : List Reply) × ArePerformed None from operations replies to) ⊎ IsCutShort from operations to
+abbrev pub IsRunOfOperations : SystemState → List Operation → SystemState → Type 0
+IsRunOfOperations from operations to = ((replies : List Reply) × ArePerformed None from operations replies to) ⊎ IsCutShort from operations to

@@ -7,7 +7,7 @@ use Rattle.lfs_model.specs.History.{Event, reads}
 use Rattle.lfs_model.specs.Operations.{Operation, Reply}
 use Rattle.lfs_model.specs.Session.{Session}
 use Rattle.lfs_model.specs.State.{Healthy}
-use Rattle.lfs_model.specs.Frame.{LeavesAlone, is_kept, ReadsFew, FollowsLookUp}
+use Rattle.lfs_model.specs.Frame.{LeavesAlone, is_answered_from_memory, ReadsFew, FollowsLookUp}
 use Rattle.lfs_model.specs.Run.{SystemState, is_refusal}
 
 -- the operation read nothing, if the one before was a look-up in the same directories
@@ -19,7 +19,7 @@ ReadsKept ps (Some before) op calls = FollowsLookUp ps before op → reads calls
 pub record IsWithinReadBounds (before : Option Operation) (from : SystemState) (op : Operation) (calls : List Event) (to : SystemState) : Type 0 where
   pub alone : (s : Session) → from.state ≡ Healthy s → (ps qs : List Pair) → IsAccepted from.disk ps → IsAccepted to.disk qs → gstate_of ps ≡ no_gstate
       → LeavesAlone from.disk ps s op to.disk qs
-  pub asked : is_kept op ≡ true → calls ≡ []
+  pub asked : is_answered_from_memory op ≡ true → calls ≡ []
   pub few : (s : Session) → from.state ≡ Healthy s → (ps : List Pair) → IsAccepted from.disk ps → ReadsFew ps op calls
   pub kept : (s : Session) → from.state ≡ Healthy s → (ps : List Pair) → IsAccepted from.disk ps → ReadsKept ps before op calls
 

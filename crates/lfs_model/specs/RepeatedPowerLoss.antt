@@ -13,19 +13,19 @@ use Rattle.lfs_model.specs.Stops.{Stops, ErasesCleanly}
 use Rattle.lfs_model.specs.Operations as ops
 use Rattle.lfs_model.specs.Operations.{Operation, Reply}
 use Rattle.lfs_model.specs.Session.{Session, Surroundings}
-use Rattle.lfs_model.specs.Effects.{applied}
+use Rattle.lfs_model.specs.Effects.{refusal_or_effect}
 use Rattle.lfs_model.specs.State.{Healthy, mounted}
 use Rattle.lfs_model.specs.Recovery.{IsRecovered}
 use Rattle.lfs_model.specs.Run.{SystemState, Shows, IsSessionStep}
 use Rattle.lfs_model.specs.Headline.{AgreesWithDisk}
-use Rattle.lfs_model.specs.Performed.{ArePerformed, IsRun}
+use Rattle.lfs_model.specs.Performed.{ArePerformed, IsRunOfOperations}
 use Rattle.lfs_model.specs.ReadBounds.{if_accepted}
 use Rattle.lfs_model.specs.PowerLoss.{with_blocks, FailsAsStopped, IsAtWork}
 
 -- ---- a mount and a recovery
 
 -- a session just mounted from the disk
-pub record IsMounted (disk : Disk) (begin : SystemState) : Type 0 where
+pub record IsJustMounted (disk : Disk) (begin : SystemState) : Type 0 where
   pub on : begin.disk ≡ disk
   pub tree : Tree
   pub shows : Shows disk (Some tree)
@@ -50,8 +50,8 @@ pub record IsSafe (tree : Tree) (disk : Disk) : Type 0 where
   pub accepted : IsAccepted disk pairs
   pub writable : IsWritable disk pairs
   pub shows : tree_in disk pairs ≡ tree
-  pub mounts : (other : Disk) (begin : SystemState) → SameBytes disk other → IsMounted other begin → begin.state ≡ Healthy (mounted tree)
-  pub recovers : (other : Disk) (begin to : SystemState) (reply : Reply) → SameBytes disk other → IsMounted other begin → IsSessionStep begin ops.Recover reply to
+  pub mounts : (other : Disk) (begin : SystemState) → SameBytes disk other → IsJustMounted other begin → begin.state ≡ Healthy (mounted tree)
+  pub recovers : (other : Disk) (begin to : SystemState) (reply : Reply) → SameBytes disk other → IsJustMounted other begin → IsSessionStep begin ops.Recover reply to
       → IsRestored tree reply to.disk
 
 -- ---- a stop
@@ -71,13 +71,13 @@ IsStopped from to left =
     ⊎ ((left ≡ to.disk) × EachSince FailsAsStopped from.calls to.calls))
 
 -- Power was lost in this operation of a run. The tree is the one from before the operation, or the one from after it.
-pub record IsCutIn (from : SystemState) (op : Operation) (next : SystemState) (left : Disk) (tree : Tree) : Type 0 where
+pub record IsRunCutIn (from : SystemState) (op : Operation) (next : SystemState) (left : Disk) (tree : Tree) : Type 0 where
   pub stop : IsStopped from next left
   pub session : Session
   pub pairs : List Pair
   pub around : Surroundings
   pub work : IsAtWork from session pairs around
-  pub either : (tree ≡ session.tree) ⊎ (tree ≡ (applied around session op).1.tree)
+  pub either : (tree ≡ session.tree) ⊎ (tree ≡ (refusal_or_effect around session op).1.tree)
 
 -- Power was lost after all operations of a run. The tree is the session's.
 pub record IsCutAtEnd (at : SystemState) (left : Disk) (tree : Tree) : Type 0 where
@@ -91,19 +91,19 @@ abbrev pub IsCutAmong : (before : Option Operation) (from : SystemState) (operat
 IsCutAmong before from [] replies to steps left tree AtEnd = AtEnd
 IsCutAmong before from (op ∷ operations) [] to steps left tree AtEnd = ⊥
 IsCutAmong before from (op ∷ operations) (reply ∷ replies) to (next, (one, others)) left tree AtEnd =
-    IsCutIn from op next left tree ⊎ IsCutAmong (if_accepted op reply) next operations replies to others left tree AtEnd
+    IsRunCutIn from op next left tree ⊎ IsCutAmong (if_accepted op reply) next operations replies to others left tree AtEnd
 
 -- Power was lost in one of the operations of this run, or after all of them. An error may have ended the last operation.
-abbrev pub IsCut : (from : SystemState) (operations : List Operation) (to : SystemState) → IsRun from operations to → Disk → Tree → Type 0
-IsCut from operations to (inl (replies, steps)) left tree = IsCutAmong None from operations replies to steps left tree (IsCutAtEnd to left tree)
-IsCut from operations to (inr short) left tree = IsCutAmong None from short.done short.replies short.at short.performed left tree (IsCutIn short.at short.next to left tree)
+abbrev pub IsRunCut : (from : SystemState) (operations : List Operation) (to : SystemState) → IsRunOfOperations from operations to → Disk → Tree → Type 0
+IsRunCut from operations to (inl (replies, steps)) left tree = IsCutAmong None from operations replies to steps left tree (IsCutAtEnd to left tree)
+IsRunCut from operations to (inr short) left tree = IsCutAmong None from short.done short.replies short.at short.performed left tree (IsRunCutIn short.at short.next to left tree)
 
 -- ---- a loss of power in a run
 
 -- The disk that was left has the tree from before the operation that was cut, or from after it. A mount and a recovery keep that tree.
-pub record IsSurvived (from : SystemState) (operations : List Operation) (to : SystemState) (run : IsRun from operations to) (left : Disk) : Type 0 where
+pub record IsSurvived (from : SystemState) (operations : List Operation) (to : SystemState) (run : IsRunOfOperations from operations to) (left : Disk) : Type 0 where
   pub tree : Tree
-  pub cut : IsCut from operations to run left tree
+  pub cut : IsRunCut from operations to run left tree
   pub safe : IsSafe tree left
 
 -- A session mounts the disk and performs operations, a recovery for example. Power is lost during them, and another disk is left.
@@ -111,10 +111,10 @@ pub record LosesPower (disk left : Disk) : Type 0 where
   pub other : Disk
   pub same : SameBytes disk other
   pub begin : SystemState
-  pub mounts : IsMounted other begin
+  pub mounts : IsJustMounted other begin
   pub operations : List Operation
   pub to : SystemState
-  pub run : IsRun begin operations to
+  pub run : IsRunOfOperations begin operations to
   pub cleanly : EachSince ErasesCleanly begin.calls to.calls
   pub stop : IsStopped begin to left
 
@@ -137,6 +137,6 @@ pub record MayLosePower (from to : SystemState) : Type 0 where
 -- The operations were a run between these states. Wherever power is lost in that run, it is survived, in the operation that was
 -- cut. So is any number of losses after it, also in the recovery.
 pub record SurvivesPowerLoss (from : SystemState) (operations : List Operation) (to : SystemState) : Type 0 where
-  pub run : IsRun from operations to
+  pub run : IsRunOfOperations from operations to
   pub once : (left : Disk) → IsStopped from to left → IsSurvived from operations to run left
   pub again : (left : Disk) (lefts : List Disk) → IsStopped from to left → (losses : LosesPowerRepeatedly left lefts) → AreSurvived left lefts losses

@@ -24,12 +24,12 @@ given_names given = map (λ g. g.0) given
 -- ---- faults
 
 -- how often a name is given
-abbrev pub times : Name → List Name → ℕ
-times name names = sum_by (λ n. if same_name name n then 1 else 0) names
+abbrev pub times_given : Name → List Name → ℕ
+times_given name names = sum_by (λ n. if same_name name n then 1 else 0) names
 
 -- a name is given that is no component of a path, or a name is given twice
-abbrev pub AreBad : List Name → Type 0
-AreBad names = ((name : Name) × (is_component name ≡ false) × (1 ≤ times name names)) ⊎ ((name : Name) × (2 ≤ times name names))
+abbrev pub AreBadNames : List Name → Type 0
+AreBadNames names = ((name : Name) × (is_component name ≡ false) × (1 ≤ times_given name names)) ⊎ ((name : Name) × (2 ≤ times_given name names))
 
 -- ---- trees
 
@@ -47,10 +47,10 @@ file_at s path [] = Some (AFile (s.bytes path))
 file_at s path (name ∷ rest) = None
 
 -- what names lead to from a folder
-abbrev pub standing : Source → List ℕ → Path → Option Standing
-standing s folder [] = Some (AFolder (given_names (s.names folder)))
-standing s folder (name ∷ rest) =
-    option_and_then (λ is_folder. if is_folder then standing s (path_in folder name) rest else file_at s (path_in folder name) rest) (kind_given name (s.names folder))
+abbrev pub source_entry_at : Source → List ℕ → Path → Option Standing
+source_entry_at s folder [] = Some (AFolder (given_names (s.names folder)))
+source_entry_at s folder (name ∷ rest) =
+    option_and_then (λ is_folder. if is_folder then source_entry_at s (path_in folder name) rest else file_at s (path_in folder name) rest) (kind_given name (s.names folder))
 
 -- A tree has this node at a path. A directory has the folder's names in order.
 abbrev pub IsNodeOf : Option Standing → Option Node → Type 0
@@ -62,4 +62,4 @@ IsNodeOf _ _ = ⊥
 
 -- the tree that a source makes
 abbrev pub IsTreeOf : Source → Tree → Type 0
-IsTreeOf s tree = (path : Path) → IsNodeOf (standing s [] path) (tree path)
+IsTreeOf s tree = (path : Path) → IsNodeOf (source_entry_at s [] path) (tree path)

@@ -8,7 +8,7 @@ use Rattle.lfs_model.specs.Profile.{IsWritable}
 use Rattle.lfs_model.specs.Operations as ops
 use Rattle.lfs_model.specs.Operations.{Operation, Reply, Failed}
 use Rattle.lfs_model.specs.Session.{Session, Surroundings}
-use Rattle.lfs_model.specs.Effects.{applied}
+use Rattle.lfs_model.specs.Effects.{refusal_or_effect}
 
 -- what an operation takes from an accepted disk with these pairs
 pub record Surrounds (disk : Disk) (ps : List Pair) (around : Surroundings) : Type 0 where
@@ -37,10 +37,10 @@ abbrev pub remounted : Option Tree → Option Reply × State
 remounted None = (None, HasFailed)
 remounted (Some tree) = (Some ops.Done, Healthy (mounted tree))
 
-abbrev pub answered_in : Surroundings → State → Operation → Option Reply × State
-answered_in around HasFailed op = (Some (ops.Refused Failed), HasFailed)
-answered_in around (Healthy s) op = (Some (applied around s op).0, Healthy (applied around s op).1)
+abbrev pub answer_of_state : Surroundings → State → Operation → Option Reply × State
+answer_of_state around HasFailed op = (Some (ops.Refused Failed), HasFailed)
+answer_of_state around (Healthy s) op = (Some (refusal_or_effect around s op).0, Healthy (refusal_or_effect around s op).1)
 
 -- the reply, where no error comes in its place, and the state after it
 abbrev pub answered : Surroundings → Option Tree → State → Operation → Option Reply × State
-answered around shown state op = if is_remount op then remounted shown else answered_in around state op
+answered around shown state op = if is_remount op then remounted shown else answer_of_state around state op

@@ -4,7 +4,7 @@ ghost use Rattle.std.specs.Prelude.{◌≡◌, ℕ, true, false, List, [], ◌�
 ghost use Rattle.lfs_model.specs.Blocks.{Blocks, block_in};
 ghost use Rattle.lfs_model.specs.History.{Event, Erase, event, reads, programs, erases, faults, unprogrammed, AllUnprogrammed, StayUnprogrammed, EachSince, OnlyReads, AtWorst, LeavesOnly};
 ghost use Rattle.lfs_model.specs.Conformance.{AllConform};
-ghost use Rattle.lfs_model.specs.examples.Histories.{first_blocks, erased_blocks, last_blocks, after_erase, after_program, after_read, forgetting, straying};
+ghost use Rattle.lfs_model.specs.examples.Histories.{first_blocks, erased_blocks, last_blocks, after_erase, after_program, after_read, forgetful_program, stray_erase};
 
 /// How many reads, programs, erases and faults there were.
 pub fn calls_are_counted()
@@ -40,6 +40,6 @@ pub fn stop_leaves_other_blocks()
 /// Each call that didn't fail conforms.
 pub fn calls_conform()
     ensures conforms { AllConform after_read }
-    ensures not_programmed { AllConform (forgetting ∷ []) → ⊥ }
-    ensures another_block { AllConform (straying ∷ []) → ⊥ }
+    ensures not_programmed { AllConform (forgetful_program ∷ []) → ⊥ }
+    ensures another_block { AllConform (stray_erase ∷ []) → ⊥ }
 {}

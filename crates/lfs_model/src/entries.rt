@@ -8,7 +8,7 @@ ghost use Rattle.lfs_model.specs.Tag.{IsValid, tag_with, kind_of, id_of, len_of}
 ghost use Rattle.lfs_model.specs.Slots.{Gstate, no_gstate, gstate_xor};
 ghost use Rattle.lfs_model.specs.Content.{RawSlot, RawContent, no_content, empty_slot, content_after_all};
 ghost use Rattle.lfs_model.specs.EntryTypes.{gstate_with, create_type, delete_type, file_name_type, superblock_name_type, inline_struct_type, directory_struct_type, ctz_struct_type, soft_tail_type, hard_tail_type, move_state_type, no_id};
-ghost use Rattle.lfs_model.specs.Lookup.{IsFound, IsPlace, typed_bytes_at};
+ghost use Rattle.lfs_model.specs.Lookup.{IsLeastIdOf, IsPlace, typed_bytes_at};
 ghost use Rattle.lfs_model.specs.examples.Images.{raw_root, raw_file};
 ghost use Rattle.lfs_model.specs.WrittenContent.{entry_with, tail_entry};
 ghost use Rattle.lfs_model.specs.BlockBytes.{file_entries, move_word_entry};
@@ -94,13 +94,13 @@ pub fn bad_entry_is_refused()
 
 /// Where a name is among slots. The superblock's name and the slot that is passed over don't count.
 pub fn name_has_its_place()
-    ensures found { IsFound (codes "b") None (raw_root ∷ raw_file (codes "b") ∷ []) 1 }
+    ensures found { IsLeastIdOf (codes "b") None (raw_root ∷ raw_file (codes "b") ∷ []) 1 }
     ensures longer { name_cmp LongerFirst (codes "log.old") (codes "log") ≡ Less }
     ensures shorter { name_cmp ShorterFirst (codes "log") (codes "log.old") ≡ Less }
     ensures before { IsPlace ShorterFirst (codes "a") None (raw_root ∷ raw_file (codes "b") ∷ []) 1 }
     ensures behind { IsPlace ShorterFirst (codes "littlefs") None (raw_root ∷ raw_file (codes "b") ∷ []) 2 }
     ensures passed_over { IsPlace ShorterFirst (codes "b") (Some 1) (raw_root ∷ raw_file (codes "b") ∷ []) 2 }
-    ensures second { IsFound (codes "b") (Some 1) (raw_root ∷ raw_file (codes "b") ∷ raw_file (codes "b") ∷ []) 2 }
+    ensures second { IsLeastIdOf (codes "b") (Some 1) (raw_root ∷ raw_file (codes "b") ∷ raw_file (codes "b") ∷ []) 2 }
 {}
 
 /// What slots hold of a type for an id.

@@ -6,13 +6,13 @@ ghost use Rattle.lfs_model.specs.Disk.{Disk};
 ghost use Rattle.lfs_model.specs.Slots.{no_gstate};
 ghost use Rattle.lfs_model.specs.Thread.{gstate_of};
 ghost use Rattle.lfs_model.specs.Tree.{FileNode, DirectoryNode};
-ghost use Rattle.lfs_model.specs.TreeEdits.{added};
+ghost use Rattle.lfs_model.specs.TreeEdits.{tree_with_node};
 ghost use Rattle.lfs_model.specs.View.{HasView, IsAccepted};
 ghost use Rattle.lfs_model.specs.Profile.{IsWritable};
 ghost use Rattle.lfs_model.specs.Shown.{tree_in, used_blocks};
 ghost use Rattle.lfs_model.specs.Fresh.{IsFresh, fresh_pair, empty_tree};
 ghost use Rattle.lfs_model.specs.WrittenContent.{tail_entry};
-ghost use Rattle.lfs_model.specs.BlockBytes.{unwritten, filled, file_entries, long_file_entries, directory_entries, move_word_entry, superblock_entries, checksum_entry, metadata_block};
+ghost use Rattle.lfs_model.specs.BlockBytes.{unwritten, block_of_bytes, file_entries, long_file_entries, directory_entries, move_word_entry, superblock_entries, checksum_entry, metadata_block};
 ghost use Rattle.lfs_model.specs.examples.Images.{view_with, IsRefused, IsReadOnly, small_image, large_image, shifting_block, shifting_image, zeroed_image, appended_image, large_disk, root_block, pair_block, superblock_with, other_root, image_with};
 
 /// A fresh image is accepted and may be written. It shows the empty root, and uses the first two blocks.
@@ -41,7 +41,7 @@ pub fn file_is_shown()
 
     // The tree is that of the fresh image with an empty file added.
     ensures appended { HasView appended_image (record {
-      tree = added (codes "b" ∷ []) (FileNode []
+      tree = tree_with_node (codes "b" ∷ []) (FileNode []
           []) empty_tree;
       gstate = no_gstate;
       used = 0 ∷ 1 ∷ [];
@@ -58,7 +58,7 @@ pub fn file_is_shown()
         (image_with (root_block (long_file_entries 1 (codes "a") 4 8189) 0xaa94cc85 187)
         (replicate 4096 97
         ∷ (little_bytes 4 2 ++ replicate 4092 98)
-        ∷ filled 4096 (little_bytes 4 3 ++ little_bytes 4 2 ++ 99 ∷ []) ∷ []))
+        ∷ block_of_bytes 4096 (little_bytes 4 3 ++ little_bytes 4 2 ++ 99 ∷ []) ∷ []))
         (view_with (([], DirectoryNode [] (codes "a" ∷ []))
         ∷ (codes "a" ∷ [], FileNode [] (replicate 4096 97 ++ replicate 4092 98 ++ 99 ∷ [])) ∷ [])
         no_gstate (0 ∷ 1 ∷ 2 ∷ 3 ∷ 4 ∷ [])) }

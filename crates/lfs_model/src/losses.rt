@@ -9,9 +9,9 @@ ghost use Rattle.lfs_model.specs.Fresh.{empty_tree};
 ghost use Rattle.lfs_model.specs.Conformance.{AllConform};
 ghost use Rattle.lfs_model.specs.Operations as ops;
 ghost use Rattle.lfs_model.specs.Operations.{Operation, Reply};
-ghost use Rattle.lfs_model.specs.Run.{Agrees, IsSessionStep, SystemState};
+ghost use Rattle.lfs_model.specs.Run.{AgreesWithTree, IsSessionStep, SystemState};
 ghost use Rattle.lfs_model.specs.Failure.{Fails};
-ghost use Rattle.lfs_model.specs.Performed.{IsCutShort, IsRun};
+ghost use Rattle.lfs_model.specs.Performed.{IsCutShort, IsRunOfOperations};
 ghost use Rattle.lfs_model.specs.PowerLoss.{IsLeftByStop, Survives, SurvivesStops, SurvivesLoss, with_blocks};
 ghost use Rattle.lfs_model.specs.Standing.{IsOneDevice};
 ghost use Rattle.lfs_model.specs.Stops.{ErasesCleanly};
@@ -51,14 +51,14 @@ pub fn losses_are_survived()
 
 /// Wherever power is lost in a run, it is survived, and so is each loss after it.
 pub fn power_loss_is_survived()
-    ensures run { (from : SystemState) (operations : List Operation) (to : SystemState) → IsRun from operations to → MayLosePower from to → SurvivesPowerLoss from operations to }
+    ensures run { (from : SystemState) (operations : List Operation) (to : SystemState) → IsRunOfOperations from operations to → MayLosePower from to → SurvivesPowerLoss from operations to }
 
     // A session on a fresh disk may lose power. No disk without blocks is left, and no other tree. Where no operation was begun,
     // the tree is the one that was there.
     ensures may { MayLosePower fresh_system fresh_system }
-    ensures none_begun { (to : SystemState) (run : IsRun fresh_system [] to) (left : Disk) (s : IsSurvived fresh_system [] to run left) → s.tree ≡ empty_tree }
-    ensures not_lost { (to : SystemState) (run : IsRun fresh_system (ops.Stat (codes "/") ∷ []) to) → IsSurvived fresh_system (ops.Stat (codes "/") ∷ []) to run no_disk → ⊥ }
-    ensures not_changed { (to : SystemState) (run : IsRun fresh_system (ops.Stat (codes "/") ∷ []) to) (s : IsSurvived fresh_system (ops.Stat (codes "/") ∷ []) to run small_image) → s.tree ≡ (λ path. None) → ⊥ }
+    ensures none_begun { (to : SystemState) (run : IsRunOfOperations fresh_system [] to) (left : Disk) (s : IsSurvived fresh_system [] to run left) → s.tree ≡ empty_tree }
+    ensures not_lost { (to : SystemState) (run : IsRunOfOperations fresh_system (ops.Stat (codes "/") ∷ []) to) → IsSurvived fresh_system (ops.Stat (codes "/") ∷ []) to run no_disk → ⊥ }
+    ensures not_changed { (to : SystemState) (run : IsRunOfOperations fresh_system (ops.Stat (codes "/") ∷ []) to) (s : IsSurvived fresh_system (ops.Stat (codes "/") ∷ []) to run small_image) → s.tree ≡ (λ path. None) → ⊥ }
 {}
 
 /// Power may be lost again and again, but the tree isn't lost.
@@ -73,7 +73,7 @@ pub fn power_is_lost_repeatedly()
 /// At its end an operation leaves the tree that the definitions give. So an operation that survives stops survives losses of
 /// power.
 pub fn surviving_steps_survive_loss()
-    ensures { (from to : SystemState) (op : Operation) (reply : Reply) → Agrees from.disk from.state → IsSessionStep from op reply to → SurvivesStops from op to → SurvivesLoss from op to }
+    ensures { (from to : SystemState) (op : Operation) (reply : Reply) → AgreesWithTree from.disk from.state → IsSessionStep from op reply to → SurvivesStops from op to → SurvivesLoss from op to }
 {}
 
 /// After its last call a device that conforms holds what a stop may leave. So it is also where an error ended the operation.
@@ -83,7 +83,7 @@ pub fn stops_tell_what_stands()
         → IsLeftByStop (with_blocks first disk) before after → IsLeftByStop (with_blocks last disk) before after }
     ensures called { (from to : SystemState) → from.calls ≢ [] → IsNewest from.calls from.disk.blocks → IsNewest to.calls to.disk.blocks → AllConform to.calls
         → to.disk ≡ with_blocks to.disk.blocks from.disk → IsOneDevice from to }
-    ensures survives_loss { (from to : SystemState) (op : Operation) → Agrees from.disk from.state → IsOneDevice from to → SurvivesStops from op to → SurvivesLoss from op to }
+    ensures survives_loss { (from to : SystemState) (op : Operation) → AgreesWithTree from.disk from.state → IsOneDevice from to → SurvivesStops from op to → SurvivesLoss from op to }
 
     // A device that isn't called stays as it is.
     ensures silent { IsOneDevice fresh_system failed_system }

@@ -3,7 +3,7 @@
 ghost use Rattle.std.specs.Prelude.{true, false, List, [], ◌∷◌, ◌++◌, Some, replicate, codes};
 ghost use Rattle.byteorder.specs.Endian.{little_bytes};
 ghost use Rattle.lfs_model.specs.WrittenContent.{tail_entry};
-ghost use Rattle.lfs_model.specs.BlockBytes.{unwritten, filled, file_entries, long_file_entries, directory_entries, move_word_entry};
+ghost use Rattle.lfs_model.specs.BlockBytes.{unwritten, block_of_bytes, file_entries, long_file_entries, directory_entries, move_word_entry};
 ghost use Rattle.lfs_model.specs.examples.Images.{IsRefused, root_block, pair_block, image_with, resized, superblock_with, other_root};
 
 /// The thread must end, within the disk, and must not have a block twice.
@@ -55,7 +55,7 @@ pub fn bad_name_is_refused()
 pub fn bad_list_is_refused()
     ensures shared { IsRefused
         (image_with (root_block (long_file_entries 1 (codes "a") 2 10 ++ long_file_entries 2 (codes "b") 2 10) 0xc767c5eb 170)
-        (filled 4096 (codes "0123456789") ∷ [])) }
+        (block_of_bytes 4096 (codes "0123456789") ∷ [])) }
     ensures of_the_root { IsRefused (image_with (root_block (long_file_entries 1 (codes "a") 1 10) 0x560f4ae1 187) []) }
     ensures head { IsRefused (image_with (root_block (long_file_entries 1 (codes "a") 16 10) 0xc1b2eb72 187) []) }
     ensures empty { IsRefused (image_with (root_block (long_file_entries 1 (codes "a") 2 0) 0xb05184d9 187) []) }
@@ -66,7 +66,7 @@ pub fn bad_list_is_refused()
         (image_with (root_block (long_file_entries 1 (codes "a") 4 8189) 0xaa94cc85 187)
         (replicate 4096 97
         ∷ (little_bytes 4 2 ++ replicate 4092 98)
-        ∷ filled 4096 (little_bytes 4 3 ++ little_bytes 4 3 ++ 99 ∷ []) ∷ [])) }
+        ∷ block_of_bytes 4096 (little_bytes 4 3 ++ little_bytes 4 3 ++ 99 ∷ []) ∷ [])) }
 {}
 
 /// The global state is zero but for the sync bit, or names a slot that isn't the superblock's.

@@ -7,12 +7,12 @@ ghost use Rattle.lfs_model.specs.Blocks.{Blocks, IsDivided, SameButThese};
 ghost use Rattle.lfs_model.specs.BlockSets.{BlockSets, IsInFlight, IsUsed, in_flight_count, used_count};
 ghost use Rattle.lfs_model.specs.Content.{RawSlot, RawContent, completed, content_at};
 ghost use Rattle.lfs_model.specs.EntryTypes.{file_name_type, directory_name_type, superblock_name_type};
-ghost use Rattle.lfs_model.specs.Cut.{CanBeCut, IsCut};
+ghost use Rattle.lfs_model.specs.Cut.{CanBeCut, IsCutOfSlots};
 ghost use Rattle.lfs_model.specs.Frame.{pairs_of_path};
 ghost use Rattle.lfs_model.specs.Disk.{Disk, pair_capacity, entry_limit, slot_limit};
 ghost use Rattle.lfs_model.specs.FailedCalls.{FailAsStopped, IsLeftByNewest, HasFailedWith};
 ghost use Rattle.lfs_model.specs.History.{Event, EachSince, faults};
-ghost use Rattle.lfs_model.specs.InDirectory.{BeginsAt, Stands, Belongs, run_length};
+ghost use Rattle.lfs_model.specs.InDirectory.{BeginsAt, HasNameAtPlace, BelongsInDirectory, run_length};
 ghost use Rattle.lfs_model.specs.SkipLists.{blocks_for, blocks_back, IsList, bytes_of};
 ghost use Rattle.lfs_model.specs.LoggedContent.{IsPart, HaveParts, IsLogged};
 ghost use Rattle.lfs_model.specs.Names.{Name};
@@ -24,7 +24,7 @@ ghost use Rattle.lfs_model.specs.Thread.{Pair, gstate_of, starts_with_superblock
 ghost use Rattle.lfs_model.specs.Tree.{Path, Tree};
 ghost use Rattle.lfs_model.specs.Profile.{FitsEntry};
 ghost use Rattle.lfs_model.specs.View.{IsAccepted, superblock_entry};
-ghost use Rattle.lfs_model.specs.Shown.{Leads};
+ghost use Rattle.lfs_model.specs.Shown.{PathLeadsTo};
 ghost use Rattle.lfs_model.specs.WrittenContent.{raw_slot_size, written_entries};
 
 /// Where all slots but one fit a pair, and that one takes at most half of it, they can be cut into two parts that fit.
@@ -42,7 +42,7 @@ pub fn full_pair_can_be_cut()
 
     // where the whole doesn't fit, no part is without slots
     ensures inside { (block_size page : ℕ) (raw : RawContent) (c : Content) (at : ℕ) → IsLogged raw → completed raw ≡ Some c → (FitsPair block_size page c → ⊥)
-        → IsCut block_size page raw.slots at → (1 ≤ at) × (at < length raw.slots) }
+        → IsCutOfSlots block_size page raw.slots at → (1 ≤ at) × (at < length raw.slots) }
 {}
 
 /// A name's type is a file's, a directory's or a superblock's. What is written anew with the superblock in slot 0 begins with its entry.
@@ -78,10 +78,10 @@ pub fn blocks_are_counted()
 
 /// A search in the pairs of a directory finds the entry at the name's path, and reads as many pairs as the directory has.
 pub fn search_finds_what_stands_at_a_path()
-    ensures stands { (disk : Disk) (ps : List Pair) (path : Path) (at : ℕ × ℕ) (first pair id : ℕ) (name : Name) → IsAccepted disk ps → gstate_of ps ≡ no_gstate → Leads ps path at
-        → BeginsAt ps at first → (s : Stands ps first name pair id) → slot_of_path ps (path ++ name ∷ []) ≡ Some s.stands.slot }
-    ensures absent { (disk : Disk) (ps : List Pair) (path : Path) (at : ℕ × ℕ) (first pair id : ℕ) (name : Name) → IsAccepted disk ps → gstate_of ps ≡ no_gstate → Leads ps path at
-        → BeginsAt ps at first → Belongs disk.order ps first name pair id → slot_of_path ps (path ++ name ∷ []) ≡ None }
-    ensures reads { (disk : Disk) (ps : List Pair) (path : Path) (at : ℕ × ℕ) (first : ℕ) → IsAccepted disk ps → Leads ps path at → BeginsAt ps at first
+    ensures stands { (disk : Disk) (ps : List Pair) (path : Path) (at : ℕ × ℕ) (first pair id : ℕ) (name : Name) → IsAccepted disk ps → gstate_of ps ≡ no_gstate → PathLeadsTo ps path at
+        → BeginsAt ps at first → (s : HasNameAtPlace ps first name pair id) → slot_of_path ps (path ++ name ∷ []) ≡ Some s.stands.slot }
+    ensures absent { (disk : Disk) (ps : List Pair) (path : Path) (at : ℕ × ℕ) (first pair id : ℕ) (name : Name) → IsAccepted disk ps → gstate_of ps ≡ no_gstate → PathLeadsTo ps path at
+        → BeginsAt ps at first → BelongsInDirectory disk.order ps first name pair id → slot_of_path ps (path ++ name ∷ []) ≡ None }
+    ensures reads { (disk : Disk) (ps : List Pair) (path : Path) (at : ℕ × ℕ) (first : ℕ) → IsAccepted disk ps → PathLeadsTo ps path at → BeginsAt ps at first
         → run_length (drop first ps) ≡ pairs_of_path ps path }
 {}

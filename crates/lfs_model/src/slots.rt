@@ -9,8 +9,8 @@ ghost use Rattle.lfs_model.specs.State.{mounted};
 ghost use Rattle.lfs_model.specs.Fresh.{empty_tree};
 ghost use Rattle.lfs_model.specs.Recovery.{recovers};
 ghost use Rattle.lfs_model.specs.SlotEdits.{new_file, new_directory, Stores, Edits};
-ghost use Rattle.lfs_model.specs.Layout.{removed_directories, StandFor};
-ghost use Rattle.lfs_model.specs.Frame.{is_kept, looks_up};
+ghost use Rattle.lfs_model.specs.Layout.{removed_directories, HoldsSlotsOf};
+ghost use Rattle.lfs_model.specs.Frame.{is_answered_from_memory, looks_up};
 ghost use Rattle.lfs_model.specs.Keeping.{takes_or_moves, stores_at, struct_at, KeepsStructs};
 ghost use Rattle.lfs_model.specs.Run.{only_asks, fills, needs_no_call, renames_to_itself, lays_out};
 ghost use Rattle.lfs_model.specs.examples.Sessions.{for_new, for_read};
@@ -32,7 +32,7 @@ pub fn operations_are_told_apart()
         ≡ ops.Write 0 [] ∷ ops.Sync 0 ∷ ops.Close 0 ∷ ops.AskGstate ∷ ops.IsUsed 0 ∷ ops.UsedCount ∷ [] }
     ensures sized { filter (needs_no_call (writing_at [] true (codes "hi"))) (ops.Truncate 0 2 ∷ ops.Truncate 0 3 ∷ ops.Truncate 1 2 ∷ ops.Write 0 (codes "!") ∷ []) ≡ ops.Truncate 0 2 ∷ [] }
     ensures unseen { filter fills each_operation ≡ ops.Write 0 [] ∷ ops.Truncate 0 1 ∷ [] }
-    ensures kept { filter is_kept each_operation ≡ ops.AskGstate ∷ ops.IsUsed 0 ∷ ops.UsedCount ∷ [] }
+    ensures kept { filter is_answered_from_memory each_operation ≡ ops.AskGstate ∷ ops.IsUsed 0 ∷ ops.UsedCount ∷ [] }
     ensures itself { filter renames_to_itself each_operation ≡ ops.Rename (codes "/a") (codes "/a") ∷ [] }
 {}
 
@@ -77,12 +77,12 @@ pub fn bytes_are_stored()
 
 /// A pair is cut where its slots don't fit, and dropped where it has none and isn't the first.
 pub fn pairs_are_cut_and_dropped()
-    ensures cut { StandFor small_image true ⊥ (pair_with (2, 3) (heavy_file (codes "a") ∷ heavy_file (codes "b") ∷ []) None)
+    ensures cut { HoldsSlotsOf small_image true ⊥ (pair_with (2, 3) (heavy_file (codes "a") ∷ heavy_file (codes "b") ∷ []) None)
         (pair_with (2, 3) (heavy_file (codes "a") ∷ []) None ∷ pair_with (4, 5) (heavy_file (codes "b") ∷ []) None ∷ []) }
-    ensures not_whole { (q : Pair) → StandFor small_image true ⊥ (pair_with (2, 3) (heavy_file (codes "a") ∷ heavy_file (codes "b") ∷ []) None) (q ∷ []) → ⊥ }
-    ensures dropped { StandFor small_image false ⊥ (pair_with (2, 3) [] None) [] }
-    ensures not_kept { (q : Pair) → StandFor small_image false ⊥ (pair_with (2, 3) [] None) (q ∷ []) → ⊥ }
-    ensures first_stays { StandFor small_image true ⊥ (pair_with (2, 3) [] None) [] → ⊥ }
+    ensures not_whole { (q : Pair) → HoldsSlotsOf small_image true ⊥ (pair_with (2, 3) (heavy_file (codes "a") ∷ heavy_file (codes "b") ∷ []) None) (q ∷ []) → ⊥ }
+    ensures dropped { HoldsSlotsOf small_image false ⊥ (pair_with (2, 3) [] None) [] }
+    ensures not_kept { (q : Pair) → HoldsSlotsOf small_image false ⊥ (pair_with (2, 3) [] None) (q ∷ []) → ⊥ }
+    ensures first_stays { HoldsSlotsOf small_image true ⊥ (pair_with (2, 3) [] None) [] → ⊥ }
 {}
 
 /// A directory is dropped where it is removed, or where a rename replaces it.

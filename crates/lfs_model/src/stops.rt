@@ -7,7 +7,7 @@ ghost use Rattle.lfs_model.specs.Conformance.{AllConform};
 ghost use Rattle.lfs_model.specs.Stops.{stops_in, Stops, ErasesCleanly, HasNoLog};
 ghost use Rattle.lfs_model.specs.PowerLoss.{FailsAsStopped};
 ghost use Rattle.lfs_model.specs.Premises.{MeetsPremises};
-ghost use Rattle.lfs_model.specs.BlockBytes.{unwritten, filled};
+ghost use Rattle.lfs_model.specs.BlockBytes.{unwritten, block_of_bytes};
 ghost use Rattle.lfs_model.specs.examples.Images.{small_commit, appended_commit, small_block};
 
 /// A stop may leave the disk before the call, or what the whole call makes, or a torn commit that isn't one.
@@ -24,15 +24,15 @@ pub fn stop_leaves_old_or_new()
 /// A stopped erase leaves the log that was there or none, and no other.
 pub fn stopped_erase_leaves_no_other_log()
     ensures none { (after : Blocks) → Stops (event (Erase 0) (small_block ∷ []) after true) (unwritten 1024 ∷ []) }
-    ensures other { (after : Blocks) → Stops (event (Erase 0) (small_block ∷ []) after true) (filled 1024 (small_commit ++ appended_commit) ∷ []) → ⊥ }
+    ensures other { (after : Blocks) → Stops (event (Erase 0) (small_block ∷ []) after true) (block_of_bytes 1024 (small_commit ++ appended_commit) ∷ []) → ⊥ }
 
     // The promises about stops suppose that an erase which succeeds leaves no other log, either.
     ensures clean { ErasesCleanly (event (Erase 0) (small_block ∷ []) (unwritten 1024 ∷ []) false) }
-    ensures not_clean { ErasesCleanly (event (Erase 0) (small_block ∷ []) (filled 1024 (small_commit ++ appended_commit) ∷ []) false) → ⊥ }
+    ensures not_clean { ErasesCleanly (event (Erase 0) (small_block ∷ []) (block_of_bytes 1024 (small_commit ++ appended_commit) ∷ []) false) → ⊥ }
 
     // A call that fails may leave what a stop in it leaves, or more.
     ensures as_stopped { FailsAsStopped (event (Erase 0) (small_block ∷ []) (unwritten 1024 ∷ []) true) }
-    ensures not_stopped { FailsAsStopped (event (Erase 0) (small_block ∷ []) (filled 1024 (small_commit ++ appended_commit) ∷ []) true) → ⊥ }
+    ensures not_stopped { FailsAsStopped (event (Erase 0) (small_block ∷ []) (block_of_bytes 1024 (small_commit ++ appended_commit) ∷ []) true) → ⊥ }
 {}
 
 /// A call that conforms left what a stop in it may leave.

@@ -9,7 +9,7 @@ use Rattle.lfs_model.proofs.Counts.{count, count_append, once_from_distinct, dis
 use Rattle.lfs_pair.specs.Pair.{address_in}
 use Rattle.lfs_thread.specs.Kept.{Header, pairs_on}
 use Rattle.lfs_thread.specs.Places.{blocks_at}
-use Rattle.lfs_mount.specs.Members.{begins_in, continues}
+use Rattle.lfs_mount.specs.Members.{directory_addresses, continues}
 
 front_distinct : (xs more : List (ℕ × ℕ)) → IsDistinct nat_eq (blocks_at (xs ++ more)) → IsDistinct nat_eq (blocks_at xs)
 front_distinct xs more distinct = distinct_from_once (blocks_at xs) (λ b.
@@ -18,23 +18,23 @@ front_distinct xs more distinct = distinct_from_once (blocks_at xs) (λ b.
     omega arith)
 
 -- the next one has no block in common with those before it
-pub next_apart : (xs : List (ℕ × ℕ)) (hs : List Header) (k : ℕ) (h : Header) → k < length hs → h ≡ get_or hs k h → xs ++ begins_in true (drop k hs) ≡ begins_in true hs
-    → IsDistinct nat_eq (blocks_at (begins_in true hs)) → IsDistinct nat_eq (blocks_at (xs ++ address_in h ∷ []))
+pub next_apart : (xs : List (ℕ × ℕ)) (hs : List Header) (k : ℕ) (h : Header) → k < length hs → h ≡ get_or hs k h → xs ++ directory_addresses true (drop k hs) ≡ directory_addresses true hs
+    → IsDistinct nat_eq (blocks_at (directory_addresses true hs)) → IsDistinct nat_eq (blocks_at (xs ++ address_in h ∷ []))
 next_apart xs hs k h below is e distinct =
-    let more : List (ℕ × ℕ) = begins_in (not (continues h)) (drop (k + 1) hs) in
-    let parts : (xs ++ address_in h ∷ []) ++ more ≡ begins_in true hs =
+    let more : List (ℕ × ℕ) = directory_addresses (not (continues h)) (drop (k + 1) hs) in
+    let parts : (xs ++ address_in h ∷ []) ++ more ≡ directory_addresses true hs =
     append_assoc xs (address_in h ∷ []) more
-    ∙ ap (λ (x : Header). xs ++ address_in x ∷ begins_in (not (continues x)) (drop (k + 1) hs)) is ∙ ap (λ (ys : List Header). xs ++ begins_in true ys) (sym (drop_more hs k h below)) ∙ e in
+    ∙ ap (λ (x : Header). xs ++ address_in x ∷ directory_addresses (not (continues x)) (drop (k + 1) hs)) is ∙ ap (λ (ys : List Header). xs ++ directory_addresses true ys) (sym (drop_more hs k h below)) ∙ e in
     front_distinct (xs ++ address_in h ∷ []) more (subst (λ ys. IsDistinct nat_eq (blocks_at ys)) (sym parts) distinct)
 
 -- ---- from the blocks of the pairs
 
-begins_count : (disk : Disk) (b : ℕ) (begins : Bool) (hs : List Header) → count b (blocks_at (begins_in begins hs)) ≤ count b (blocks_of (pairs_on disk hs))
+begins_count : (disk : Disk) (b : ℕ) (begins : Bool) (hs : List Header) → count b (blocks_at (directory_addresses begins hs)) ≤ count b (blocks_of (pairs_on disk hs))
 begins_count disk b begins [] = omega arith
 begins_count disk b true (h ∷ hs) = let n = begins_count disk b (not (continues h)) hs in omega arith
 begins_count disk b false (h ∷ hs) = let n = begins_count disk b (not (continues h)) hs in omega arith
 
 -- the directories begin in blocks of their own
-pub begins_distinct : (disk : Disk) (hs : List Header) → IsDistinct nat_eq (blocks_of (pairs_on disk hs)) → IsDistinct nat_eq (blocks_at (begins_in true hs))
+pub begins_distinct : (disk : Disk) (hs : List Header) → IsDistinct nat_eq (blocks_of (pairs_on disk hs)) → IsDistinct nat_eq (blocks_at (directory_addresses true hs))
 begins_distinct disk hs distinct =
-    distinct_from_once (blocks_at (begins_in true hs)) (λ b. let o = once_from_distinct (blocks_of (pairs_on disk hs)) distinct b in let n = begins_count disk b true hs in omega arith)
+    distinct_from_once (blocks_at (directory_addresses true hs)) (λ b. let o = once_from_distinct (blocks_of (pairs_on disk hs)) distinct b in let n = begins_count disk b true hs in omega arith)

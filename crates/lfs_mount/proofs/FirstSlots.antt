@@ -13,7 +13,7 @@ use Rattle.lfs_model.specs.View.{HasStruct, IsSuperblockStruct}
 use Rattle.lfs_model.proofs.Completed.{complete_parts}
 use Rattle.lfs_tag.specs.KindView.{names_superblock}
 use Rattle.lfs_mount.specs.Checked.{HasStart}
-use Rattle.lfs_mount.specs.Head.{is_called, inline_in, describes, if_describes, superblock_in, if_same, repeats_in}
+use Rattle.lfs_mount.specs.Head.{has_name_bytes, inline_in, describes, if_describes, superblock_in, if_same, repeats_first_slot}
 
 -- ---- a slot with a name and a struct
 
@@ -82,7 +82,7 @@ differs bytes o e f = absurd (
     let clash : Some true ≡ None = sym same ∙ e in cc)
 
 module _ (bytes : List ℕ) where
-  pub repeats_true : (raws : List RawSlot) (slots : List Slot) → complete_all raws ≡ Some slots → repeats_in bytes raws ≡ Some true → HasStart bytes slots
+  pub repeats_true : (raws : List RawSlot) (slots : List Slot) → complete_all raws ≡ Some slots → repeats_first_slot bytes raws ≡ Some true → HasStart bytes slots
   repeats_true [] slots c e = absurd (cc)
   repeats_true (s ∷ raws) slots c e =
       let p = complete_parts s raws slots c in
@@ -92,7 +92,7 @@ module _ (bytes : List ℕ) where
       go t m true n k = (slot_named s t m ∙ n, slot_struct s t bytes m (same_from bytes (inline_in s.struct) k))
       go t m false n k = absurd (cc)
 
-  pub repeats_false : (raws : List RawSlot) (slots : List Slot) → complete_all raws ≡ Some slots → repeats_in bytes raws ≡ Some false → starts_with_superblock slots ≡ false
+  pub repeats_false : (raws : List RawSlot) (slots : List Slot) → complete_all raws ≡ Some slots → repeats_first_slot bytes raws ≡ Some false → starts_with_superblock slots ≡ false
   repeats_false [] slots c e = ap starts_with_superblock (sym (same_Some [] slots c))
   repeats_false (s ∷ raws) slots c e =
       let p = complete_parts s raws slots c in
@@ -102,7 +102,7 @@ module _ (bytes : List ℕ) where
       go true n k = absurd (never_false bytes (inline_in s.struct) k)
       go false n k = refl
 
-  pub repeats_none : (raws : List RawSlot) (slots : List Slot) → complete_all raws ≡ Some slots → repeats_in bytes raws ≡ None → (starts_with_superblock slots ≡ true) × (HasStart bytes slots → ⊥)
+  pub repeats_none : (raws : List RawSlot) (slots : List Slot) → complete_all raws ≡ Some slots → repeats_first_slot bytes raws ≡ None → (starts_with_superblock slots ≡ true) × (HasStart bytes slots → ⊥)
   repeats_none [] slots c e = absurd (cc)
   repeats_none (s ∷ raws) slots c e =
       let p = complete_parts s raws slots c in
@@ -133,24 +133,24 @@ described block_size count (Some held) bytes e = go (describes block_size count 
     go true f k = (k, ap (describes block_size count) (sym (same_Some held bytes k)) ∙ f)
     go false f k = absurd (cc)
 
-called : (s : RawSlot) (t : Slot) (name : List ℕ) → IsMadeOf s t → is_called name s.name ≡ true → t.name ≡ name
-called s t name m e = ap (λ (x : Slot). x.name) m.made ∙ (bytes_eq-Decides m.name.1 name).0 (sym (ap (is_called name) m.name_is) ∙ e)
+called : (s : RawSlot) (t : Slot) (name : List ℕ) → IsMadeOf s t → has_name_bytes name s.name ≡ true → t.name ≡ name
+called s t name m e = ap (λ (x : Slot). x.name) m.made ∙ (bytes_eq-Decides m.name.1 name).0 (sym (ap (has_name_bytes name) m.name_is) ∙ e)
 
-calls : (s : RawSlot) (t : Slot) (name : List ℕ) → IsMadeOf s t → t.name ≡ name → is_called name s.name ≡ true
-calls s t name m e = ap (is_called name) m.name_is ∙ (bytes_eq-Decides m.name.1 name).1 (sym (ap (λ (x : Slot). x.name) m.made) ∙ e)
+calls : (s : RawSlot) (t : Slot) (name : List ℕ) → IsMadeOf s t → t.name ≡ name → has_name_bytes name s.name ≡ true
+calls s t name m e = ap (has_name_bytes name) m.name_is ∙ (bytes_eq-Decides m.name.1 name).1 (sym (ap (λ (x : Slot). x.name) m.made) ∙ e)
 
 pub first_found : (block_size count : ℕ) (raws : List RawSlot) (slots : List Slot) (bytes : List ℕ) → complete_all raws ≡ Some slots → superblock_in block_size count raws ≡ Some bytes
     → IsFirst block_size count bytes slots
 first_found block_size count [] slots bytes c e = absurd (cc)
 first_found block_size count (s ∷ raws) slots bytes c e =
     let p = complete_parts s raws slots c in
-    subst (IsFirst block_size count bytes) (sym p.all_are) (go p.first p.others (made_of s p.first p.is_first) (names_superblock s.name && is_called (codes "littlefs") s.name) refl e)
+    subst (IsFirst block_size count bytes) (sym p.all_are) (go p.first p.others (made_of s p.first p.is_first) (names_superblock s.name && has_name_bytes (codes "littlefs") s.name) refl e)
   where
-    go : (t : Slot) (ts : List Slot) → IsMadeOf s t → (b : Bool) → (names_superblock s.name && is_called (codes "littlefs") s.name) ≡ b → cond b (if_describes block_size count (inline_in s.struct)) None ≡ Some bytes
+    go : (t : Slot) (ts : List Slot) → IsMadeOf s t → (b : Bool) → (names_superblock s.name && has_name_bytes (codes "littlefs") s.name) ≡ b → cond b (if_describes block_size count (inline_in s.struct)) None ≡ Some bytes
         → IsFirst block_size count bytes (t ∷ ts)
     go t ts m false n k = absurd (cc)
     go t ts m true n k =
-        let both = and_parts (names_superblock s.name) (is_called (codes "littlefs") s.name) n in
+        let both = and_parts (names_superblock s.name) (has_name_bytes (codes "littlefs") s.name) n in
         let d = described block_size count (inline_in s.struct) bytes k in
         record {
           start = (slot_named s t m ∙ both.0, slot_struct s t bytes m d.0);
@@ -168,7 +168,7 @@ first_is block_size count (s ∷ raws) slots bytes c f =
     go : (t : Slot) (ts : List Slot) → IsMadeOf s t → IsFirst block_size count bytes (t ∷ ts) → superblock_in block_size count (s ∷ raws) ≡ Some bytes
     go t ts m h =
         ap (λ b. cond b (if_describes block_size count (inline_in s.struct)) None)
-        (and_from (names_superblock s.name) (is_called (codes "littlefs") s.name) (sym (slot_named s t m) ∙ h.start.0) (calls s t (codes "littlefs") m (same_Some t.name (codes "littlefs") h.named)))
+        (and_from (names_superblock s.name) (has_name_bytes (codes "littlefs") s.name) (sym (slot_named s t m) ∙ h.start.0) (calls s t (codes "littlefs") m (same_Some t.name (codes "littlefs") h.named)))
         ∙ ap (if_describes block_size count) (slot_inline s t bytes m h.start.1) ∙ ap (λ b. cond b (Some bytes) None) h.describes
 
 pub struct_described : (disk : Disk) (bytes : List ℕ) → describes disk.block_size (block_count disk) bytes ≡ true → IsSuperblockStruct disk bytes

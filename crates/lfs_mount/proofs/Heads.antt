@@ -11,13 +11,13 @@ use Rattle.lfs_model.specs.History.{Event}
 use Rattle.lfs_model.specs.Slots.{Slot, Inline}
 use Rattle.lfs_model.specs.Thread as Thread
 use Rattle.lfs_model.specs.Thread.{Pair, anchor, IsThread, first_at, from_slots, has_slots, is_bare, is_hard, meets_superblock, starts_with_superblock, superblock_or, superblocks_before}
-use Rattle.lfs_model.specs.View.{BeginsWith, MayHaveSuperblock, IsAccepted, first_name, superblock_entry, superblock_pairs}
+use Rattle.lfs_model.specs.View.{BeginsWithEntry, MayHaveSuperblock, IsAccepted, first_name, superblock_entry, superblock_pairs}
 use Rattle.lfs_model.proofs.Counts.{Each}
 use Rattle.lfs_model.proofs.Superblocks.{meets_first, meets_from, meets_starting}
 use Rattle.lfs_tag.specs.ContentView.{tail_view}
 use Rattle.lfs_thread.specs.Kept.{AreHeaders, Header, pairs_on}
 use Rattle.lfs_mount.specs.Checked.{HasStart, IsAlone, IsBare}
-use Rattle.lfs_mount.specs.Head.{HasHeaders, IsHead, IsSuperblockOf, first_filled, leads_on, repeats_in, repeats_of, superblock_in}
+use Rattle.lfs_mount.specs.Head.{HasHeaders, IsHead, IsSuperblockOf, first_pair_with_slots, leads_on, repeats_first_slot, repeats_superblock, superblock_in}
 use Rattle.lfs_mount.proofs.FirstSlots.{IsFirst, describes_struct, first_found, first_is, repeats_false, repeats_none, repeats_true, struct_described}
 use Rattle.lfs_mount.proofs.Headers.{IsSeen, header_at, pair_at, pair_of, seen_from}
 
@@ -243,8 +243,8 @@ step_at hs index h next low high e f =
     }
 
 -- the same of other blocks, bytes and headers that are the same
-pub same_block : (blocks then : Blocks) (bytes read : List ℕ) (h k : Header) (o : Option Bool) → then ≡ blocks → read ≡ bytes → h ≡ k → repeats_of read (block_in then k.active) ≡ o → repeats_of bytes (block_in blocks h.active) ≡ o
-same_block blocks then bytes read h k o b r e f = ap (λ (x : Header). repeats_of bytes (block_in blocks x.active)) e ∙ ap₂ (λ (x : Blocks) (y : List ℕ). repeats_of y (block_in x k.active)) (sym b) (sym r) ∙ f
+pub same_block : (blocks then : Blocks) (bytes read : List ℕ) (h k : Header) (o : Option Bool) → then ≡ blocks → read ≡ bytes → h ≡ k → repeats_superblock read (block_in then k.active) ≡ o → repeats_superblock bytes (block_in blocks h.active) ≡ o
+same_block blocks then bytes read h k o b r e f = ap (λ (x : Header). repeats_superblock bytes (block_in blocks x.active)) e ∙ ap₂ (λ (x : Blocks) (y : List ℕ). repeats_superblock y (block_in x k.active)) (sym b) (sym r) ∙ f
 
 -- the first one of a pair that has a slot, with pairs of the chain in front of it
 record IsFilled (disk : Disk) (hs : List Header) (k : ℕ) (bytes : List ℕ) : Type 0 where
@@ -263,16 +263,16 @@ filled_slots : (slots : List Slot) → (slots ≡ [] → ⊥) → has_slots slot
 filled_slots [] some = absurd (some refl)
 filled_slots (s ∷ slots) some = refl
 
-filled : (disk : Disk) (history : List Event) (bytes : List ℕ) (hs : List Header) (k : ℕ) → AreHeaders disk history hs → first_filled hs ≡ Some k → IsFilled disk hs k bytes
+filled : (disk : Disk) (history : List Event) (bytes : List ℕ) (hs : List Header) (k : ℕ) → AreHeaders disk history hs → first_pair_with_slots hs ≡ Some k → IsFilled disk hs k bytes
 filled disk history bytes [] k each e = absurd (cc)
 filled disk history bytes (x ∷ hs) k each e =
-    go (x.slot_count == 0) refl (is_hard (option_map tail_view x.tail)) refl (first_filled hs) refl e (λ j f. filled disk history bytes hs j each.1 f)
+    go (x.slot_count == 0) refl (is_hard (option_map tail_view x.tail)) refl (first_pair_with_slots hs) refl e (λ j f. filled disk history bytes hs j each.1 f)
   where
     seen : IsSeen disk x
     seen = seen_from disk history x each.0
 
-    go : (a : Bool) → (x.slot_count == 0) ≡ a → (b : Bool) → is_hard (option_map tail_view x.tail) ≡ b → (o : Option ℕ) → first_filled hs ≡ o
-        → cond a (cond b (option_map (λ n. suc n) o) None) (Some 0) ≡ Some k → ((j : ℕ) → first_filled hs ≡ Some j → IsFilled disk hs j bytes) → IsFilled disk (x ∷ hs) k bytes
+    go : (a : Bool) → (x.slot_count == 0) ≡ a → (b : Bool) → is_hard (option_map tail_view x.tail) ≡ b → (o : Option ℕ) → first_pair_with_slots hs ≡ o
+        → cond a (cond b (option_map (λ n. suc n) o) None) (Some 0) ≡ Some k → ((j : ℕ) → first_pair_with_slots hs ≡ Some j → IsFilled disk hs j bytes) → IsFilled disk (x ∷ hs) k bytes
     go false n b hard o f is next = subst (λ i. IsFilled disk (x ∷ hs) i bytes) (same_Some 0 k is) (record {
       header = x;
       here = refl;
@@ -298,15 +298,15 @@ filled disk history bytes (x ∷ hs) k each e =
         empty : (pair_of disk x).content.slots ≡ []
         empty = no_slots (pair_of disk x).content.slots (sym seen.count ∙ eqb-true x.slot_count 0 n)
 
-none_filled : (disk : Disk) (history : List Event) (hs : List Header) → AreHeaders disk history hs → first_filled hs ≡ None → meets_superblock (pairs_on disk hs) ≡ false
+none_filled : (disk : Disk) (history : List Event) (hs : List Header) → AreHeaders disk history hs → first_pair_with_slots hs ≡ None → meets_superblock (pairs_on disk hs) ≡ false
 none_filled disk history [] each e = refl
-none_filled disk history (x ∷ hs) each e = go (x.slot_count == 0) refl (is_hard (option_map tail_view x.tail)) refl (first_filled hs) refl e (λ f. none_filled disk history hs each.1 f)
+none_filled disk history (x ∷ hs) each e = go (x.slot_count == 0) refl (is_hard (option_map tail_view x.tail)) refl (first_pair_with_slots hs) refl e (λ f. none_filled disk history hs each.1 f)
   where
     seen : IsSeen disk x
     seen = seen_from disk history x each.0
 
-    go : (a : Bool) → (x.slot_count == 0) ≡ a → (b : Bool) → is_hard (option_map tail_view x.tail) ≡ b → (o : Option ℕ) → first_filled hs ≡ o
-        → cond a (cond b (option_map (λ n. suc n) o) None) (Some 0) ≡ None → (first_filled hs ≡ None → meets_superblock (pairs_on disk hs) ≡ false) → meets_superblock (pairs_on disk (x ∷ hs)) ≡ false
+    go : (a : Bool) → (x.slot_count == 0) ≡ a → (b : Bool) → is_hard (option_map tail_view x.tail) ≡ b → (o : Option ℕ) → first_pair_with_slots hs ≡ o
+        → cond a (cond b (option_map (λ n. suc n) o) None) (Some 0) ≡ None → (first_pair_with_slots hs ≡ None → meets_superblock (pairs_on disk hs) ≡ false) → meets_superblock (pairs_on disk (x ∷ hs)) ≡ false
     go false n b hard o f is next = absurd (cc)
     go true n true hard (Some j) f is next = absurd (cc)
     go true n true hard None f is next = empty ∙ ap (λ b. is_hard (pair_of disk x).content.tail && b) (next f) ∙ and_right (is_hard (pair_of disk x).content.tail) false refl
@@ -364,8 +364,8 @@ module _ (disk : Disk) (history : List Event) (hs : List Header) (has : HasHeade
     abbrev seen_next : IsSeen disk next
     seen_next = header_at disk history hs (suc s.k) next has.each s.there
 
-    repeats : repeats_of bytes (block_at disk next.active) ≡ repeats_in bytes seen_next.held.slots
-    repeats = ap (option_and_then (λ c. repeats_in bytes c.slots)) seen_next.log
+    repeats : repeats_superblock bytes (block_at disk next.active) ≡ repeats_first_slot bytes seen_next.held.slots
+    repeats = ap (option_and_then (λ c. repeats_first_slot bytes c.slots)) seen_next.log
 
     pub within : next.active < block_count disk
     within = seen_next.active
@@ -407,26 +407,26 @@ module _ (disk : Disk) (history : List Event) (hs : List Header) (has : HasHeade
       some filled e = filled (seen_next.count ∙ ap length e)
 
       -- the superblock again
-      pub more : repeats_of bytes (block_at disk next.active) ≡ Some true → IsWalked bytes ps index (index + 1 - 1)
+      pub more : repeats_superblock bytes (block_at disk next.active) ≡ Some true → IsWalked bytes ps index (index + 1 - 1)
       more is = subst (IsWalked bytes ps index) (omega arith) (subst (λ n. IsWalked bytes ps n n) (sym s.is) (walked_at bytes (suc s.k) ps
           (led_from bytes (suc s.k) ps q linked q_at (repeats_true bytes seen_next.held.slots q.content.slots seen_next.slots (sym repeats ∙ is)))))
 
       -- other slots
-      pub ends : (next.slot_count ≡ 0 → ⊥) → repeats_of bytes (block_at disk next.active) ≡ Some false → superblocks_before ps ≡ root
+      pub ends : (next.slot_count ≡ 0 → ⊥) → repeats_superblock bytes (block_at disk next.active) ≡ Some false → superblocks_before ps ≡ root
       ends filled is = w.ends p p_at (goes ∙ meets ∙ meets_slots q.content.slots (is_hard q.content.tail && meets_superblock (drop (suc (suc s.k)) ps)) (some filled)
           ∙ repeats_false bytes seen_next.held.slots q.content.slots seen_next.slots (sym repeats ∙ is))
 
-      pub fails : repeats_of bytes (block_at disk next.active) ≡ None → IsAccepted disk ps → ⊥
+      pub fails : repeats_superblock bytes (block_at disk next.active) ≡ None → IsAccepted disk ps → ⊥
       fails is a =
           let other = repeats_none bytes seen_next.held.slots q.content.slots seen_next.slots (sym repeats ∙ is) in
           refused disk bytes root (suc s.k) ps q w.led (let b = w.below in omega arith) linked q_at other.0 other.1 a
 
   -- ---- the first header of a pair that has a slot, as it is read
 
-  pub refused_none : first_filled hs ≡ None → IsAccepted disk ps → ⊥
+  pub refused_none : first_pair_with_slots hs ≡ None → IsAccepted disk ps → ⊥
   refused_none none a = let e = sym (meets_from ps a.root) ∙ none_filled disk history hs has.each none in cc
 
-  module _ (k : ℕ) (found : first_filled hs ≡ Some k) where
+  module _ (k : ℕ) (found : first_pair_with_slots hs ≡ Some k) where
     pub within_first : k < length hs
     within_first = let f = filled disk history [] hs k has.each found in slice_get_within hs k f.header f.here
 
@@ -493,7 +493,7 @@ module _ (disk : Disk) (history : List Event) (hs : List Header) (has : HasHeade
             describes = describes_struct disk bytes a.superblock.1.0;
           } in
           never bytes (subst (λ (z : Header). IsSuperblockOf disk z.active bytes) is (record {
-            begins = subst (λ o. BeginsWith o superblock_entry) held_first a.first;
+            begins = subst (λ o. BeginsWithEntry o superblock_entry) held_first a.first;
             struct = ap (option_and_then (λ c. superblock_in disk.block_size (block_count disk) c.slots)) first_seen.log
                 ∙ first_is disk.block_size (block_count disk) first_seen.held.slots (pair_of disk h).content.slots bytes first_seen.slots first_is_so;
           }))
@@ -513,8 +513,8 @@ module _ (disk : Disk) (history : List Event) (hs : List Header) (has : HasHeade
             before = before;
             bytes = bytes;
             head = record {
-              first = subst (λ (qs : List Pair). BeginsWith (holder_at disk (first_at (from_slots qs))) superblock_entry) apart.parts
-                  (subst (λ o. BeginsWith o superblock_entry) (sym held_first) (there bytes s).begins);
+              first = subst (λ (qs : List Pair). BeginsWithEntry (holder_at disk (first_at (from_slots qs))) superblock_entry) apart.parts
+                  (subst (λ o. BeginsWithEntry o superblock_entry) (sym held_first) (there bytes s).begins);
               named = ap (λ (qs : List Pair). first_name (from_slots qs)) (sym apart.parts) ∙ ap first_name from ∙ d.named;
               struct = struct_described disk bytes d.describes;
               bare = apart.bare;

@@ -9,7 +9,7 @@ use Rattle.lfs_model.specs.View.{IsSuperblockStruct}
 use Rattle.lfs_model.specs.declared.order.NameOrder.{NameOrder}
 use Rattle.lfs_thread.specs.Kept.{AreHeaders, Header, IsHeader, IsKept, pairs_on}
 use Rattle.lfs_mount.specs.Head.{HasHeaders, IsHead}
-use Rattle.lfs_mount.specs.Members.{IsRead}
+use Rattle.lfs_mount.specs.Members.{IsThreadRead}
 
 module _ (order : NameOrder) (disk : Disk) where
   header_in : (history : List Event) (h : Header) → IsHeader disk history h → IsHeader (ordered order disk) history h
@@ -38,7 +38,7 @@ module _ (order : NameOrder) (disk : Disk) where
   pub kept_in : (history : List Event) (hs : List Header) (sets : BlockSets) → IsKept disk history hs sets → IsKept (ordered order disk) history hs sets
   kept_in history hs sets kept = record { each = headers_in history hs kept.each; links = kept.links; distinct = kept.distinct; size = kept.size; used = kept.used }
 
-  pub read_in : (history : List Event) (hs : List Header) (sets : BlockSets) (g : Gstate) → IsRead disk history hs sets g → IsRead (ordered order disk) history hs sets g
+  pub read_in : (history : List Event) (hs : List Header) (sets : BlockSets) (g : Gstate) → IsThreadRead disk history hs sets g → IsThreadRead (ordered order disk) history hs sets g
   read_in history hs sets g r = record { kept = kept_in history hs sets r.kept; thread = r.thread; used = r.used; none_in_flight = r.none_in_flight; global = r.global }
 
   struct_in : (bytes : List ℕ) → IsSuperblockStruct disk bytes → IsSuperblockStruct (ordered order disk) bytes

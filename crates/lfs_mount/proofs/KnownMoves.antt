@@ -8,7 +8,7 @@ use Rattle.lfs_model.specs.Slots.{Gstate, Slot, gstate_xor, no_gstate, same_pair
 use Rattle.lfs_model.specs.Thread.{Pair, gstate_of, is_bare, is_hard, leads_on, meets_superblock, superblocks_before}
 use Rattle.lfs_model.specs.View.{IsAccepted, IsEntry, IsMove, IsOtherSlot}
 use Rattle.lfs_model.proofs.Counts.{Each}
-use Rattle.lfs_model.proofs.Sites.{Among, among_from, among_parts, among_right, any_from}
+use Rattle.lfs_model.proofs.Sites.{SomeIn, among_from, among_parts, among_right, any_from}
 use Rattle.lfs_model.proofs.Superblocks.{IsChain, entry_is_other}
 use Rattle.lfs_tag.specs.FieldsView.{move_view}
 use Rattle.lfs_pair.specs.Pair.{address_in}
@@ -38,15 +38,15 @@ other_slot g q kind same h =
     let there : (t : Slot) × ((slice_get q.content.slots g.id ≡ Some t) × IsEntry t) = subst (λ o. IsEntryIfSome o q.content.slots) is h in
     subst IsOtherSlot (sym there.1.0) (entry_is_other there.0 there.1.1)
 
-among_named : (g : Gstate) (qs : List Pair) → g.kind ≡ 0x4ff → names_one g.pair (map (λ q. q.at) qs) ≡ true → IsMovedFrom g qs → Among (Named g) qs
+among_named : (g : Gstate) (qs : List Pair) → g.kind ≡ 0x4ff → names_one g.pair (map (λ q. q.at) qs) ≡ true → IsMovedFrom g qs → SomeIn (Named g) qs
 among_named g [] kind e h = absurd (cc)
 among_named g (q ∷ qs) kind e h = go (same_pair g.pair q.at) refl e (λ k. among_named g qs kind k h.1)
   where
-    go : (b : Bool) → same_pair g.pair q.at ≡ b → (b || names_one g.pair (map (λ r. r.at) qs)) ≡ true → (names_one g.pair (map (λ r. r.at) qs) ≡ true → Among (Named g) qs) → Among (Named g) (q ∷ qs)
+    go : (b : Bool) → same_pair g.pair q.at ≡ b → (b || names_one g.pair (map (λ r. r.at) qs)) ≡ true → (names_one g.pair (map (λ r. r.at) qs) ≡ true → SomeIn (Named g) qs) → SomeIn (Named g) (q ∷ qs)
     go true is k next = inl (is, other_slot g q kind is h.0)
     go false is k next = inr (next k)
 
-names_among : (g : Gstate) (qs : List Pair) → Among (Named g) qs → names_one g.pair (map (λ q. q.at) qs) ≡ true
+names_among : (g : Gstate) (qs : List Pair) → SomeIn (Named g) qs → names_one g.pair (map (λ q. q.at) qs) ≡ true
 names_among g [] k = absurd k
 names_among g (q ∷ qs) (inl k) = ap (λ b. b || names_one g.pair (map (λ r. r.at) qs)) k.0
 names_among g (q ∷ qs) (inr k) = go (same_pair g.pair q.at) (names_among g qs k)
@@ -99,7 +99,7 @@ no_other (s ∷ []) zero h k = absurd (let clash : true ≡ false = sym h ∙ k 
 no_other (s ∷ []) (suc id) h k = k
 no_other (s ∷ t ∷ slots) id h k = absurd (let clash : false ≡ true = h in cc)
 
-none_named : (g : Gstate) (chain : List Pair) → Each (λ q. is_bare q.content.slots ≡ true) chain → Among (Named g) chain → ⊥
+none_named : (g : Gstate) (chain : List Pair) → Each (λ q. is_bare q.content.slots ≡ true) chain → SomeIn (Named g) chain → ⊥
 none_named g [] bare k = k
 none_named g (c ∷ chain) bare (inl k) = no_other c.content.slots g.id bare.0 k.1
 none_named g (c ∷ chain) bare (inr k) = none_named g chain bare.1 k
@@ -108,7 +108,7 @@ move_known : (g : Gstate) (disk : Disk) (chain : List Pair) (p : Pair) (rest : L
     → names_known g (map (λ q. q.at) (p ∷ rest)) ≡ true
 move_known g disk chain p rest is a e = go (subst (IsMove (chain ++ p ∷ rest)) e a.move)
   where
-    named : Among (Named g) chain ⊎ Among (Named g) (p ∷ rest) → names_one g.pair (map (λ q. q.at) (p ∷ rest)) ≡ true
+    named : SomeIn (Named g) chain ⊎ SomeIn (Named g) (p ∷ rest) → names_one g.pair (map (λ q. q.at) (p ∷ rest)) ≡ true
     named (inl k) = absurd (none_named g chain (have_bare chain p rest is) k)
     named (inr k) = names_among g (p ∷ rest) k
 

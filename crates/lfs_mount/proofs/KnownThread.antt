@@ -11,17 +11,17 @@ use Rattle.lfs_model.specs.Disk.{Disk, block_count}
 use Rattle.lfs_model.specs.Content.{content_at}
 use Rattle.lfs_model.specs.History.{Event}
 use Rattle.lfs_model.specs.Slots.{Gstate}
-use Rattle.lfs_model.specs.Thread.{IsThread, ThreadDirectory, Pair, blocks_of, directories_of, gstate_of, is_hard, joined, starts_with_superblock, superblocks_before, visible}
+use Rattle.lfs_model.specs.Thread.{IsThread, ThreadDirectory, Pair, blocks_of, directories_of, gstate_of, is_hard, directories_with_pair, starts_with_superblock, superblocks_before, entries_not_moved}
 use Rattle.lfs_model.specs.Shown.{directories_in}
 use Rattle.lfs_model.proofs.BlockSets.{Contains-count, count-Contains}
 use Rattle.lfs_model.proofs.Superblocks.{pairs_behind}
 use Rattle.lfs_pair.specs.Pair.{address_in}
 use Rattle.lfs_thread.specs.Kept.{AreHeaders, Header, pairs_on}
 use Rattle.lfs_mount.specs.Described.{AreMembers, IsMember}
-use Rattle.lfs_mount.specs.Entries.{firsts_of}
+use Rattle.lfs_mount.specs.Entries.{first_addresses_of}
 use Rattle.lfs_mount.specs.Head.{IsHead}
-use Rattle.lfs_mount.specs.Marking.{Owns}
-use Rattle.lfs_mount.specs.Members.{AreDirectories, IsRead, IsThreadOf, begins_in, continues, member_in, members_in}
+use Rattle.lfs_mount.specs.Marking.{HasExactly}
+use Rattle.lfs_mount.specs.Members.{AreDirectories, IsThreadRead, IsThreadOf, directory_addresses, continues, member_in, members_in}
 use Rattle.lfs_mount.proofs.Accepts.{starts_so}
 use Rattle.lfs_mount.proofs.Begins.{begins_distinct}
 use Rattle.lfs_mount.proofs.Headers.{pair_of, seen_from}
@@ -58,13 +58,13 @@ abbrev begins_of : Bool → List Pair → List (ℕ × ℕ)
 begins_of begins [] = []
 begins_of begins (p ∷ ps) = cond begins (p.at ∷ begins_of (not (is_hard p.content.tail)) ps) (begins_of (not (is_hard p.content.tail)) ps)
 
-begins_seen : (disk : Disk) (history : List Event) (begins : Bool) (hs : List Header) → AreHeaders disk history hs → begins_in begins hs ≡ begins_of begins (pairs_on disk hs)
+begins_seen : (disk : Disk) (history : List Event) (begins : Bool) (hs : List Header) → AreHeaders disk history hs → directory_addresses begins hs ≡ begins_of begins (pairs_on disk hs)
 begins_seen disk history begins [] are = refl
 begins_seen disk history begins (h ∷ hs) are =
     let next = begins_seen disk history (not (continues h)) hs are.1 ∙ ap (λ (b : Bool). begins_of (not b) (pairs_on disk hs)) (seen_from disk history h are.0).hard in
     ap (λ (xs : List (ℕ × ℕ)). cond begins (address_in h ∷ xs) xs) next
 
-begins_listed : (g : Gstate) (ps : List Pair) → firsts_of (directories_of g ps) ≡ begins_of true ps
+begins_listed : (g : Gstate) (ps : List Pair) → first_addresses_of (directories_of g ps) ≡ begins_of true ps
 begins_listed g [] = refl
 begins_listed g (p ∷ []) = refl
 begins_listed g (p ∷ q ∷ qs) = go (is_hard p.content.tail) (directories_of g (q ∷ qs)) (begins_listed g (q ∷ qs))
@@ -72,14 +72,14 @@ begins_listed g (p ∷ q ∷ qs) = go (is_hard p.content.tail) (directories_of g
     more : List (ℕ × ℕ)
     more = begins_of (not (is_hard q.content.tail)) qs
 
-    go : (hard : Bool) (ds : List ThreadDirectory) → firsts_of ds ≡ q.at ∷ more → firsts_of (joined p.at hard (visible g p) ds) ≡ p.at ∷ begins_of (not hard) (q ∷ qs)
+    go : (hard : Bool) (ds : List ThreadDirectory) → first_addresses_of ds ≡ q.at ∷ more → first_addresses_of (directories_with_pair p.at hard (entries_not_moved g p) ds) ≡ p.at ∷ begins_of (not hard) (q ∷ qs)
     go hard [] e = absurd (cc)
     go true (d ∷ ds) e = ap (λ (xs : List (ℕ × ℕ)). p.at ∷ drop 1 xs) e
     go false (d ∷ ds) e = ap (λ (xs : List (ℕ × ℕ)). p.at ∷ xs) e
 
 -- ---- the map
 
-owns_from : (sets : BlockSets) (bs : List ℕ) → IsDistinct nat_eq bs → AreUsed sets bs → AreInFlight sets [] → Owns sets bs
+owns_from : (sets : BlockSets) (bs : List ℕ) → IsDistinct nat_eq bs → AreUsed sets bs → AreInFlight sets [] → HasExactly sets bs
 owns_from sets bs distinct used none = record {
   distinct = distinct;
   used = λ i b e. (used b).1 (Contains-count bs b (placed_count b bs i e));
@@ -96,7 +96,7 @@ owns_from sets bs distinct used none = record {
 
 -- ---- the thread
 
-module _ (disk : Disk) (history : List Event) (hs : List Header) (sets : BlockSets) (g : Gstate) (count : ℕ) (r : IsRead disk history hs sets g) (head : IsHead disk (pairs_on disk hs) count) where
+module _ (disk : Disk) (history : List Event) (hs : List Header) (sets : BlockSets) (g : Gstate) (count : ℕ) (r : IsThreadRead disk history hs sets g) (head : IsHead disk (pairs_on disk hs) count) where
   abbrev dirs : List Header
   dirs = drop count hs
 
@@ -112,11 +112,11 @@ module _ (disk : Disk) (history : List Event) (hs : List Header) (sets : BlockSe
   chain_behind : superblocks_before (head.chain ++ head.p ∷ head.rest) ≡ length head.chain
   chain_behind = ap superblocks_before (sym head.parts) ∙ head.before ∙ sym head.chain_is
 
-  places : begins_in true dirs ≡ firsts_of (directories_in (head.chain ++ head.p ∷ head.rest))
+  places : directory_addresses true dirs ≡ first_addresses_of (directories_in (head.chain ++ head.p ∷ head.rest))
   places =
       begins_seen disk history true dirs are ∙ ap (begins_of true) (sym behind)
       ∙ sym (begins_listed (gstate_of (head.chain ++ head.p ∷ head.rest)) (head.p ∷ head.rest))
-      ∙ ap (λ (qs : List Pair). firsts_of (directories_of (gstate_of (head.chain ++ head.p ∷ head.rest)) qs)) (sym (pairs_behind head.chain (head.p ∷ head.rest) chain_behind))
+      ∙ ap (λ (qs : List Pair). first_addresses_of (directories_of (gstate_of (head.chain ++ head.p ∷ head.rest)) qs)) (sym (pairs_behind head.chain (head.p ∷ head.rest) chain_behind))
 
   global : g ≡ gstate_of (head.chain ++ head.p ∷ head.rest)
   global = r.global ∙ ap gstate_of head.parts
@@ -126,7 +126,7 @@ module _ (disk : Disk) (history : List Event) (hs : List Header) (sets : BlockSe
     thread = subst (IsThread (content_at disk) (block_count disk)) head.parts r.thread;
     chain_is = chain_behind;
     sets_len = r.kept.size;
-    owns = subst (λ qs. Owns sets (blocks_of qs)) head.parts (owns_from sets (blocks_of (pairs_on disk hs)) r.kept.distinct r.used r.none_in_flight);
+    owns = subst (λ qs. HasExactly sets (blocks_of qs)) head.parts (owns_from sets (blocks_of (pairs_on disk hs)) r.kept.distinct r.used r.none_in_flight);
     described = subst (λ qs. AreMembers disk (gstate_of (head.chain ++ head.p ∷ head.rest)) true qs (members_in g true dirs)) (sym behind)
         (subst (λ s. AreMembers disk s true (pairs_on disk dirs) (members_in g true dirs)) global (described disk history g dirs are starts));
     places = places;

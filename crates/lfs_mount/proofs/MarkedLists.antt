@@ -13,7 +13,7 @@ use Rattle.lfs_model.specs.SkipLists.{IsList}
 use Rattle.lfs_tag.specs.declared.content.Slot.{Slot}
 use Rattle.lfs_tag.specs.ContentView.{slot_view}
 use Rattle.lfs_mount.specs.Entries.{entry_in}
-use Rattle.lfs_mount.specs.Marking.{Marks, MarksList, MarksLists, list_of, lists_in, marked_of}
+use Rattle.lfs_mount.specs.Marking.{Marks, MarksList, MarksLists, list_of, lists_in, blocks_to_mark}
 use Rattle.lfs_mount.specs.ListsView.{lists_view}
 use Rattle.lfs_mount.proofs.Found.{get_left, get_right}
 
@@ -35,12 +35,12 @@ marks_split (x ∷ xs) ys old new (free, n) = let r = marks_split xs ys _ new n 
 pub lists_joined : (disk : Disk) (xs ys : List (ℕ × ℕ)) (old mid new : BlockSets) → MarksLists disk old xs mid → MarksLists disk mid ys new → MarksLists disk old (xs ++ ys) new
 lists_joined disk xs ys old mid new h k = record {
   lists = All-append (λ (x : ℕ × ℕ). IsList disk.blocks disk.block_size x.0 x.1) xs ys h.lists k.lists;
-  marked = subst (λ bs. Marks old bs new) (sym (flat_map-append (marked_of disk) xs ys)) (marks_append (flat_map (marked_of disk) xs) (flat_map (marked_of disk) ys) old mid new h.marked k.marked);
+  marked = subst (λ bs. Marks old bs new) (sym (flat_map-append (blocks_to_mark disk) xs ys)) (marks_append (flat_map (blocks_to_mark disk) xs) (flat_map (blocks_to_mark disk) ys) old mid new h.marked k.marked);
 }
 
 pub lists_parted : (disk : Disk) (xs ys : List (ℕ × ℕ)) (old new : BlockSets) → MarksLists disk old (xs ++ ys) new → (mid : BlockSets) × MarksLists disk old xs mid × MarksLists disk mid ys new
 lists_parted disk xs ys old new h =
-    let s = marks_split (flat_map (marked_of disk) xs) (flat_map (marked_of disk) ys) old new (subst (λ bs. Marks old bs new) (flat_map-append (marked_of disk) xs ys) h.marked) in
+    let s = marks_split (flat_map (blocks_to_mark disk) xs) (flat_map (blocks_to_mark disk) ys) old new (subst (λ bs. Marks old bs new) (flat_map-append (blocks_to_mark disk) xs ys) h.marked) in
     let P : ℕ × ℕ → Type 0 = λ x. IsList disk.blocks disk.block_size x.0 x.1 in
     let all = recursion_from_All P (xs ++ ys) h.lists in
     (s.0, record { lists = All-from_recursion P xs (each_left P xs ys all); marked = s.1 }, record { lists = All-from_recursion P ys (each_right P xs ys all); marked = s.2 })
@@ -70,8 +70,8 @@ pub lists_more : (disk : Disk) (slots : List Slot) (i : ℕ) (s : Slot) (l : ℕ
 lists_more disk slots i s l old mid new e f h k = subst (λ ls. MarksLists disk old ls new) (sym (lists_next slots i s (Some l) e f)) (record {
   lists = All-append (λ (x : ℕ × ℕ). IsList disk.blocks disk.block_size x.0 x.1) (lists_view (take i slots)) (l ∷ []) h.lists
       (All-cons (λ (x : ℕ × ℕ). IsList disk.blocks disk.block_size x.0 x.1) l [] k.list (λ j d lt. absurd (omega arith)));
-  marked = subst (λ bs. Marks old bs new) (sym (flat_map-append (marked_of disk) (lists_view (take i slots)) (l ∷ []) ∙ ap (λ bs. flat_map (marked_of disk) (lists_view (take i slots)) ++ bs) (append-nil (marked_of disk l))))
-      (marks_append (flat_map (marked_of disk) (lists_view (take i slots))) (marked_of disk l) old mid new h.marked k.marked);
+  marked = subst (λ bs. Marks old bs new) (sym (flat_map-append (blocks_to_mark disk) (lists_view (take i slots)) (l ∷ []) ∙ ap (λ bs. flat_map (blocks_to_mark disk) (lists_view (take i slots)) ++ bs) (append-nil (blocks_to_mark disk l))))
+      (marks_append (flat_map (blocks_to_mark disk) (lists_view (take i slots))) (blocks_to_mark disk l) old mid new h.marked k.marked);
 })
 
 -- one that can't be marked
@@ -87,14 +87,14 @@ lists_fail disk slots i s l old mid new e f h fails all =
     let list : IsList disk.blocks disk.block_size l.0 l.1 =
     subst (λ (x : ℕ × ℕ). IsList disk.blocks disk.block_size x.0 x.1) (get_or_from_slice_get (lists_view slots) (length front + 0) l l at)
     (all.lists (length front + 0) l (slice_get_within (lists_view slots) (length front + 0) l at)) in
-    let whole : Marks old ((flat_map (marked_of disk) front ++ marked_of disk l) ++ flat_map (marked_of disk) back) new =
+    let whole : Marks old ((flat_map (blocks_to_mark disk) front ++ blocks_to_mark disk l) ++ flat_map (blocks_to_mark disk) back) new =
     subst (λ bs. Marks old bs new)
-    (ap (flat_map (marked_of disk)) parts ∙ flat_map-append (marked_of disk) (front ++ l ∷ []) back
-    ∙ ap (λ bs. bs ++ flat_map (marked_of disk) back) (flat_map-append (marked_of disk) front (l ∷ []) ∙ ap (λ bs. flat_map (marked_of disk) front ++ bs) (append-nil (marked_of disk l))))
+    (ap (flat_map (blocks_to_mark disk)) parts ∙ flat_map-append (blocks_to_mark disk) (front ++ l ∷ []) back
+    ∙ ap (λ bs. bs ++ flat_map (blocks_to_mark disk) back) (flat_map-append (blocks_to_mark disk) front (l ∷ []) ∙ ap (λ bs. flat_map (blocks_to_mark disk) front ++ bs) (append-nil (blocks_to_mark disk l))))
     all.marked in
-    let first = marks_split (flat_map (marked_of disk) front ++ marked_of disk l) (flat_map (marked_of disk) back) old new whole in
-    let second = marks_split (flat_map (marked_of disk) front) (marked_of disk l) old first.0 first.1 in
+    let first = marks_split (flat_map (blocks_to_mark disk) front ++ blocks_to_mark disk l) (flat_map (blocks_to_mark disk) back) old new whole in
+    let second = marks_split (flat_map (blocks_to_mark disk) front) (blocks_to_mark disk l) old first.0 first.1 in
     fails first.0 (record {
       list = list;
-      marked = subst (λ (m : BlockSets). Marks m (marked_of disk l) first.0) (marks_same (flat_map (marked_of disk) front) old second.0 mid second.1 h.marked) second.2;
+      marked = subst (λ (m : BlockSets). Marks m (blocks_to_mark disk l) first.0) (marks_same (flat_map (blocks_to_mark disk) front) old second.0 mid second.1 h.marked) second.2;
     })

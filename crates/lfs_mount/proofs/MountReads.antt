@@ -11,18 +11,18 @@ use Rattle.lfs_model.specs.Disk.{Disk}
 use Rattle.lfs_model.specs.History.{Event}
 use Rattle.lfs_model.specs.Names.{Name}
 use Rattle.lfs_model.specs.Slots.{Branch, Ctz, Gstate, Inline, Slot, Struct, is_superblock}
-use Rattle.lfs_model.specs.Thread.{Links, Pair, anchor, gstate_of, unmoved, visible}
+use Rattle.lfs_model.specs.Thread.{LinkByTails, Pair, anchor, gstate_of, slots_not_moved, entries_not_moved}
 use Rattle.lfs_model.specs.View.{IsAccepted, IsEntry}
 use Rattle.lfs_thread.specs.Kept.{Header, pairs_on}
 use Rattle.lfs_mount.specs.Described.{AreMembers, IsMember, moved_in}
-use Rattle.lfs_mount.specs.Entries.{nothing_known, stand_of}
+use Rattle.lfs_mount.specs.Entries.{nothing_known, target_of_struct}
 use Rattle.lfs_mount.specs.Head.{IsHead}
 use Rattle.lfs_mount.specs.Marking.{list_of}
-use Rattle.lfs_mount.specs.Members.{IsRead, IsThreadOf, members_in}
-use Rattle.lfs_mount.specs.Passed.{Passes, in_hand}
+use Rattle.lfs_mount.specs.Members.{IsThreadRead, IsThreadOf, members_in}
+use Rattle.lfs_mount.specs.Passed.{Passes, directory_after_pair}
 use Rattle.lfs_mount.specs.Reaching.{Graph, Vertex}
 use Rattle.lfs_mount.specs.Reads.{check_reads, file_reads, list_reads, lists_at, mount_reads, pair_reads, struct_reads}
-use Rattle.lfs_mount.specs.Taken.{Takes, behind_superblock, unmoved_of}
+use Rattle.lfs_mount.specs.Taken.{TakesPair, slots_after_superblock, raw_slots_not_moved}
 use Rattle.lfs_mount.specs.declared.pass.Member.{Member}
 use Rattle.lfs_mount.proofs.KnownThread.{known_thread}
 use Rattle.lfs_mount.proofs.ReadCounts.{takes_lists}
@@ -39,13 +39,13 @@ one_read : (block_size : ℕ) (s : Slot) (t : Struct) (slots : List Slot) → s.
     → sum_by (list_reads block_size) (lists_of (s ∷ slots)) ≡ struct_reads block_size t + sum_by (list_reads block_size) (lists_of slots)
 one_read block_size s (Inline bytes) slots e =
     let same : sum_by (list_reads block_size) (lists_of (s ∷ slots)) ≡ sum_by (list_reads block_size) (lists_of slots) =
-    ap (λ o. sum_by (list_reads block_size) (cons_option o (lists_of slots))) (ap (λ t. list_of (s.name, stand_of t)) e) in
+    ap (λ o. sum_by (list_reads block_size) (cons_option o (lists_of slots))) (ap (λ t. list_of (s.name, target_of_struct t)) e) in
     omega (arith, same)
 one_read block_size s (Ctz head size) slots e =
-    ap (λ o. sum_by (list_reads block_size) (cons_option o (lists_of slots))) (ap (λ t. list_of (s.name, stand_of t)) e) ∙ sum_by-cons (list_reads block_size) (head, size) (lists_of slots)
+    ap (λ o. sum_by (list_reads block_size) (cons_option o (lists_of slots))) (ap (λ t. list_of (s.name, target_of_struct t)) e) ∙ sum_by-cons (list_reads block_size) (head, size) (lists_of slots)
 one_read block_size s (Branch to) slots e =
     let same : sum_by (list_reads block_size) (lists_of (s ∷ slots)) ≡ sum_by (list_reads block_size) (lists_of slots) =
-    ap (λ o. sum_by (list_reads block_size) (cons_option o (lists_of slots))) (ap (λ t. list_of (s.name, stand_of t)) e) in
+    ap (λ o. sum_by (list_reads block_size) (cons_option o (lists_of slots))) (ap (λ t. list_of (s.name, target_of_struct t)) e) in
     omega (arith, same)
 
 slots_read : (block_size : ℕ) (slots : List Slot) → sum_by (list_reads block_size) (lists_of slots) ≡ sum_by (slot_reads block_size) slots
@@ -68,37 +68,37 @@ fewer_read f q (s ∷ slots) = go (q s) (fewer_read f q slots)
 
 -- the lists of a pair that can be taken are those of its visible slots
 taken_lists : (disk : Disk) (firsts : List (ℕ × ℕ)) (g : Gstate) (first : Bool) (p : Pair) (m : Member) (known : Name × Vertex) (sets : BlockSets) (new : Name × Vertex) (marked : BlockSets)
-    → IsMember disk g first p m → Takes disk firsts m known sets new marked → lists_at disk m ≡ lists_of (visible g p)
+    → IsMember disk g first p m → TakesPair disk firsts m known sets new marked → lists_at disk m ≡ lists_of (entries_not_moved g p)
 taken_lists disk firsts g first p m known sets new marked h t =
     let all = held_slots disk g first p m t.held h t.content in
     let parts = kept_parts m t.held.slots t.entries t.kept in
-    let w = without_moved (moved_in g p) t.held.slots parts.0 p.content.slots all (ap (λ o. unmoved_of o t.held.slots) (sym h.moved) ∙ parts.1.0) in
-    let are = without_superblock first parts.0 t.entries (without (moved_in g p) p.content.slots) w.are (ap (λ b. behind_superblock b parts.0) (sym h.first) ∙ parts.1.1) in
+    let w = without_moved (moved_in g p) t.held.slots parts.0 p.content.slots all (ap (λ o. raw_slots_not_moved o t.held.slots) (sym h.moved) ∙ parts.1.0) in
+    let are = without_superblock first parts.0 t.entries (without (moved_in g p) p.content.slots) w.are (ap (λ b. slots_after_superblock b parts.0) (sym h.first) ∙ parts.1.1) in
     let s = scan_some disk.order firsts known t.entries new t.scan in
     let same : s.slots ≡ behind first (without (moved_in g p) p.content.slots) = same_Some s.slots (behind first (without (moved_in g p) p.content.slots)) (sym s.are ∙ are) in
-    let seen : behind first (without (moved_in g p) p.content.slots) ≡ visible g p =
+    let seen : behind first (without (moved_in g p) p.content.slots) ≡ entries_not_moved g p =
     sym (visible_behind first (without (moved_in g p) p.content.slots) (λ e. starts_without (moved_in g p) p.content.slots w.entry (h.starts e)) (subst (All IsEntry) same s.entries))
     ∙ ap (filter (λ x. not (is_superblock x))) (sym (unmoved-without g p)) in
     takes_lists disk firsts m known new sets marked t ∙ same_lists disk.order firsts known new t.entries s.slots t.scan s.are ∙ ap lists_of (same ∙ seen)
 
 passed_reads : (disk : Disk) (firsts : List (ℕ × ℕ)) (g : Gstate) (first : Bool) (ps : List Pair) (ms : List Member) (known : Name × Vertex) (sets : BlockSets) (graph : Graph) (end : BlockSets)
     → AreMembers disk g first ps ms → Passes disk firsts known sets ms graph end
-    → sum_by (pair_reads disk) ms ≤ length ps + sum_by (slot_reads disk.block_size) (flat_map (unmoved g) ps)
+    → sum_by (pair_reads disk) ms ≤ length ps + sum_by (slot_reads disk.block_size) (flat_map (slots_not_moved g) ps)
 passed_reads disk firsts g first [] [] known sets graph end h t = omega arith
 passed_reads disk firsts g first [] (x ∷ ms) known sets graph end h t = absurd h
 passed_reads disk firsts g first (p ∷ ps) [] known sets graph end h t = absurd h
 passed_reads disk firsts g first (p ∷ ps) (x ∷ ms) known sets graph end h (new, mid, rest, (takes, (e, more))) =
     let lists = taken_lists disk firsts g first p x known sets new mid h.0 takes in
-    let here = ap (sum_by (list_reads disk.block_size)) lists ∙ slots_read disk.block_size (visible g p) in
-    let fewer = fewer_read (slot_reads disk.block_size) (λ s. not (is_superblock s)) (unmoved g p) in
+    let here = ap (sum_by (list_reads disk.block_size)) lists ∙ slots_read disk.block_size (entries_not_moved g p) in
+    let fewer = fewer_read (slot_reads disk.block_size) (λ s. not (is_superblock s)) (slots_not_moved g p) in
     let one = sum_by-cons (pair_reads disk) x ms in
-    let both = sum_by-append (slot_reads disk.block_size) (unmoved g p) (flat_map (unmoved g) ps) in
-    let others = passed_reads disk firsts g false ps ms (in_hand x.is_hard new) mid rest end h.1 more in
+    let both = sum_by-append (slot_reads disk.block_size) (slots_not_moved g p) (flat_map (slots_not_moved g) ps) in
+    let others = passed_reads disk firsts g false ps ms (directory_after_pair x.is_hard new) mid rest end h.1 more in
     omega arith
 
 -- ---- the whole check
 
-module _ (disk : Disk) (history : List Event) (hs : List Header) (sets : BlockSets) (g : Gstate) (count : ℕ) (r : IsRead disk history hs sets g) (head : IsHead disk (pairs_on disk hs) count) where
+module _ (disk : Disk) (history : List Event) (hs : List Header) (sets : BlockSets) (g : Gstate) (count : ℕ) (r : IsThreadRead disk history hs sets g) (head : IsHead disk (pairs_on disk hs) count) where
   pub directories_read : HasBytes disk.blocks → IsAccepted disk (pairs_on disk hs)
       → count + sum_by (pair_reads disk) (members_in g true (drop count hs)) ≤ length (pairs_on disk hs) + file_reads disk (pairs_on disk hs)
   directories_read bytes a =
@@ -108,14 +108,14 @@ module _ (disk : Disk) (history : List Event) (hs : List Header) (sets : BlockSe
       let passes = accepted_passes disk head.chain head.p head.rest members [] sets known.chain_is bytes known.sets_len known.owns known.described (subst (IsAccepted disk) head.parts a) in
       let most = passed_reads disk [] (gstate_of ps) true (head.p ∷ head.rest) members nothing_known sets passes.0 passes.1 known.described passes.2 in
       let same = ap (file_reads disk) head.parts in
-      let both = ap (sum_by (slot_reads disk.block_size)) (flat_map-append (unmoved (gstate_of ps)) head.chain (head.p ∷ head.rest))
-      ∙ sum_by-append (slot_reads disk.block_size) (flat_map (unmoved (gstate_of ps)) head.chain) (flat_map (unmoved (gstate_of ps)) (head.p ∷ head.rest)) in
+      let both = ap (sum_by (slot_reads disk.block_size)) (flat_map-append (slots_not_moved (gstate_of ps)) head.chain (head.p ∷ head.rest))
+      ∙ sum_by-append (slot_reads disk.block_size) (flat_map (slots_not_moved (gstate_of ps)) head.chain) (flat_map (slots_not_moved (gstate_of ps)) (head.p ∷ head.rest)) in
       let len = ap length head.parts ∙ length-append head.chain (head.p ∷ head.rest) in
       let chain = head.chain_is in
       omega arith
 
 -- a thread has a pair
-pub some_pair : (ps : List Pair) → Links (Some anchor) ps → 0 < length ps
+pub some_pair : (ps : List Pair) → LinkByTails (Some anchor) ps → 0 < length ps
 some_pair [] links = absurd (cc)
 some_pair (p ∷ ps) links = omega arith
 

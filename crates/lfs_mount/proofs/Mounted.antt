@@ -18,16 +18,16 @@ use Rattle.lfs_model.proofs.Counts.{count_here}
 use Rattle.lfs_model.proofs.Histories.{OnlyReads-trans}
 use Rattle.lfs_thread.specs.Device.{GivesBack}
 use Rattle.lfs_thread.specs.Kept.{AllUsed, Header, IsKept, Kept, State, WasKept, disk_on, pairs_on, kept_view}
-use Rattle.lfs_mount.specs.Accepted.{HasOnly, IsMounted}
-use Rattle.lfs_mount.specs.Members.{IsRead}
+use Rattle.lfs_mount.specs.Accepted.{HasOnlyUsed, IsMountedThread}
+use Rattle.lfs_mount.specs.Members.{IsThreadRead}
 use Rattle.std.specs.List.{flat_map}
 
 -- ---- before the check
 
 pub read_is : (old disk : Disk) (n : ℕ) (history : List Event) (hs items : List Header) (sets : BlockSets) (g : Gstate) (t : Kept) → kept_view disk history items sets ≡ t → hs ≡ items → t.disk ≡ old → block_count old ≡ n
-    → IsKept disk history items sets → IsThread (content_at old) n t.pairs → AreUsed t.map (blocks_of t.pairs) → AreInFlight t.map [] → g ≡ gstate_of t.pairs → IsRead disk history hs sets g
+    → IsKept disk history items sets → IsThread (content_at old) n t.pairs → AreUsed t.map (blocks_of t.pairs) → AreInFlight t.map [] → g ≡ gstate_of t.pairs → IsThreadRead disk history hs sets g
 read_is old disk n history hs items sets g t same is from size kept thread used none global =
-    subst (λ (xs : List Header). IsRead disk history xs sets g) (sym is)
+    subst (λ (xs : List Header). IsThreadRead disk history xs sets g) (sym is)
     (record {
       kept = kept;
       thread = subst (λ (d : Disk). IsThread (content_at d) (block_count d) (pairs_on disk items)) (sym here)
@@ -50,7 +50,7 @@ all_used sets (b ∷ bs) more f = (
 )
 
 pub kept_again : (disk now : Disk) (history later : List Event) (items hs : List Header) (sets new : BlockSets) → now ≡ disk → hs ≡ items → OnlyReads disk.blocks history later → IsKept disk history items sets
-    → HasOnly sets new (used_blocks disk (pairs_on disk hs)) → WasKept now later items new
+    → HasOnlyUsed sets new (used_blocks disk (pairs_on disk hs)) → WasKept now later items new
 kept_again disk now history later items hs sets new same is reads kept marked =
     subst (λ (d : Disk). WasKept d later items new) (sym same) (record {
       before = history;
@@ -64,7 +64,7 @@ kept_again disk now history later items hs sets new same is reads kept marked =
     })
 
 pub is_mounted : (old disk now : Disk) (first history later : List Event) (items hs : List Header) (sets new : BlockSets) (t : State) → disk ≡ old → now ≡ disk → hs ≡ items
-    → OnlyReads old.blocks first history → OnlyReads disk.blocks history later → IsAccepted disk (pairs_on disk hs) → HasOnly sets new (used_blocks disk (pairs_on disk hs)) → length sets ≡ block_count disk → faults later ≡ faults first → t.failed ≡ false → t.kept ≡ kept_view now later items new → IsMounted old first t
+    → OnlyReads old.blocks first history → OnlyReads disk.blocks history later → IsAccepted disk (pairs_on disk hs) → HasOnlyUsed sets new (used_blocks disk (pairs_on disk hs)) → length sets ≡ block_count disk → faults later ≡ faults first → t.failed ≡ false → t.kept ≡ kept_view now later items new → IsMountedThread old first t
 is_mounted old disk now first history later items hs sets new t from same is before after accepted marked size none works kept = record {
   works = works;
   disk_is = ap (λ (k : Kept). k.disk) kept ∙ same ∙ from;

@@ -10,21 +10,21 @@ use Rattle.lfs_model.specs.View.{IsAccepted, IsMove}
 use Rattle.lfs_model.specs.Shown.{used_blocks}
 use Rattle.lfs_model.proofs.Uniqueness.{one_thread}
 use Rattle.lfs_thread.specs.Kept.{Header, pairs_on}
-use Rattle.lfs_mount.specs.Accepted.{HasImage, HasOnly, IsJudged}
+use Rattle.lfs_mount.specs.Accepted.{HasImage, HasOnlyUsed, IsAcceptedIfFits}
 use Rattle.lfs_mount.specs.Head.{HasHeaders, IsHead}
-use Rattle.lfs_mount.specs.Members.{IsRead, IsThreadOf}
+use Rattle.lfs_mount.specs.Members.{IsThreadRead, IsThreadOf}
 use Rattle.lfs_mount.specs.Moves.{HasDirectories, IsMovedFrom}
 use Rattle.lfs_mount.proofs.KnownMoves.{directories_behind, joined_global}
 use Rattle.lfs_mount.proofs.KnownThread.{known_thread}
 
-pub has_headers : (disk : Disk) (history : List Event) (hs : List Header) (sets : BlockSets) (g : Gstate) → IsRead disk history hs sets g → HasHeaders disk history hs
+pub has_headers : (disk : Disk) (history : List Event) (hs : List Header) (sets : BlockSets) (g : Gstate) → IsThreadRead disk history hs sets g → HasHeaders disk history hs
 has_headers disk history hs sets g r = record { each = r.kept.each; thread = r.thread }
 
 -- there is one thread only
 pub none_accepted : (disk : Disk) (ps : List Pair) → IsThread (content_at disk) (block_count disk) ps → (IsAccepted disk ps → ⊥) → (qs : List Pair) → IsAccepted disk qs → ⊥
 none_accepted disk ps thread not qs a = not (subst (IsAccepted disk) (one_thread (content_at disk) (block_count disk) qs ps a.thread thread) a)
 
-module _ (disk : Disk) (history : List Event) (hs : List Header) (sets : BlockSets) (g : Gstate) (count : ℕ) (r : IsRead disk history hs sets g) (head : IsHead disk (pairs_on disk hs) count) where
+module _ (disk : Disk) (history : List Event) (hs : List Header) (sets : BlockSets) (g : Gstate) (count : ℕ) (r : IsThreadRead disk history hs sets g) (head : IsHead disk (pairs_on disk hs) count) where
   abbrev dirs : List Header
   dirs = drop count hs
 
@@ -48,17 +48,17 @@ module _ (disk : Disk) (history : List Event) (hs : List Header) (sets : BlockSe
 
   pub has_image : (now : Disk) → now ≡ disk → (new : BlockSets) (xs : List Header) → xs ≡ dirs
       → ((chain : List Pair) (p : Pair) (rest : List Pair) → HasDirectories g xs chain p rest → IsMovedFrom g (p ∷ rest) → IsMove (chain ++ p ∷ rest) g)
-      → (fits : Bool) → ((chain : List Pair) (p : Pair) (rest : List Pair) → IsThreadOf now sets g xs chain p rest → IsJudged now fits sets new chain p rest)
+      → (fits : Bool) → ((chain : List Pair) (p : Pair) (rest : List Pair) → IsThreadOf now sets g xs chain p rest → IsAcceptedIfFits now fits sets new chain p rest)
       → HasImage disk hs fits sets new
   has_image now same new xs e move fits judged =
       let ps : List Pair = head.chain ++ head.p ∷ head.rest in
       let thread = subst (λ d. IsThreadOf d sets g xs head.chain head.p head.rest) (sym same) (subst (λ ys. IsThreadOf disk sets g ys head.chain head.p head.rest) (sym e) known) in
-      let is : IsJudged disk fits sets new head.chain head.p head.rest = subst (λ d. IsJudged d fits sets new head.chain head.p head.rest) same (judged head.chain head.p head.rest thread) in
+      let is : IsAcceptedIfFits disk fits sets new head.chain head.p head.rest = subst (λ d. IsAcceptedIfFits d fits sets new head.chain head.p head.rest) same (judged head.chain head.p head.rest thread) in
       let global : g ≡ gstate_of ps = r.global ∙ ap gstate_of head.parts in
       let has = subst (λ ys. HasDirectories g ys head.chain head.p head.rest) (sym e) directories in
       let moves = move head.chain head.p head.rest has (subst (λ s. IsMovedFrom s (head.p ∷ head.rest)) (sym global) is.moved) in
       record {
-        marked = subst (λ qs. HasOnly sets new (used_blocks disk qs)) (sym head.parts) (is.marked head.bytes head.head);
+        marked = subst (λ qs. HasOnlyUsed sets new (used_blocks disk qs)) (sym head.parts) (is.marked head.bytes head.head);
         accepted = λ fit. subst (IsAccepted disk) (sym head.parts) (is.accepted fit head.bytes head.head (subst (IsMove ps) global moves));
         refused = λ unfit. refused (is.refused unfit);
       }

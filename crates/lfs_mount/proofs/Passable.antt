@@ -10,19 +10,19 @@ use Rattle.lfs_model.specs.BlockSets.{BlockSets}
 use Rattle.lfs_model.specs.Content.{RawSlot, RawContent, complete_all, completed, content_after_all, no_content, raw_at}
 use Rattle.lfs_model.specs.LoggedContent.{HaveParts}
 use Rattle.lfs_model.specs.Slots.{Slot, Gstate, is_superblock}
-use Rattle.lfs_model.specs.Thread.{Pair, starts_with_superblock, unmoved, visible}
+use Rattle.lfs_model.specs.Thread.{Pair, starts_with_superblock, slots_not_moved, entries_not_moved}
 use Rattle.lfs_model.specs.View.{IsEntry}
 use Rattle.lfs_model.proofs.Completed.{complete_parts}
 use Rattle.lfs_model.proofs.Counts.{Each}
 use Rattle.lfs_model.proofs.Logged.{logged}
 use Rattle.lfs_mount.specs.Reaching.{Vertex, Graph}
 use Rattle.lfs_mount.specs.Entries.{Entry, entry_in}
-use Rattle.lfs_mount.specs.Scanned.{scanned}
+use Rattle.lfs_mount.specs.Scanned.{known_after_slots}
 use Rattle.lfs_mount.specs.Marking.{MarksLists}
-use Rattle.lfs_mount.specs.Taken.{Takes, unmoved_of, behind_superblock}
+use Rattle.lfs_mount.specs.Taken.{TakesPair, raw_slots_not_moved, slots_after_superblock}
 use Rattle.lfs_mount.specs.Described.{moved_in, IsMember, AreMembers}
 use Rattle.lfs_device.specs.Bytes.{HasBytes}
-use Rattle.lfs_mount.specs.Passed.{in_hand, ended, Passes}
+use Rattle.lfs_mount.specs.Passed.{directory_after_pair, graph_with_ended, Passes}
 use Rattle.lfs_mount.specs.declared.pass.Member.{Member}
 use Rattle.lfs_mount.proofs.Scans.{entry_none, scan_none}
 use Rattle.lfs_mount.proofs.MarkedLists.{lists_parted}
@@ -36,7 +36,7 @@ parts_without [] (suc id) h = tt
 parts_without (r ∷ raws) zero h = h.1
 parts_without (r ∷ raws) (suc id) h = (h.0, parts_without raws id h.1)
 
-parts_moved : (moved : Option ℕ) (raws kept : List RawSlot) → HaveParts raws → unmoved_of moved raws ≡ Some kept → HaveParts kept
+parts_moved : (moved : Option ℕ) (raws kept : List RawSlot) → HaveParts raws → raw_slots_not_moved moved raws ≡ Some kept → HaveParts kept
 parts_moved None raws kept h e = subst HaveParts (same_Some raws kept e) h
 parts_moved (Some id) raws kept h e = go (is_some (option_and_then {U = Entry} entry_in (slice_get raws id))) e
   where
@@ -44,7 +44,7 @@ parts_moved (Some id) raws kept h e = go (is_some (option_and_then {U = Entry} e
     go true f = subst HaveParts (same_Some (remove raws id) kept f) (parts_without raws id h)
     go false f = absurd (cc)
 
-parts_behind : (first : Bool) (raws kept : List RawSlot) → HaveParts raws → behind_superblock first raws ≡ Some kept → HaveParts kept
+parts_behind : (first : Bool) (raws kept : List RawSlot) → HaveParts raws → slots_after_superblock first raws ≡ Some kept → HaveParts kept
 parts_behind false raws kept h e = subst HaveParts (same_Some raws kept e) h
 parts_behind true [] kept h e = absurd (cc)
 parts_behind true (r ∷ raws) kept h e = subst HaveParts (same_Some raws kept e) h.1
@@ -66,29 +66,29 @@ is_entry_at (r ∷ raws) slots (suc id) t h c e entry =
     is_entry_at raws p.others id t h.1 p.are_others (sym (ap (λ ss. slice_get ss (suc id)) p.all_are) ∙ e) entry
 
 can_unmove : (moved : Option ℕ) (raws : List RawSlot) (slots : List Slot) → HaveParts raws → complete_all raws ≡ Some slots → IsMovedEntry moved slots
-    → (kept : List RawSlot) × (unmoved_of moved raws ≡ Some kept)
+    → (kept : List RawSlot) × (raw_slots_not_moved moved raws ≡ Some kept)
 can_unmove None raws slots h c entry = (raws, refl)
 can_unmove (Some id) raws slots h c (t, (e, entry)) = (remove raws id, ap (λ b. cond b (Some (remove raws id)) None) (is_entry_at raws slots id t h c e entry))
 
 can_go_behind : (first : Bool) (raws : List RawSlot) (slots : List Slot) → complete_all raws ≡ Some slots → (first ≡ true → starts_with_superblock slots ≡ true)
-    → (kept : List RawSlot) × (behind_superblock first raws ≡ Some kept)
+    → (kept : List RawSlot) × (slots_after_superblock first raws ≡ Some kept)
 can_go_behind false raws slots c s = (raws, refl)
 can_go_behind true [] slots c s = absurd (let e : starts_with_superblock [] ≡ true = ap starts_with_superblock (same_Some [] slots c) ∙ s refl in cc)
 can_go_behind true (r ∷ raws) slots c s = (raws, refl)
 
 can_scan : (by : NameOrder) (firsts : List (ℕ × ℕ)) (known : Name × Vertex) (raws : List RawSlot) (slots : List Slot) → HaveParts raws → complete_all raws ≡ Some slots → All IsEntry slots
-    → (new : Name × Vertex) × (scanned by firsts known raws ≡ Some new)
-can_scan by firsts known raws slots h c entries = go (scanned by firsts known raws) refl
+    → (new : Name × Vertex) × (known_after_slots by firsts known raws ≡ Some new)
+can_scan by firsts known raws slots h c entries = go (known_after_slots by firsts known raws) refl
   where
-    go : (o : Option (Name × Vertex)) → scanned by firsts known raws ≡ o → (new : Name × Vertex) × (o ≡ Some new)
+    go : (o : Option (Name × Vertex)) → known_after_slots by firsts known raws ≡ o → (new : Name × Vertex) × (o ≡ Some new)
     go None e = absurd (scan_none by firsts known raws h e slots c entries)
     go (Some new) e = (new, refl)
 
 -- ---- one pair
 
 pub can_take : (disk : Disk) (firsts : List (ℕ × ℕ)) (g : Gstate) (first : Bool) (p : Pair) (m : Member) (known : Name × Vertex) (sets marked : BlockSets)
-    → HasBytes disk.blocks → IsMember disk g first p m → All IsEntry (behind first (unmoved g p)) → IsMovedEntry (moved_in g p) p.content.slots → MarksLists disk sets (lists_of (visible g p)) marked
-    → (new : Name × Vertex) × Takes disk firsts m known sets new marked
+    → HasBytes disk.blocks → IsMember disk g first p m → All IsEntry (behind first (slots_not_moved g p)) → IsMovedEntry (moved_in g p) p.content.slots → MarksLists disk sets (lists_of (entries_not_moved g p)) marked
+    → (new : Name × Vertex) × TakesPair disk firsts m known sets new marked
 can_take disk firsts g first p m known sets marked bytes h entries moved lists = go (content_after_all no_content (log_entries (block_at disk m.active))) refl
   where
     held_of : raw_at disk p.at ≡ content_after_all no_content (log_entries (block_at disk m.active))
@@ -97,7 +97,7 @@ can_take disk firsts g first p m known sets marked bytes h entries moved lists =
     right : All IsEntry (behind first (without (moved_in g p) p.content.slots))
     right = subst (λ ss. All IsEntry (behind first ss)) (unmoved-without g p) entries
 
-    with_held : (held : RawContent) → content_after_all no_content (log_entries (block_at disk m.active)) ≡ Some held → (new : Name × Vertex) × Takes disk firsts m known sets new marked
+    with_held : (held : RawContent) → content_after_all no_content (log_entries (block_at disk m.active)) ≡ Some held → (new : Name × Vertex) × TakesPair disk firsts m known sets new marked
     with_held held e =
         let parts : HaveParts held.slots = (logged (block_at disk m.active) held (bytes m.active) e).slots in
         let all = held_slots disk g first p m held h e in
@@ -107,7 +107,7 @@ can_take disk firsts g first p m known sets marked bytes h entries moved lists =
         let k = can_go_behind first u.0 (without (moved_in g p) p.content.slots) w.are starts in
         let are = without_superblock first u.0 k.0 (without (moved_in g p) p.content.slots) w.are k.1 in
         let kept_parts : HaveParts k.0 = parts_behind first u.0 k.0 (parts_moved (moved_in g p) held.slots u.0 parts u.1) k.1 in
-        let seen : behind first (without (moved_in g p) p.content.slots) ≡ visible g p = sym (visible_behind first (without (moved_in g p) p.content.slots) starts right)
+        let seen : behind first (without (moved_in g p) p.content.slots) ≡ entries_not_moved g p = sym (visible_behind first (without (moved_in g p) p.content.slots) starts right)
         ∙ ap (filter (λ x. not (is_superblock x))) (sym (unmoved-without g p)) in
         let s = can_scan disk.order firsts known k.0 (behind first (without (moved_in g p) p.content.slots)) kept_parts are right in (
           s.0,
@@ -115,13 +115,13 @@ can_take disk firsts g first p m known sets marked bytes h entries moved lists =
             held = held;
             content = e;
             entries = k.0;
-            kept = ap₂ (λ b o. option_and_then (behind_superblock b) (unmoved_of o held.slots)) h.first h.moved ∙ ap (option_and_then (behind_superblock first)) u.1 ∙ k.1;
+            kept = ap₂ (λ b o. option_and_then (slots_after_superblock b) (raw_slots_not_moved o held.slots)) h.first h.moved ∙ ap (option_and_then (slots_after_superblock first)) u.1 ∙ k.1;
             scan = s.1;
             lists = subst (λ ls. MarksLists disk sets ls marked) (sym (same_lists disk.order firsts known s.0 k.0 (behind first (without (moved_in g p) p.content.slots)) s.1 are ∙ ap lists_of seen)) lists;
           },
         )
 
-    go : (o : Option RawContent) → content_after_all no_content (log_entries (block_at disk m.active)) ≡ o → (new : Name × Vertex) × Takes disk firsts m known sets new marked
+    go : (o : Option RawContent) → content_after_all no_content (log_entries (block_at disk m.active)) ≡ o → (new : Name × Vertex) × TakesPair disk firsts m known sets new marked
     go None e = absurd (let clash : None ≡ Some p.content = sym (ap (option_and_then completed) (held_of ∙ e)) ∙ h.content in cc)
     go (Some held) e = with_held held e
 
@@ -129,12 +129,12 @@ can_take disk firsts g first p m known sets marked bytes h entries moved lists =
 
 pub can_pass : (disk : Disk) (firsts : List (ℕ × ℕ)) (g : Gstate) (first : Bool) (ps : List Pair) (ms : List Member) (known : Name × Vertex) (sets end : BlockSets)
     → HasBytes disk.blocks → AreMembers disk g first ps ms → HaveEntries g first ps → Each (λ p. IsMovedEntry (moved_in g p) p.content.slots) ps
-    → MarksLists disk sets (flat_map (λ p. lists_of (visible g p)) ps) end → (graph : Graph) × Passes disk firsts known sets ms graph end
+    → MarksLists disk sets (flat_map (λ p. lists_of (entries_not_moved g p)) ps) end → (graph : Graph) × Passes disk firsts known sets ms graph end
 can_pass disk firsts g first [] [] known sets end bytes h entries moved lists = ([], (refl, lists.marked))
 can_pass disk firsts g first [] (m ∷ ms) known sets end bytes h entries moved lists = absurd h
 can_pass disk firsts g first (p ∷ ps) [] known sets end bytes h entries moved lists = absurd h
 can_pass disk firsts g first (p ∷ ps) (m ∷ ms) known sets end bytes h entries moved lists =
-    let l = lists_parted disk (lists_of (visible g p)) (flat_map (λ q. lists_of (visible g q)) ps) sets end lists in
+    let l = lists_parted disk (lists_of (entries_not_moved g p)) (flat_map (λ q. lists_of (entries_not_moved g q)) ps) sets end lists in
     let one = can_take disk firsts g first p m known sets l.0 bytes h.0 entries.0 moved.0 l.1 in
-    let others = can_pass disk firsts g false ps ms (in_hand m.is_hard one.0) l.0 end bytes h.1 entries.1 moved.1 l.2 in
-    (ended m.is_hard one.0 others.0, (one.0, l.0, others.0, (one.1, (refl, others.1))))
+    let others = can_pass disk firsts g false ps ms (directory_after_pair m.is_hard one.0) l.0 end bytes h.1 entries.1 moved.1 l.2 in
+    (graph_with_ended m.is_hard one.0 others.0, (one.0, l.0, others.0, (one.1, (refl, others.1))))

@@ -14,7 +14,7 @@ use Rattle.lfs_mount.specs.ListsView.{lists_view}
 use Rattle.lfs_mount.specs.Marking.{Marks, lists_in}
 use Rattle.lfs_mount.specs.Reaching.{Vertex}
 use Rattle.lfs_mount.specs.Reads.{list_reads, lists_at, pair_reads}
-use Rattle.lfs_mount.specs.Taken.{Takes, kept_of}
+use Rattle.lfs_mount.specs.Taken.{TakesPair, entries_of_member}
 use Rattle.lfs_mount.specs.declared.pass.Member.{Member}
 use Rattle.lfs_mount.proofs.MarkedLists.{list_view, lists_next}
 
@@ -37,10 +37,10 @@ reads_more block_size slots i s l e f =
 
 -- ---- pairs
 
-pub takes_lists : (disk : Disk) (firsts : List (ℕ × ℕ)) (member : Member) (known new : Name × Vertex) (sets marked : BlockSets) → (t : Takes disk firsts member known sets new marked)
+pub takes_lists : (disk : Disk) (firsts : List (ℕ × ℕ)) (member : Member) (known new : Name × Vertex) (sets marked : BlockSets) → (t : TakesPair disk firsts member known sets new marked)
     → lists_at disk member ≡ lists_in t.entries
 takes_lists disk firsts member known new sets marked t =
-    ap (λ (o : Option RawContent). option_map_or lists_in (option_and_then (λ c. kept_of member c.slots) o) []) t.content ∙ ap (λ o. option_map_or lists_in o []) t.kept
+    ap (λ (o : Option RawContent). option_map_or lists_in (option_and_then (λ c. entries_of_member member c.slots) o) []) t.content ∙ ap (λ o. option_map_or lists_in o []) t.kept
 
 pub pairs_more : (disk : Disk) (members : List Member) (i : ℕ) (d : Member) → i < length members
     → sum_by (pair_reads disk) (take (i + 1) members) ≡ sum_by (pair_reads disk) (take i members) + pair_reads disk (get_or members i d)

@@ -10,20 +10,20 @@ use Rattle.lfs_model.specs.BlockSets.{BlockSets}
 use Rattle.lfs_model.specs.Disk.{Disk, block_count}
 use Rattle.lfs_model.specs.SkipLists.{IsList, blocks_back, blocks_for}
 use Rattle.lfs_model.specs.Slots.{Slot, Struct, Inline, Ctz, Branch, Gstate, is_superblock, same_pair}
-use Rattle.lfs_model.specs.Thread.{Pair, blocks_of, gstate_of, unmoved, visible}
+use Rattle.lfs_model.specs.Thread.{Pair, blocks_of, gstate_of, slots_not_moved, entries_not_moved}
 use Rattle.lfs_model.specs.View.{IsEntry, IsHeaded, HasStruct, IsListIfCtz, IsMove, IsOtherSlot, IsAccepted}
 use Rattle.lfs_model.specs.Shown.{file_blocks, all_slots, used_blocks}
 use Rattle.lfs_model.proofs.Counts.{Each, each_append, each_left, each_right, count, count_append, each_counted, each_from_counted, once_from_distinct, distinct_from_once}
 use Rattle.lfs_model.proofs.Listings.{blocks_avoid}
 use Rattle.lfs_model.proofs.Pairs.{pair_back, pair_on}
-use Rattle.lfs_model.proofs.Sites.{Among, among_from}
+use Rattle.lfs_model.proofs.Sites.{SomeIn, among_from}
 use Rattle.lfs_model.proofs.Superblocks.{StructMark, HoldSlots, SlotsAs, entry_is_other}
 use Rattle.lfs_mount.specs.Reaching.{Graph}
-use Rattle.lfs_mount.specs.Marking.{Owns, marked_of}
+use Rattle.lfs_mount.specs.Marking.{HasExactly, blocks_to_mark}
 use Rattle.lfs_mount.specs.Described.{moved_in}
 use Rattle.std.specs.List.{cons_option}
 use Rattle.lfs_model.proofs.Superblocks.{IsChain, hold_from_rules}
-use Rattle.lfs_mount.specs.Entries.{stand_of, nothing_known}
+use Rattle.lfs_mount.specs.Entries.{target_of_struct, nothing_known}
 use Rattle.lfs_mount.specs.Marking.{list_of}
 use Rattle.lfs_mount.specs.Described.{AreMembers}
 use Rattle.lfs_device.specs.Bytes.{HasBytes}
@@ -41,7 +41,7 @@ abbrev Named : Gstate → Pair → Type 0
 Named g q = (same_pair g.pair q.at ≡ true) × IsOtherSlot (slice_get q.content.slots g.id)
 
 -- two pairs of a thread aren't at one address
-none_named : (g : Gstate) (at : ℕ × ℕ) (qs : List Pair) → same_pair g.pair at ≡ true → Each (λ r. same_pair at r.at ≡ false) qs → Among (Named g) qs → ⊥
+none_named : (g : Gstate) (at : ℕ × ℕ) (qs : List Pair) → same_pair g.pair at ≡ true → Each (λ r. same_pair at r.at ≡ false) qs → SomeIn (Named g) qs → ⊥
 none_named g at [] e h k = k
 none_named g at (r ∷ qs) e h (inl k) = absurd (let same = pair_on at g.pair r.at (pair_back g.pair at e) k.0 in let clash : true ≡ false = sym same ∙ h.0 in cc)
 none_named g at (r ∷ qs) e h (inr k) = none_named g at qs e h.1 k
@@ -50,7 +50,7 @@ no_other : (g : Gstate) (at : ℕ × ℕ) (qs : List Pair) → same_pair g.pair 
 no_other g at [] e h = tt
 no_other g at (r ∷ qs) e h = ((λ f. absurd (let same = pair_on at g.pair r.at (pair_back g.pair at e) f in let clash : true ≡ false = sym same ∙ h.0 in cc)), no_other g at qs e h.1)
 
-each_named : (g : Gstate) (qs : List Pair) → IsDistinct nat_eq (blocks_of qs) → Among (Named g) qs → Each (λ r. same_pair g.pair r.at ≡ true → IsOtherSlot (slice_get r.content.slots g.id)) qs
+each_named : (g : Gstate) (qs : List Pair) → IsDistinct nat_eq (blocks_of qs) → SomeIn (Named g) qs → Each (λ r. same_pair g.pair r.at ≡ true → IsOtherSlot (slice_get r.content.slots g.id)) qs
 unfolding IsDistinct
 each_named g [] h k = tt
 each_named g (q ∷ qs) h (inl k) = ((λ e. k.1), no_other g q.at qs k.0 (blocks_avoid q.at qs h.0.1))
@@ -122,32 +122,32 @@ have_entries g first bytes (q ∷ qs) h m = (
 
 one_listed : (disk : Disk) (s : Slot) (slots : List Slot) (t : Struct) → s.struct ≡ t → IsListIfCtz disk t → Each (λ l. IsList disk.blocks disk.block_size l.0 l.1) (lists_of slots)
     → Each (λ l. IsList disk.blocks disk.block_size l.0 l.1) (lists_of (s ∷ slots))
-one_listed disk s slots (Inline bytes) e k h = subst (λ o. Each (λ l. IsList disk.blocks disk.block_size l.0 l.1) (cons_option o (lists_of slots))) (sym (ap (λ t. list_of (s.name, stand_of t)) e)) h
-one_listed disk s slots (Ctz head size) e k h = subst (λ o. Each (λ l. IsList disk.blocks disk.block_size l.0 l.1) (cons_option o (lists_of slots))) (sym (ap (λ t. list_of (s.name, stand_of t)) e)) (k, h)
-one_listed disk s slots (Branch to) e k h = subst (λ o. Each (λ l. IsList disk.blocks disk.block_size l.0 l.1) (cons_option o (lists_of slots))) (sym (ap (λ t. list_of (s.name, stand_of t)) e)) h
+one_listed disk s slots (Inline bytes) e k h = subst (λ o. Each (λ l. IsList disk.blocks disk.block_size l.0 l.1) (cons_option o (lists_of slots))) (sym (ap (λ t. list_of (s.name, target_of_struct t)) e)) h
+one_listed disk s slots (Ctz head size) e k h = subst (λ o. Each (λ l. IsList disk.blocks disk.block_size l.0 l.1) (cons_option o (lists_of slots))) (sym (ap (λ t. list_of (s.name, target_of_struct t)) e)) (k, h)
+one_listed disk s slots (Branch to) e k h = subst (λ o. Each (λ l. IsList disk.blocks disk.block_size l.0 l.1) (cons_option o (lists_of slots))) (sym (ap (λ t. list_of (s.name, target_of_struct t)) e)) h
 
 are_lists : (disk : Disk) (slots : List Slot) → Each (λ s. IsListIfCtz disk s.struct) slots → Each (λ l. IsList disk.blocks disk.block_size l.0 l.1) (lists_of slots)
 are_lists disk [] h = tt
 are_lists disk (s ∷ slots) h = one_listed disk s slots s.struct refl h.0 (are_lists disk slots h.1)
 
 pairs_lists : (disk : Disk) (g : Gstate) (bytes : List ℕ) (first : Bool) (qs : List Pair) → Starting bytes first qs → HaveEntries g first qs → Each (λ q. IsMovedEntry (moved_in g q) q.content.slots) qs
-    → Each (λ s. IsListIfCtz disk s.struct) (flat_map (unmoved g) qs) → Each (λ l. IsList disk.blocks disk.block_size l.0 l.1) (flat_map (λ q. lists_of (visible g q)) qs)
+    → Each (λ s. IsListIfCtz disk s.struct) (flat_map (slots_not_moved g) qs) → Each (λ l. IsList disk.blocks disk.block_size l.0 l.1) (flat_map (λ q. lists_of (entries_not_moved g q)) qs)
 pairs_lists disk g bytes first [] s h m k = tt
 pairs_lists disk g bytes first (q ∷ qs) s h m k =
     let f = fronted_pair g bytes first q s.0 m.0 h.0 in
     let P : ℕ × ℕ → Type 0 = λ x. IsList disk.blocks disk.block_size x.0 x.1 in
     let Q : Slot → Type 0 = λ x. IsListIfCtz disk x.struct in
-    each_append P (lists_of (visible g q)) (flat_map (λ r. lists_of (visible g r)) qs)
-    (are_lists disk (visible g q) (each_right Q f.front (visible g q) (subst (Each Q) f.parts (each_left Q (unmoved g q) (flat_map (unmoved g) qs) k))))
-    (pairs_lists disk g bytes false qs s.1 h.1 m.1 (each_right Q (unmoved g q) (flat_map (unmoved g) qs) k))
+    each_append P (lists_of (entries_not_moved g q)) (flat_map (λ r. lists_of (entries_not_moved g r)) qs)
+    (are_lists disk (entries_not_moved g q) (each_right Q f.front (entries_not_moved g q) (subst (Each Q) f.parts (each_left Q (slots_not_moved g q) (flat_map (slots_not_moved g) qs) k))))
+    (pairs_lists disk g bytes false qs s.1 h.1 m.1 (each_right Q (slots_not_moved g q) (flat_map (slots_not_moved g) qs) k))
 
-in_range : (disk : Disk) (n : ℕ) (ls : List (ℕ × ℕ)) → n ≡ block_count disk → Each (λ l. IsList disk.blocks disk.block_size l.0 l.1) ls → Each (λ b. b < n) (flat_map (marked_of disk) ls)
+in_range : (disk : Disk) (n : ℕ) (ls : List (ℕ × ℕ)) → n ≡ block_count disk → Each (λ l. IsList disk.blocks disk.block_size l.0 l.1) ls → Each (λ b. b < n) (flat_map (blocks_to_mark disk) ls)
 in_range disk n [] e h = tt
 in_range disk n (l ∷ ls) e h =
     let P : ℕ → Type 0 = λ b. b < n in
     let back : List ℕ = blocks_back disk.blocks (blocks_for disk.block_size l.1) l.0 in
     let there : Each P back = recursion_from_All P back (λ k d lt. let r = h.0.blocks.in_range k d lt in omega arith) in
-    each_append P (marked_of disk l) (flat_map (marked_of disk) ls)
+    each_append P (blocks_to_mark disk l) (flat_map (blocks_to_mark disk) ls)
     (each_from_counted P (reverse back) (λ b le. each_counted P back there b (let same = count-reverse b back in omega arith)))
     (in_range disk n ls e h.1)
 
@@ -162,7 +162,7 @@ begins bytes (s ∷ slots) h = (h.0, h.1)
 -- ---- the pass
 
 pub accepted_passes : (disk : Disk) (chain : List Pair) (p : Pair) (rest : List Pair) (ms : List Member) (firsts : List (ℕ × ℕ)) (sets : BlockSets)
-    → IsChain chain (p ∷ rest) → HasBytes disk.blocks → length sets ≡ block_count disk → Owns sets (blocks_of (chain ++ p ∷ rest)) → AreMembers disk (gstate_of (chain ++ p ∷ rest)) true (p ∷ rest) ms
+    → IsChain chain (p ∷ rest) → HasBytes disk.blocks → length sets ≡ block_count disk → HasExactly sets (blocks_of (chain ++ p ∷ rest)) → AreMembers disk (gstate_of (chain ++ p ∷ rest)) true (p ∷ rest) ms
     → IsAccepted disk (chain ++ p ∷ rest) → (graph : Graph) × (end : BlockSets) × Passes disk firsts nothing_known sets ms graph end
 accepted_passes disk chain p rest ms firsts sets chain_is has_bytes len owns members a =
     let ps : List Pair = chain ++ p ∷ rest in
@@ -176,20 +176,20 @@ accepted_passes disk chain p rest ms firsts sets chain_is has_bytes len owns mem
     let entries : HaveEntries g true dirs = have_entries g true bytes dirs hold moved in
     let Q : Slot → Type 0 = λ x. IsListIfCtz disk x.struct in
     let P : ℕ × ℕ → Type 0 = λ x. IsList disk.blocks disk.block_size x.0 x.1 in
-    let all : List (ℕ × ℕ) = flat_map (λ q. lists_of (visible g q)) dirs in
-    let parts : all_slots ps ≡ flat_map (unmoved g) chain ++ flat_map (unmoved g) dirs = flat_map-append (unmoved g) chain dirs in
+    let all : List (ℕ × ℕ) = flat_map (λ q. lists_of (entries_not_moved g q)) dirs in
+    let parts : all_slots ps ≡ flat_map (slots_not_moved g) chain ++ flat_map (slots_not_moved g) dirs = flat_map-append (slots_not_moved g) chain dirs in
     let lists : Each P all =
-    pairs_lists disk g bytes true dirs starting entries moved (each_right Q (flat_map (unmoved g) chain) (flat_map (unmoved g) dirs) (subst (Each Q) parts (recursion_from_All Q (all_slots ps) a.lists))) in
-    let marked : List ℕ = flat_map (marked_of disk) all in
+    pairs_lists disk g bytes true dirs starting entries moved (each_right Q (flat_map (slots_not_moved g) chain) (flat_map (slots_not_moved g) dirs) (subst (Each Q) parts (recursion_from_All Q (all_slots ps) a.lists))) in
+    let marked : List ℕ = flat_map (blocks_to_mark disk) all in
     let blocks : List Slot → List ℕ = λ slots. flat_map (λ s. file_blocks disk s.struct) slots in
     let within : Each (λ b. b < length sets) marked = in_range disk (length sets) all len lists in
     let distinct : IsDistinct nat_eq (blocks_of ps ++ marked) = distinct_from_once (blocks_of ps ++ marked) (λ b.
     let once = once_from_distinct (used_blocks disk ps) a.owned_once b in
     let used = count_append b (blocks_of ps) (blocks (all_slots ps)) in
-    let both : count b (blocks (all_slots ps)) ≡ count b (blocks (flat_map (unmoved g) chain)) + count b (blocks (flat_map (unmoved g) dirs)) =
-    ap (count b) (ap blocks parts ∙ flat_map-append (λ (s : Slot). file_blocks disk s.struct) (flat_map (unmoved g) chain) (flat_map (unmoved g) dirs))
-    ∙ count_append b (blocks (flat_map (unmoved g) chain)) (blocks (flat_map (unmoved g) dirs)) in
-    let same : count b (blocks (flat_map (unmoved g) dirs)) ≡ count b marked = counted disk g bytes b true dirs starting entries moved in
+    let both : count b (blocks (all_slots ps)) ≡ count b (blocks (flat_map (slots_not_moved g) chain)) + count b (blocks (flat_map (slots_not_moved g) dirs)) =
+    ap (count b) (ap blocks parts ∙ flat_map-append (λ (s : Slot). file_blocks disk s.struct) (flat_map (slots_not_moved g) chain) (flat_map (slots_not_moved g) dirs))
+    ∙ count_append b (blocks (flat_map (slots_not_moved g) chain)) (blocks (flat_map (slots_not_moved g) dirs)) in
+    let same : count b (blocks (flat_map (slots_not_moved g) dirs)) ≡ count b marked = counted disk g bytes b true dirs starting entries moved in
     let whole = count_append b (blocks_of ps) marked in
     omega arith) in
     let marks = can_mark sets (blocks_of ps) marked owns (All-from_recursion (λ b. b < length sets) marked within) distinct in

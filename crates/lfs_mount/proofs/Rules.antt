@@ -11,30 +11,30 @@ use Rattle.lfs_model.specs.Names.{Name}
 use Rattle.lfs_model.specs.BlockSets.{BlockSets}
 use Rattle.lfs_model.specs.Content.{RawSlot, RawContent, complete_all, completed, content_after_all, no_content}
 use Rattle.lfs_model.specs.Slots.{Slot, Gstate, is_superblock, same_pair}
-use Rattle.lfs_model.specs.Thread.{Pair, starts_with_superblock, unmoved, visible, is_hard}
+use Rattle.lfs_model.specs.Thread.{Pair, starts_with_superblock, slots_not_moved, entries_not_moved, is_hard}
 use Rattle.lfs_model.specs.View.{IsEntry}
 use Rattle.lfs_model.proofs.Completed.{AreComplete, complete_parts, complete_remove, completed_parts}
 use Rattle.lfs_model.proofs.Counts.{Each}
 use Rattle.lfs_model.proofs.Superblocks.{entry_is_other}
 use Rattle.lfs_mount.specs.Reaching.{Vertex, Graph}
 use Rattle.lfs_mount.specs.Entries.{Entry, entry_of, entry_in, with_entries, with_entry, nothing_known}
-use Rattle.lfs_mount.specs.Scanned.{scanned}
+use Rattle.lfs_mount.specs.Scanned.{known_after_slots}
 use Rattle.lfs_mount.specs.Marking.{MarksLists, list_of, lists_in}
-use Rattle.lfs_mount.specs.Taken.{Takes, unmoved_of, behind_superblock, kept_of}
+use Rattle.lfs_mount.specs.Taken.{TakesPair, raw_slots_not_moved, slots_after_superblock, entries_of_member}
 use Rattle.lfs_mount.specs.Described.{moved_in, IsMember, AreMembers}
-use Rattle.lfs_mount.specs.Passed.{in_hand, ended, Passes}
+use Rattle.lfs_mount.specs.Passed.{directory_after_pair, graph_with_ended, Passes}
 use Rattle.lfs_mount.specs.declared.pass.Member.{Member}
 use Rattle.std.proofs.Math.Seq.{drop-nil}
 use Rattle.std.specs.List.{flat_map}
 use Rattle.lfs_model.specs.Disk.{block_count}
 use Rattle.lfs_model.specs.Content.{content_at}
 use Rattle.lfs_model.specs.Slots.{Tail}
-use Rattle.lfs_model.specs.Thread.{anchor, next_of, Links, IsThread, gstate_of, superblocks_before, directory_pairs, directories_of}
+use Rattle.lfs_model.specs.Thread.{anchor, next_of, LinkByTails, IsThread, gstate_of, superblocks_before, directory_pairs, directories_of}
 use Rattle.lfs_model.specs.Shown.{directories_in}
 use Rattle.lfs_model.proofs.Listings.{Ends}
-use Rattle.lfs_mount.specs.Places.{Draws}
+use Rattle.lfs_mount.specs.Places.{IsGraphOf}
 use Rattle.lfs_mount.specs.Directories.{GraphShows}
-use Rattle.lfs_mount.specs.Entries.{firsts_of}
+use Rattle.lfs_mount.specs.Entries.{first_addresses_of}
 use Rattle.lfs_mount.proofs.Runs.{shown_in, vertices, entries_of, Named, thread_drawn}
 use Rattle.lfs_mount.proofs.MarkedLists.{lists_joined}
 use Rattle.lfs_mount.proofs.Scans.{entry_some, scan_some}
@@ -76,7 +76,7 @@ pub record IsWithout (moved : Option ℕ) (slots : List Slot) (raws : List RawSl
   pub are : complete_all raws ≡ Some (without moved slots)
   pub entry : IsMovedEntry moved slots
 
-pub without_moved : (moved : Option ℕ) (raws kept : List RawSlot) (slots : List Slot) → complete_all raws ≡ Some slots → unmoved_of moved raws ≡ Some kept → IsWithout moved slots kept
+pub without_moved : (moved : Option ℕ) (raws kept : List RawSlot) (slots : List Slot) → complete_all raws ≡ Some slots → raw_slots_not_moved moved raws ≡ Some kept → IsWithout moved slots kept
 without_moved None raws kept slots c e = record { are = ap complete_all (sym (same_Some raws kept e)) ∙ c; entry = tt }
 without_moved (Some id) raws kept slots c e = go (is_some (option_and_then {U = Entry} entry_in (slice_get raws id))) refl e
   where
@@ -84,7 +84,7 @@ without_moved (Some id) raws kept slots c e = go (is_some (option_and_then {U = 
     go true f g = record { are = ap complete_all (sym (same_Some (remove raws id) kept g)) ∙ complete_remove raws slots id c; entry = entry_at raws slots id c f }
     go false f g = absurd (cc)
 
-pub without_superblock : (first : Bool) (raws kept : List RawSlot) (slots : List Slot) → complete_all raws ≡ Some slots → behind_superblock first raws ≡ Some kept → complete_all kept ≡ Some (behind first slots)
+pub without_superblock : (first : Bool) (raws kept : List RawSlot) (slots : List Slot) → complete_all raws ≡ Some slots → slots_after_superblock first raws ≡ Some kept → complete_all kept ≡ Some (behind first slots)
 without_superblock false raws kept slots c e = ap complete_all (sym (same_Some raws kept e)) ∙ c
 without_superblock true [] kept slots c e = absurd (cc)
 without_superblock true (r ∷ raws) kept slots c e =
@@ -114,7 +114,7 @@ visible_behind true [] s h = refl
 visible_behind true (x ∷ slots) s h =
     ap (λ b. cond (not b) (x ∷ filter (λ y. not (is_superblock y)) slots) (filter (λ y. not (is_superblock y)) slots)) (s refl) ∙ all_visible slots h
 
-pub unmoved-without : (g : Gstate) (p : Pair) → unmoved g p ≡ without (moved_in g p) p.content.slots
+pub unmoved-without : (g : Gstate) (p : Pair) → slots_not_moved g p ≡ without (moved_in g p) p.content.slots
 unmoved-without g p = go (g.kind == 0x4ff && same_pair g.pair p.at)
   where
     go : (b : Bool) → cond b (remove p.content.slots g.id) p.content.slots ≡ without (cond b (Some g.id) None) p.content.slots
@@ -135,13 +135,13 @@ one_list r raws slots p Q others (x, (f, q)) =
     ∙ ap (λ (y : Entry). cons_option (list_of y) (filter_map (λ s. list_of (entry_of s)) p.others)) (sym h.same ∙ ap entry_of (same_Some h.slot p.first (sym h.is ∙ p.is_first)))
     ∙ ap (filter_map (λ s. list_of (entry_of s))) (sym p.all_are)
 
-pub same_lists : (by : NameOrder) (firsts : List (ℕ × ℕ)) (known new : Name × Vertex) (raws : List RawSlot) (slots : List Slot) → scanned by firsts known raws ≡ Some new → complete_all raws ≡ Some slots
+pub same_lists : (by : NameOrder) (firsts : List (ℕ × ℕ)) (known new : Name × Vertex) (raws : List RawSlot) (slots : List Slot) → known_after_slots by firsts known raws ≡ Some new → complete_all raws ≡ Some slots
     → lists_in raws ≡ filter_map (λ s. list_of (entry_of s)) slots
 same_lists by firsts known new [] slots e c = ap (filter_map (λ s. list_of (entry_of s))) (same_Some [] slots c)
 same_lists by firsts known new (r ∷ raws) slots e c =
     let p = complete_parts r raws slots c in
-    one_list r raws slots p (λ x. scanned by firsts (with_entry by firsts known x) raws ≡ Some new) (λ x f. same_lists by firsts (with_entry by firsts known x) new raws p.others f p.are_others)
-    (some_parts (λ x. scanned by firsts (with_entry by firsts known x) raws) new (entry_in r) e)
+    one_list r raws slots p (λ x. known_after_slots by firsts (with_entry by firsts known x) raws ≡ Some new) (λ x f. same_lists by firsts (with_entry by firsts known x) new raws p.others f p.are_others)
+    (some_parts (λ x. known_after_slots by firsts (with_entry by firsts known x) raws) new (entry_in r) e)
 
 -- ---- one pair
 
@@ -149,17 +149,17 @@ abbrev pub lists_of : List Slot → List (ℕ × ℕ)
 lists_of slots = filter_map (λ s. list_of (entry_of s)) slots
 
 pub record IsTaken (disk : Disk) (firsts : List (ℕ × ℕ)) (g : Gstate) (first : Bool) (p : Pair) (known : Name × Vertex) (sets : BlockSets) (new : Name × Vertex) (marked : BlockSets) : Type 0 where
-  pub kept : All IsEntry (behind first (unmoved g p))
-  pub entries : All IsEntry (visible g p)
-  pub known_is : new ≡ with_entries disk.order firsts known (map entry_of (visible g p))
-  pub lists : MarksLists disk sets (lists_of (visible g p)) marked
+  pub kept : All IsEntry (behind first (slots_not_moved g p))
+  pub entries : All IsEntry (entries_not_moved g p)
+  pub known_is : new ≡ with_entries disk.order firsts known (map entry_of (entries_not_moved g p))
+  pub lists : MarksLists disk sets (lists_of (entries_not_moved g p)) marked
   pub moved : IsMovedEntry (moved_in g p) p.content.slots
 
-pub kept_parts : (m : Member) (raws kept : List RawSlot) → kept_of m raws ≡ Some kept → (mid : List RawSlot) × ((unmoved_of m.moved raws ≡ Some mid) × (behind_superblock m.has_superblock mid ≡ Some kept))
-kept_parts m raws kept e = go (unmoved_of m.moved raws) refl e
+pub kept_parts : (m : Member) (raws kept : List RawSlot) → entries_of_member m raws ≡ Some kept → (mid : List RawSlot) × ((raw_slots_not_moved m.moved raws ≡ Some mid) × (slots_after_superblock m.has_superblock mid ≡ Some kept))
+kept_parts m raws kept e = go (raw_slots_not_moved m.moved raws) refl e
   where
-    go : (o : Option (List RawSlot)) → unmoved_of m.moved raws ≡ o → option_and_then (behind_superblock m.has_superblock) o ≡ Some kept
-        → (mid : List RawSlot) × ((unmoved_of m.moved raws ≡ Some mid) × (behind_superblock m.has_superblock mid ≡ Some kept))
+    go : (o : Option (List RawSlot)) → raw_slots_not_moved m.moved raws ≡ o → option_and_then (slots_after_superblock m.has_superblock) o ≡ Some kept
+        → (mid : List RawSlot) × ((raw_slots_not_moved m.moved raws ≡ Some mid) × (slots_after_superblock m.has_superblock mid ≡ Some kept))
     go None f h = absurd (cc)
     go (Some mid) f h = (mid, (f, h))
 
@@ -171,15 +171,15 @@ held_slots disk g first p m held h e =
     (ap (option_and_then completed) (sym (ap (option_and_then (λ block. content_after_all no_content (log_entries block))) h.active ∙ e)) ∙ h.content)).slots
 
 pub taken_rules : (disk : Disk) (firsts : List (ℕ × ℕ)) (g : Gstate) (first : Bool) (p : Pair) (m : Member) (known : Name × Vertex) (sets : BlockSets) (new : Name × Vertex) (marked : BlockSets)
-    → IsMember disk g first p m → Takes disk firsts m known sets new marked → IsTaken disk firsts g first p known sets new marked
+    → IsMember disk g first p m → TakesPair disk firsts m known sets new marked → IsTaken disk firsts g first p known sets new marked
 taken_rules disk firsts g first p m known sets new marked h t =
     let all = held_slots disk g first p m t.held h t.content in
     let parts = kept_parts m t.held.slots t.entries t.kept in
-    let w = without_moved (moved_in g p) t.held.slots parts.0 p.content.slots all (ap (λ o. unmoved_of o t.held.slots) (sym h.moved) ∙ parts.1.0) in
-    let are = without_superblock first parts.0 t.entries (without (moved_in g p) p.content.slots) w.are (ap (λ b. behind_superblock b parts.0) (sym h.first) ∙ parts.1.1) in
+    let w = without_moved (moved_in g p) t.held.slots parts.0 p.content.slots all (ap (λ o. raw_slots_not_moved o t.held.slots) (sym h.moved) ∙ parts.1.0) in
+    let are = without_superblock first parts.0 t.entries (without (moved_in g p) p.content.slots) w.are (ap (λ b. slots_after_superblock b parts.0) (sym h.first) ∙ parts.1.1) in
     let s = scan_some disk.order firsts known t.entries new t.scan in
     let same : s.slots ≡ behind first (without (moved_in g p) p.content.slots) = same_Some s.slots (behind first (without (moved_in g p) p.content.slots)) (sym s.are ∙ are) in
-    let seen : behind first (without (moved_in g p) p.content.slots) ≡ visible g p =
+    let seen : behind first (without (moved_in g p) p.content.slots) ≡ entries_not_moved g p =
     sym (visible_behind first (without (moved_in g p) p.content.slots) (λ e. starts_without (moved_in g p) p.content.slots w.entry (h.starts e)) (subst (All IsEntry) same s.entries))
     ∙ ap (filter (λ x. not (is_superblock x))) (sym (unmoved-without g p)) in
     record {
@@ -195,17 +195,17 @@ taken_rules disk firsts g first p m known sets new marked h t =
 -- the slots that are taken are entries; the first pair has the superblock
 abbrev pub HaveEntries : Gstate → Bool → List Pair → Type 0
 HaveEntries g first [] = Unit {0}
-HaveEntries g first (p ∷ ps) = All IsEntry (behind first (unmoved g p)) × HaveEntries g false ps
+HaveEntries g first (p ∷ ps) = All IsEntry (behind first (slots_not_moved g p)) × HaveEntries g false ps
 
 pub record HavePassed (disk : Disk) (firsts : List (ℕ × ℕ)) (g : Gstate) (first : Bool) (ps : List Pair) (known : Name × Vertex) (sets : BlockSets) (graph : Graph) (end : BlockSets) : Type 0 where
   pub kept : HaveEntries g first ps
-  pub entries : Each (λ p. All IsEntry (visible g p)) ps
+  pub entries : Each (λ p. All IsEntry (entries_not_moved g p)) ps
   pub graph_is : graph ≡ vertices disk.order firsts known (map entries_of (shown_in g ps))
-  pub lists : MarksLists disk sets (flat_map (λ p. lists_of (visible g p)) ps) end
+  pub lists : MarksLists disk sets (flat_map (λ p. lists_of (entries_not_moved g p)) ps) end
   pub moved : Each (λ p. IsMovedEntry (moved_in g p) p.content.slots) ps
 
 ended-vertices : (by : NameOrder) (hard : Bool) (firsts : List (ℕ × ℕ)) (new : Name × Vertex) (rest : List (Bool × List Entry))
-    → ended hard new (vertices by firsts (in_hand hard new) rest) ≡ cond hard (vertices by firsts new rest) (new.1 ∷ vertices by firsts nothing_known rest)
+    → graph_with_ended hard new (vertices by firsts (directory_after_pair hard new) rest) ≡ cond hard (vertices by firsts new rest) (new.1 ∷ vertices by firsts nothing_known rest)
 ended-vertices by true firsts new rest = refl
 ended-vertices by false firsts new rest = refl
 
@@ -217,31 +217,31 @@ passed_rules disk firsts g first [] (m ∷ ms) known sets graph end h t = absurd
 passed_rules disk firsts g first (p ∷ ps) [] known sets graph end h t = absurd h
 passed_rules disk firsts g first (p ∷ ps) (m ∷ ms) known sets graph end h (new, mid, rest, (takes, (e, more))) =
     let one = taken_rules disk firsts g first p m known sets new mid h.0 takes in
-    let others = passed_rules disk firsts g false ps ms (in_hand m.is_hard new) mid rest end h.1 more in
+    let others = passed_rules disk firsts g false ps ms (directory_after_pair m.is_hard new) mid rest end h.1 more in
     let tail : List (Bool × List Entry) = map entries_of (shown_in g ps) in
     record {
       kept = (one.kept, others.kept);
       entries = (one.entries, others.entries);
-      graph_is = e ∙ ap (ended m.is_hard new) others.graph_is ∙ ended-vertices disk.order m.is_hard firsts new tail
+      graph_is = e ∙ ap (graph_with_ended m.is_hard new) others.graph_is ∙ ended-vertices disk.order m.is_hard firsts new tail
           ∙ ap₂ (λ (b : Bool) (n : Name × Vertex). cond b (vertices disk.order firsts n tail) (n.1 ∷ vertices disk.order firsts nothing_known tail)) h.0.hard one.known_is;
-      lists = lists_joined disk (lists_of (visible g p)) (flat_map (λ q. lists_of (visible g q)) ps) sets mid end one.lists others.lists;
+      lists = lists_joined disk (lists_of (entries_not_moved g p)) (flat_map (λ q. lists_of (entries_not_moved g q)) ps) sets mid end one.lists others.lists;
       moved = (one.moved, others.moved);
     }
 
 -- ---- the graph
 
-named_all : (g : Gstate) (ps : List Pair) → Each (λ p. All IsEntry (visible g p)) ps → Each Named (shown_in g ps)
+named_all : (g : Gstate) (ps : List Pair) → Each (λ p. All IsEntry (entries_not_moved g p)) ps → Each Named (shown_in g ps)
 named_all g [] h = tt
 named_all g (p ∷ ps) h = ((λ k d lt. (h.0 k d lt).name), named_all g ps h.1)
 
 pub passed_draws : (disk : Disk) (g : Gstate) (ps : List Pair) (ms : List Member) (sets : BlockSets) (graph : Graph) (end : BlockSets) → Ends ps → AreMembers disk g true ps ms
-    → Passes disk (firsts_of (directories_of g ps)) nothing_known sets ms graph end → Draws disk.order (directories_of g ps) graph
+    → Passes disk (first_addresses_of (directories_of g ps)) nothing_known sets ms graph end → IsGraphOf disk.order (directories_of g ps) graph
 passed_draws disk g ps ms sets graph end ends members passes =
-    let h = passed_rules disk (firsts_of (directories_of g ps)) g true ps ms nothing_known sets graph end members passes in
-    subst (Draws disk.order (directories_of g ps)) (sym h.graph_is) (thread_drawn disk.order g ps ends (named_all g ps h.entries))
+    let h = passed_rules disk (first_addresses_of (directories_of g ps)) g true ps ms nothing_known sets graph end members passes in
+    subst (IsGraphOf disk.order (directories_of g ps)) (sym h.graph_is) (thread_drawn disk.order g ps ends (named_all g ps h.entries))
 
 -- the last pair of a thread has no tail
-pub links_end : (at : Option (ℕ × ℕ)) (ps : List Pair) → Links at ps → Ends ps
+pub links_end : (at : Option (ℕ × ℕ)) (ps : List Pair) → LinkByTails at ps → Ends ps
 links_end at [] h = tt
 links_end at (p ∷ []) h = no_tail p.content.tail h.1
   where
@@ -257,7 +257,7 @@ ends_behind (suc n) (p ∷ []) h = subst Ends (sym (drop-nil n)) tt
 ends_behind (suc n) (p ∷ q ∷ ps) h = ends_behind n (q ∷ ps) h
 
 pub thread_shows : (disk : Disk) (ps : List Pair) (ms : List Member) (sets : BlockSets) (graph : Graph) (end : BlockSets) → IsThread (content_at disk) (block_count disk) ps
-    → AreMembers disk (gstate_of ps) true (directory_pairs ps) ms → Passes disk (firsts_of (directories_in ps)) nothing_known sets ms graph end → GraphShows disk.order graph (gstate_of ps).sync ps
+    → AreMembers disk (gstate_of ps) true (directory_pairs ps) ms → Passes disk (first_addresses_of (directories_in ps)) nothing_known sets ms graph end → GraphShows disk.order graph (gstate_of ps).sync ps
 thread_shows disk ps ms sets graph end thread members passes = record {
   distinct = thread.distinct;
   draws = passed_draws disk (gstate_of ps) (directory_pairs ps) ms sets graph end (ends_behind (superblocks_before ps) ps (links_end (Some anchor) ps thread.links)) members passes;

@@ -15,17 +15,17 @@ use Rattle.lfs_model.specs.View.{IsEntry, Suits}
 use Rattle.lfs_model.proofs.WrittenAnew.{kind_of-tag_with, len_of-tag_with}
 use Rattle.lfs_model.proofs.Completed.{AreComplete, complete_parts, complete_cons}
 use Rattle.lfs_mount.specs.Reaching.{Vertex}
-use Rattle.lfs_mount.specs.Entries.{Stand, InSlot, InList, Below, stand_of, Entry, entry_of, stand_in, entry_in, with_entry, with_entries}
-use Rattle.lfs_mount.specs.Scanned.{scanned}
+use Rattle.lfs_mount.specs.Entries.{EntryTarget, InSlot, InList, Below, target_of_struct, Entry, entry_of, target_of_raw, entry_in, with_entry, with_entries}
+use Rattle.lfs_mount.specs.Scanned.{known_after_slots}
 
 -- ---- one slot that is an entry
 
-data Suited (kind : ℕ) (part : ℕ × List ℕ) (stand : Stand) : Type 0 where
+data Suited (kind : ℕ) (part : ℕ × List ℕ) (stand : EntryTarget) : Type 0 where
   inline : kind ≡ file_name_type → part.0 ≡ inline_struct_type → stand ≡ InSlot → Suited kind part stand
   list : kind ≡ file_name_type → part.0 ≡ ctz_struct_type → stand ≡ InList (pair_at part.1).0 (pair_at part.1).1 → Suited kind part stand
   below : kind ≡ directory_name_type → part.0 ≡ directory_struct_type → stand ≡ Below (pair_at part.1) → Suited kind part stand
 
-suited : (kind : ℕ) (part : ℕ × List ℕ) (stand : Stand) → stand_in kind part ≡ Some stand → Suited kind part stand
+suited : (kind : ℕ) (part : ℕ × List ℕ) (stand : EntryTarget) → target_of_raw kind part ≡ Some stand → Suited kind part stand
 suited kind part stand e =
     go (kind == file_name_type && part.0 == inline_struct_type) (kind == file_name_type && part.0 == ctz_struct_type) (kind == directory_name_type && part.0 == directory_struct_type) (length part.1 == 8) refl refl refl e
   where
@@ -43,13 +43,13 @@ suited kind part stand e =
     go false false true false f g h is = absurd (cc)
     go false false false l f g h is = absurd (cc)
 
-suits_typed : (kind : ℕ) (part : ℕ × List ℕ) (stand : Stand) → Suited kind part stand → Suits (kind_named kind) (struct_typed part.0 part.1) × (stand_of (struct_typed part.0 part.1) ≡ stand)
+suits_typed : (kind : ℕ) (part : ℕ × List ℕ) (stand : EntryTarget) → Suited kind part stand → Suits (kind_named kind) (struct_typed part.0 part.1) × (target_of_struct (struct_typed part.0 part.1) ≡ stand)
 suits_typed kind part stand (inline k t is) =
-    (subst₂ Suits (sym (ap kind_named k)) (sym (ap (λ (ty : ℕ). struct_typed ty part.1) t)) tt, ap (λ (ty : ℕ). stand_of (struct_typed ty part.1)) t ∙ sym is)
+    (subst₂ Suits (sym (ap kind_named k)) (sym (ap (λ (ty : ℕ). struct_typed ty part.1) t)) tt, ap (λ (ty : ℕ). target_of_struct (struct_typed ty part.1)) t ∙ sym is)
 suits_typed kind part stand (list k t is) =
-    (subst₂ Suits (sym (ap kind_named k)) (sym (ap (λ (ty : ℕ). struct_typed ty part.1) t)) tt, ap (λ (ty : ℕ). stand_of (struct_typed ty part.1)) t ∙ sym is)
+    (subst₂ Suits (sym (ap kind_named k)) (sym (ap (λ (ty : ℕ). struct_typed ty part.1) t)) tt, ap (λ (ty : ℕ). target_of_struct (struct_typed ty part.1)) t ∙ sym is)
 suits_typed kind part stand (below k t is) =
-    (subst₂ Suits (sym (ap kind_named k)) (sym (ap (λ (ty : ℕ). struct_typed ty part.1) t)) tt, ap (λ (ty : ℕ). stand_of (struct_typed ty part.1)) t ∙ sym is)
+    (subst₂ Suits (sym (ap kind_named k)) (sym (ap (λ (ty : ℕ). struct_typed ty part.1) t)) tt, ap (λ (ty : ℕ). target_of_struct (struct_typed ty part.1)) t ∙ sym is)
 
 pub record Holds (s : RawSlot) (e : Entry) : Type 0 where
   pub slot : Slot
@@ -60,7 +60,7 @@ pub record Holds (s : RawSlot) (e : Entry) : Type 0 where
 pub entry_some : (s : RawSlot) (e : Entry) → entry_in s ≡ Some e → Holds s e
 entry_some s e is = go s.name s.struct refl refl is
   where
-    parts : (n p : ℕ × List ℕ) → s.name ≡ Some n → s.struct ≡ Some p → (b : Bool) → is_name n.1 ≡ b → (o : Option Stand) → stand_in n.0 p ≡ o
+    parts : (n p : ℕ × List ℕ) → s.name ≡ Some n → s.struct ≡ Some p → (b : Bool) → is_name n.1 ≡ b → (o : Option EntryTarget) → target_of_raw n.0 p ≡ o
         → cond b (option_map (λ stand. (n.1, stand)) o) None ≡ Some e → Holds s e
     parts n p f g true h None i is = absurd (cc)
     parts n p f g true h (Some stand) i is =
@@ -69,15 +69,15 @@ entry_some s e is = go s.name s.struct refl refl is
           slot = record { kind = kind_named n.0; name = n.1; struct = struct_typed p.0 p.1; attributes = s.attributes };
           is = ap₂ (λ (a b : Option (ℕ × List ℕ)). complete (record { name = a; struct = b; attributes = s.attributes })) f g;
           entry = record { name = h; struct = both.0 };
-          same = ap (λ (st : Stand). (n.1, st)) both.1 ∙ same_Some (n.1, stand) e is;
+          same = ap (λ (st : EntryTarget). (n.1, st)) both.1 ∙ same_Some (n.1, stand) e is;
         }
     parts n p f g false h o i is = absurd (cc)
 
     go : (n p : Option (ℕ × List ℕ)) → s.name ≡ n → s.struct ≡ p
-        → option_and_then (λ name. option_and_then (λ struct. cond (is_name name.1) (option_map (λ stand. (name.1, stand)) (stand_in name.0 struct)) None) p) n ≡ Some e → Holds s e
+        → option_and_then (λ name. option_and_then (λ struct. cond (is_name name.1) (option_map (λ stand. (name.1, stand)) (target_of_raw name.0 struct)) None) p) n ≡ Some e → Holds s e
     go None p f g is = absurd (cc)
     go (Some n) None f g is = absurd (cc)
-    go (Some n) (Some p) f g is = parts n p f g (is_name n.1) refl (stand_in n.0 p) refl is
+    go (Some n) (Some p) f g is = parts n p f g (is_name n.1) refl (target_of_raw n.0 p) refl is
 
 -- ---- one slot that is none
 
@@ -151,7 +151,7 @@ name_type kind = go (kind == file_name_type) (kind == directory_name_type) refl 
     go false false e f = other_there (ap₂ (λ x y. cond x File (cond y Directory Superblock)) e f)
 
 -- a kind and a struct that suit stand for something
-stands : (kind type : ℕ) (bytes : List ℕ) → IsPart 2 (type, bytes) → Suits (kind_named kind) (struct_typed type bytes) → stand_in kind (type, bytes) ≡ None → ⊥
+stands : (kind type : ℕ) (bytes : List ℕ) → IsPart 2 (type, bytes) → Suits (kind_named kind) (struct_typed type bytes) → target_of_raw kind (type, bytes) ≡ None → ⊥
 stands kind type bytes h suits none = go (name_type kind) (part_type type bytes h)
   where
     -- the types written out
@@ -162,7 +162,7 @@ stands kind type bytes h suits none = go (name_type kind) (part_type type bytes 
     at k t b e f l = ap (λ (x : Bool). cond (k == file_name_type && t == inline_struct_type) (Some InSlot)
         (cond (k == file_name_type && t == ctz_struct_type) (cond x (Some (InList (pair_at bytes).0 (pair_at bytes).1)) None)
         (cond (k == directory_name_type && t == directory_struct_type) (cond x (Some (Below (pair_at bytes))) None) None))) (sym l)
-        ∙ ap₂ (λ (x y : ℕ). stand_in x (y, bytes)) (sym e) (sym f) ∙ none
+        ∙ ap₂ (λ (x y : ℕ). target_of_raw x (y, bytes)) (sym e) (sym f) ∙ none
 
     reported : (k t : ℕ) → kind ≡ k → type ≡ t → Suits (kind_named k) (struct_typed t bytes)
     reported k t e f = subst₂ (λ (x y : ℕ). Suits (kind_named x) (struct_typed y bytes)) e f suits
@@ -182,18 +182,18 @@ stands kind type bytes h suits none = go (name_type kind) (part_type type bytes 
 pub entry_none : (s : RawSlot) (t : Slot) → HasParts s → entry_in s ≡ None → complete s ≡ Some t → IsEntry t → ⊥
 entry_none s t parts none is entry = go s.name s.struct parts.struct none is
   where
-    below_name : (n p : ℕ × List ℕ) → IsPart 2 p → (b : Bool) → is_name n.1 ≡ b → (o : Option Stand) → stand_in n.0 p ≡ o
+    below_name : (n p : ℕ × List ℕ) → IsPart 2 p → (b : Bool) → is_name n.1 ≡ b → (o : Option EntryTarget) → target_of_raw n.0 p ≡ o
         → cond b (option_map {U = Entry} (λ stand. (n.1, stand)) o) None ≡ None → record { kind = kind_named n.0; name = n.1; struct = struct_typed p.0 p.1; attributes = s.attributes } ≡ t → ⊥
     below_name n p h true f None g e same = stands n.0 p.0 p.1 h (subst (λ (u : Slot). Suits u.kind u.struct) (sym same) entry.struct) g
     below_name n p h true f (Some stand) g e same = absurd (cc)
     below_name n p h false f o g e same = true≢false (sym entry.name ∙ ap (λ (u : Slot). is_name u.name) (sym same) ∙ f)
 
     go : (n p : Option (ℕ × List ℕ)) → IsPartIfSome 2 p
-        → option_and_then (λ name. option_and_then (λ struct. cond (is_name name.1) (option_map {U = Entry} (λ stand. (name.1, stand)) (stand_in name.0 struct)) None) p) n ≡ None
+        → option_and_then (λ name. option_and_then (λ struct. cond (is_name name.1) (option_map {U = Entry} (λ stand. (name.1, stand)) (target_of_raw name.0 struct)) None) p) n ≡ None
         → option_and_then (λ name. option_map (λ struct. record { kind = kind_named name.0; name = name.1; struct = struct_typed struct.0 struct.1; attributes = s.attributes }) p) n ≡ Some t → ⊥
     go None p h e f = absurd (cc)
     go (Some n) None h e f = absurd (cc)
-    go (Some n) (Some p) h e f = below_name n p h (is_name n.1) refl (stand_in n.0 p) refl e (same_Some _ t f)
+    go (Some n) (Some p) h e f = below_name n p h (is_name n.1) refl (target_of_raw n.0 p) refl e (same_Some _ t f)
 
 -- ---- all slots of a pair
 
@@ -204,12 +204,12 @@ pub record IsScanned (by : NameOrder) (firsts : List (ℕ × ℕ)) (known : Name
   pub entries : All IsEntry slots
   pub same : new ≡ with_entries by firsts known (map entry_of slots)
 
-pub scan_some : (by : NameOrder) (firsts : List (ℕ × ℕ)) (known : Name × Vertex) (raws : List RawSlot) (new : Name × Vertex) → scanned by firsts known raws ≡ Some new → IsScanned by firsts known raws new
+pub scan_some : (by : NameOrder) (firsts : List (ℕ × ℕ)) (known : Name × Vertex) (raws : List RawSlot) (new : Name × Vertex) → known_after_slots by firsts known raws ≡ Some new → IsScanned by firsts known raws new
 scan_some by firsts known [] new e = record { slots = []; are = refl; entries = λ k d lt. absurd (omega arith); same = sym (same_Some known new e) }
 scan_some by firsts known (s ∷ raws) new e = go (entry_in s) refl e (λ x. scan_some by firsts (with_entry by firsts known x) raws new)
   where
-    go : (o : Option Entry) → entry_in s ≡ o → option_and_then (λ x. scanned by firsts (with_entry by firsts known x) raws) o ≡ Some new
-        → ((x : Entry) → scanned by firsts (with_entry by firsts known x) raws ≡ Some new → IsScanned by firsts (with_entry by firsts known x) raws new) → IsScanned by firsts known (s ∷ raws) new
+    go : (o : Option Entry) → entry_in s ≡ o → option_and_then (λ x. known_after_slots by firsts (with_entry by firsts known x) raws) o ≡ Some new
+        → ((x : Entry) → known_after_slots by firsts (with_entry by firsts known x) raws ≡ Some new → IsScanned by firsts (with_entry by firsts known x) raws new) → IsScanned by firsts known (s ∷ raws) new
     go None f g next = absurd (cc)
     go (Some x) f g next =
         let h = entry_some s x f in
@@ -221,7 +221,7 @@ scan_some by firsts known (s ∷ raws) new e = go (entry_in s) refl e (λ x. sca
           same = r.same ∙ ap (λ (y : Entry). with_entries by firsts (with_entry by firsts known y) (map entry_of r.slots)) (sym h.same);
         }
 
-pub scan_none : (by : NameOrder) (firsts : List (ℕ × ℕ)) (known : Name × Vertex) (raws : List RawSlot) → HaveParts raws → scanned by firsts known raws ≡ None → (slots : List Slot) → complete_all raws ≡ Some slots → All IsEntry slots → ⊥
+pub scan_none : (by : NameOrder) (firsts : List (ℕ × ℕ)) (known : Name × Vertex) (raws : List RawSlot) → HaveParts raws → known_after_slots by firsts known raws ≡ None → (slots : List Slot) → complete_all raws ≡ Some slots → All IsEntry slots → ⊥
 scan_none by firsts known [] parts e slots are entries = absurd (cc)
 scan_none by firsts known (s ∷ raws) parts e slots are entries = go (entry_in s) refl e (λ x f. scan_none by firsts (with_entry by firsts known x) raws parts.1 f p.others p.are_others (All-tail IsEntry p.first p.others all))
   where
@@ -231,7 +231,7 @@ scan_none by firsts known (s ∷ raws) parts e slots are entries = go (entry_in 
     all : All IsEntry (p.first ∷ p.others)
     all = subst (All IsEntry) p.all_are entries
 
-    go : (o : Option Entry) → entry_in s ≡ o → option_and_then (λ x. scanned by firsts (with_entry by firsts known x) raws) o ≡ None
-        → ((x : Entry) → scanned by firsts (with_entry by firsts known x) raws ≡ None → ⊥) → ⊥
+    go : (o : Option Entry) → entry_in s ≡ o → option_and_then (λ x. known_after_slots by firsts (with_entry by firsts known x) raws) o ≡ None
+        → ((x : Entry) → known_after_slots by firsts (with_entry by firsts known x) raws ≡ None → ⊥) → ⊥
     go None f g next = entry_none s p.first parts.0 f p.is_first (All-head IsEntry p.first p.others all)
     go (Some x) f g next = next x g

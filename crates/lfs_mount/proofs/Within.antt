@@ -10,16 +10,16 @@ use Rattle.lfs_model.specs.Content.{RawSlot}
 use Rattle.lfs_model.specs.Disk.{Disk, block_count}
 use Rattle.lfs_model.specs.Names.{Name}
 use Rattle.lfs_model.specs.Slots.{Slot, Gstate, same_pair}
-use Rattle.lfs_model.specs.Thread.{Pair, ThreadDirectory, joined, is_hard, visible, gstate_of, directory_pairs, directories_of}
+use Rattle.lfs_model.specs.Thread.{Pair, ThreadDirectory, directories_with_pair, is_hard, entries_not_moved, gstate_of, directory_pairs, directories_of}
 use Rattle.lfs_model.specs.Shown.{directories_in}
 use Rattle.lfs_model.proofs.Counts.{Each, each_append}
 use Rattle.lfs_model.proofs.Superblocks.{pairs_behind}
 use Rattle.lfs_mount.specs.Reaching.{Vertex, Graph}
 use Rattle.lfs_mount.specs.DirectoryView.{vertex_of, graph_of}
 use Rattle.lfs_thread.specs.Places.{place_of}
-use Rattle.lfs_mount.specs.Entries.{comes_behind, InSlot, InList, Below, Entry, entry_in, with_branch, with_entry, nothing_known}
-use Rattle.lfs_mount.specs.Scanned.{scanned}
-use Rattle.lfs_mount.specs.Passed.{in_hand, ended, Passes}
+use Rattle.lfs_mount.specs.Entries.{comes_after_name, InSlot, InList, Below, Entry, entry_in, with_branch, with_entry, nothing_known}
+use Rattle.lfs_mount.specs.Scanned.{known_after_slots}
+use Rattle.lfs_mount.specs.Passed.{directory_after_pair, graph_with_ended, Passes}
 use Rattle.lfs_mount.specs.Described.{AreMembers}
 use Rattle.lfs_mount.specs.Checked.{HasKnownThread}
 use Rattle.lfs_mount.specs.declared.pass.Member.{Member}
@@ -48,23 +48,23 @@ branch_within firsts v to h = go (place_of firsts to) refl
 entry_within : (by : NameOrder) (firsts : List (ℕ × ℕ)) (known : Name × Vertex) (e : Entry) → Below_all (length firsts) known.1 → Below_all (length firsts) (with_entry by firsts known e).1
 entry_within by firsts (last, v) (name, InSlot) h = h
 entry_within by firsts (last, v) (name, InList head size) h = h
-entry_within by firsts (last, v) (name, Below to) h = branch_within firsts (record v { is_sound = v.is_sound && comes_behind by last name }) to h
+entry_within by firsts (last, v) (name, Below to) h = branch_within firsts (record v { is_sound = v.is_sound && comes_after_name by last name }) to h
 
 parts_of : {X : Type 0} (f : Entry → Option X) (y : X) (o : Option Entry) → option_and_then f o ≡ Some y → (x : Entry) × (f x ≡ Some y)
 parts_of f y None e = absurd (cc)
 parts_of f y (Some x) e = (x, e)
 
-scan_within : (by : NameOrder) (firsts : List (ℕ × ℕ)) (known new : Name × Vertex) (raws : List RawSlot) → scanned by firsts known raws ≡ Some new → Below_all (length firsts) known.1 → Below_all (length firsts) new.1
+scan_within : (by : NameOrder) (firsts : List (ℕ × ℕ)) (known new : Name × Vertex) (raws : List RawSlot) → known_after_slots by firsts known raws ≡ Some new → Below_all (length firsts) known.1 → Below_all (length firsts) new.1
 scan_within by firsts known new [] e h = subst (λ (k : Name × Vertex). Below_all (length firsts) k.1) (same_Some known new e) h
 scan_within by firsts known new (r ∷ raws) e h =
-    let x = parts_of (λ y. scanned by firsts (with_entry by firsts known y) raws) new (entry_in r) e in
+    let x = parts_of (λ y. known_after_slots by firsts (with_entry by firsts known y) raws) new (entry_in r) e in
     scan_within by firsts (with_entry by firsts known x.0) new raws x.1 (entry_within by firsts known x.0 h)
 
-hand_within : (n : ℕ) (hard : Bool) (new : Name × Vertex) → Below_all n new.1 → Below_all n (in_hand hard new).1
+hand_within : (n : ℕ) (hard : Bool) (new : Name × Vertex) → Below_all n new.1 → Below_all n (directory_after_pair hard new).1
 hand_within n true new h = h
 hand_within n false new h = tt
 
-ended_within : (n : ℕ) (hard : Bool) (new : Name × Vertex) (rest : Graph) → Below_all n new.1 → Each (Below_all n) rest → Each (Below_all n) (ended hard new rest)
+ended_within : (n : ℕ) (hard : Bool) (new : Name × Vertex) (rest : Graph) → Below_all n new.1 → Each (Below_all n) rest → Each (Below_all n) (graph_with_ended hard new rest)
 ended_within n true new rest h k = k
 ended_within n false new rest h k = (h, k)
 
@@ -74,7 +74,7 @@ passes_within disk firsts known sets [] graph end (e, f) h = subst (Each (Below_
 passes_within disk firsts known sets (m ∷ ms) graph end (new, mid, rest, (takes, (e, more))) h =
     let k = scan_within disk.order firsts known new takes.entries takes.scan h in
     subst (Each (Below_all (length firsts))) (sym e)
-    (ended_within (length firsts) m.is_hard new rest k (passes_within disk firsts (in_hand m.is_hard new) mid ms rest end more (hand_within (length firsts) m.is_hard new k)))
+    (ended_within (length firsts) m.is_hard new rest k (passes_within disk firsts (directory_after_pair m.is_hard new) mid ms rest end more (hand_within (length firsts) m.is_hard new k)))
 
 -- ---- the directories of the code
 
@@ -82,7 +82,7 @@ each_within : (by : NameOrder) (n : ℕ) (ds : List Directory) → Each (Below_a
 each_within by n [] h = tt
 each_within by n (d ∷ ds) h = (All-from_recursion (λ b. b < n) d.branches.items h.0, each_within by n ds h.1)
 
-some_joined : (at : ℕ × ℕ) (hard : Bool) (slots : List Slot) (ds : List ThreadDirectory) → 0 < length (joined at hard slots ds)
+some_joined : (at : ℕ × ℕ) (hard : Bool) (slots : List Slot) (ds : List ThreadDirectory) → 0 < length (directories_with_pair at hard slots ds)
 some_joined at hard slots [] = omega arith
 some_joined at true slots (d ∷ ds) = omega arith
 some_joined at false slots (d ∷ ds) = omega arith
@@ -102,7 +102,7 @@ module _ (disk : Disk) (sets : BlockSets) (firsts : List (ℕ × ℕ)) (ms : Lis
   some_directory =
       let e : directory_pairs ps ≡ known.1 ∷ known.2 = pairs_behind known.0 (known.1 ∷ known.2) known.3.chain_is in
       let lt : 0 < length (directories_of (gstate_of ps) (known.1 ∷ known.2)) =
-      some_joined known.1.at (is_hard known.1.content.tail) (visible (gstate_of ps) known.1) (directories_of (gstate_of ps) known.2) in
+      some_joined known.1.at (is_hard known.1.content.tail) (entries_not_moved (gstate_of ps) known.1) (directories_of (gstate_of ps) known.2) in
       let l = ap (λ qs. length (directories_of (gstate_of ps) qs)) e in
       let s = same_length.0 in
       omega arith

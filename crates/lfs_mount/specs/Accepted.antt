@@ -11,7 +11,7 @@ use Rattle.lfs_mount.specs.Checked.{HasHead}
 use Rattle.lfs_mount.specs.Moves.{IsMovedFrom}
 
 -- a map of as many blocks as before, of which these are used, and all others are free
-pub record HasOnly (old new : BlockSets) (bs : List ℕ) : Type 0 where
+pub record HasOnlyUsed (old new : BlockSets) (bs : List ℕ) : Type 0 where
   pub len : length new ≡ length old
   pub used : AreUsed new bs
   pub none_in_flight : AreInFlight new []
@@ -19,22 +19,22 @@ pub record HasOnly (old new : BlockSets) (bs : List ℕ) : Type 0 where
 -- The slot that a set move names is an entry. Where the superblock's pairs are right, the map has the image's blocks. Where the
 -- move is right too, the image is accepted if the directories fit the disk's order of names. If they don't fit it, the image
 -- isn't accepted.
-pub record IsJudged (disk : Disk) (fits : Bool) (old new : BlockSets) (chain : List Pair) (p : Pair) (rest : List Pair) : Type 0 where
+pub record IsAcceptedIfFits (disk : Disk) (fits : Bool) (old new : BlockSets) (chain : List Pair) (p : Pair) (rest : List Pair) : Type 0 where
   pub moved : IsMovedFrom (gstate_of (chain ++ p ∷ rest)) (p ∷ rest)
-  pub marked : (bytes : List ℕ) → HasHead disk chain p rest bytes → HasOnly old new (used_blocks disk (chain ++ p ∷ rest))
+  pub marked : (bytes : List ℕ) → HasHead disk chain p rest bytes → HasOnlyUsed old new (used_blocks disk (chain ++ p ∷ rest))
   pub accepted : fits ≡ true → (bytes : List ℕ) → HasHead disk chain p rest bytes → IsMove (chain ++ p ∷ rest) (gstate_of (chain ++ p ∷ rest)) → IsAccepted disk (chain ++ p ∷ rest)
   pub refused : fits ≡ false → IsAccepted disk (chain ++ p ∷ rest) → ⊥
 
 -- The map has the image's blocks. The image is accepted if its directories fit the disk's order of names. If they don't fit it,
 -- no image is accepted.
 pub record HasImage (disk : Disk) (headers : List Header) (fits : Bool) (old new : BlockSets) : Type 0 where
-  pub marked : HasOnly old new (used_blocks disk (pairs_on disk headers))
+  pub marked : HasOnlyUsed old new (used_blocks disk (pairs_on disk headers))
   pub accepted : fits ≡ true → IsAccepted disk (pairs_on disk headers)
   pub refused : fits ≡ false → (ps : List Pair) → IsAccepted disk ps → ⊥
 
 -- The thread of an accepted image, whose device was only read, without a fault. The map has all blocks. None but the image's are
 -- used, and none is in flight.
-pub record IsMounted (disk : Disk) (history : List Event) (t : State) : Type 0 where
+pub record IsMountedThread (disk : Disk) (history : List Event) (t : State) : Type 0 where
   pub works : t.failed ≡ false
   pub disk_is : t.kept.disk ≡ disk
   pub reads : OnlyReads disk.blocks history t.kept.history

@@ -6,10 +6,10 @@ use Rattle.lfs_model.specs.Content.{holder_at, content_at}
 use Rattle.lfs_model.specs.Disk.{Disk, block_count}
 use Rattle.lfs_model.specs.Slots.{Slot, is_superblock}
 use Rattle.lfs_model.specs.Thread.{Pair, IsThread, blocks_of, first_at, from_slots, gstate_of, superblocks_before}
-use Rattle.lfs_model.specs.View.{HasStruct, BeginsWith, superblock_entry, IsSuperblockStruct, first_name}
+use Rattle.lfs_model.specs.View.{HasStruct, BeginsWithEntry, superblock_entry, IsSuperblockStruct, first_name}
 use Rattle.lfs_model.specs.Shown.{directories_in}
-use Rattle.lfs_mount.specs.Entries.{firsts_of}
-use Rattle.lfs_mount.specs.Marking.{Owns}
+use Rattle.lfs_mount.specs.Entries.{first_addresses_of}
+use Rattle.lfs_mount.specs.Marking.{HasExactly}
 use Rattle.lfs_mount.specs.Described.{AreMembers}
 use Rattle.lfs_mount.specs.declared.pass.Member.{Member}
 
@@ -30,7 +30,7 @@ IsBare bytes p = (p.content.slots ≡ []) ⊎ IsAlone bytes p
 
 -- the superblock's chain up to the root's first pair
 pub record HasHead (disk : Disk) (chain : List Pair) (p : Pair) (rest : List Pair) (bytes : List ℕ) : Type 0 where
-  pub first : BeginsWith (holder_at disk (first_at (from_slots (chain ++ p ∷ rest)))) superblock_entry
+  pub first : BeginsWithEntry (holder_at disk (first_at (from_slots (chain ++ p ∷ rest)))) superblock_entry
   pub named : first_name (from_slots (chain ++ p ∷ rest)) ≡ Some (codes "littlefs")
   pub struct : IsSuperblockStruct disk bytes
   pub bare : AllByRecursion (IsBare bytes) chain
@@ -42,9 +42,9 @@ pub record IsKnownThread (disk : Disk) (sets : BlockSets) (firsts : List (ℕ ×
   pub thread : IsThread (content_at disk) (block_count disk) (chain ++ p ∷ rest)
   pub chain_is : superblocks_before (chain ++ p ∷ rest) ≡ length chain
   pub sets_len : length sets ≡ block_count disk
-  pub owns : Owns sets (blocks_of (chain ++ p ∷ rest))
+  pub owns : HasExactly sets (blocks_of (chain ++ p ∷ rest))
   pub described : AreMembers disk (gstate_of (chain ++ p ∷ rest)) true (p ∷ rest) members
-  pub places : firsts ≡ firsts_of (directories_in (chain ++ p ∷ rest))
+  pub places : firsts ≡ first_addresses_of (directories_in (chain ++ p ∷ rest))
   pub sync_is : (gstate_of (chain ++ p ∷ rest)).sync ≡ sync
 
 abbrev pub HasKnownThread : Disk → BlockSets → List (ℕ × ℕ) → List Member → Bool → Type 0

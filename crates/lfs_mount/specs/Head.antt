@@ -8,7 +8,7 @@ use Rattle.lfs_model.specs.Disk.{Disk, block_at, block_count}
 use Rattle.lfs_model.specs.History.{Event}
 use Rattle.lfs_model.specs.Log.{log_entries}
 use Rattle.lfs_model.specs.Thread.{Pair, IsThread, is_hard, superblocks_before}
-use Rattle.lfs_model.specs.View.{BeginsWith, superblock_entry}
+use Rattle.lfs_model.specs.View.{BeginsWithEntry, superblock_entry}
 use Rattle.lfs_tag.specs.ContentView.{tail_view}
 use Rattle.lfs_tag.specs.KindView.{names_superblock}
 use Rattle.lfs_thread.specs.Kept.{Header, AreHeaders, pairs_on}
@@ -22,9 +22,9 @@ inline_in None = None
 inline_in (Some struct) = if struct.0 == inline_struct_type then Some struct.1 else None
 
 -- whether the name is these bytes
-abbrev pub is_called : List ℕ → Option (ℕ × List ℕ) → Bool
-is_called bytes None = false
-is_called bytes (Some name) = bytes_eq name.1 bytes
+abbrev pub has_name_bytes : List ℕ → Option (ℕ × List ℕ) → Bool
+has_name_bytes bytes None = false
+has_name_bytes bytes (Some name) = bytes_eq name.1 bytes
 
 -- whether these bytes are a superblock's struct of version 2.0, for `count` blocks of this size
 abbrev pub describes : ℕ → ℕ → List ℕ → Bool
@@ -39,16 +39,16 @@ if_describes block_size count (Some bytes) = if describes block_size count bytes
 abbrev pub superblock_in : ℕ → ℕ → List RawSlot → Option (List ℕ)
 superblock_in block_size count [] = None
 superblock_in block_size count (s ∷ slots) =
-    if names_superblock s.name && is_called (codes "littlefs") s.name then if_describes block_size count (inline_in s.struct) else None
+    if names_superblock s.name && has_name_bytes (codes "littlefs") s.name then if_describes block_size count (inline_in s.struct) else None
 
 abbrev pub if_same : List ℕ → Option (List ℕ) → Option Bool
 if_same bytes None = None
 if_same bytes (Some other) = if bytes_eq other bytes then Some true else None
 
 -- whether the first slot is a superblock's; none where it is one with another struct
-abbrev pub repeats_in : List ℕ → List RawSlot → Option Bool
-repeats_in bytes [] = Some false
-repeats_in bytes (s ∷ slots) = if names_superblock s.name then if_same bytes (inline_in s.struct) else Some false
+abbrev pub repeats_first_slot : List ℕ → List RawSlot → Option Bool
+repeats_first_slot bytes [] = Some false
+repeats_first_slot bytes (s ∷ slots) = if names_superblock s.name then if_same bytes (inline_in s.struct) else Some false
 
 -- ---- blocks
 
@@ -56,12 +56,12 @@ repeats_in bytes (s ∷ slots) = if names_superblock s.name then if_same bytes (
 abbrev pub superblock_of : ℕ → ℕ → List ℕ → Option (List ℕ)
 superblock_of block_size count block = option_and_then (λ c. superblock_in block_size count c.slots) (content_after_all no_content (log_entries block))
 
-abbrev pub repeats_of : List ℕ → List ℕ → Option Bool
-repeats_of bytes block = option_and_then (λ c. repeats_in bytes c.slots) (content_after_all no_content (log_entries block))
+abbrev pub repeats_superblock : List ℕ → List ℕ → Option Bool
+repeats_superblock bytes block = option_and_then (λ c. repeats_first_slot bytes c.slots) (content_after_all no_content (log_entries block))
 
 -- the block's log begins with the superblock's entry, and this is its struct
 pub record IsSuperblockOf (disk : Disk) (block : ℕ) (bytes : List ℕ) : Type 0 where
-  pub begins : BeginsWith (Some (block_at disk block)) superblock_entry
+  pub begins : BeginsWithEntry (Some (block_at disk block)) superblock_entry
   pub struct : superblock_of disk.block_size (block_count disk) (block_at disk block) ≡ Some bytes
 
 -- ---- pairs
@@ -71,9 +71,9 @@ abbrev pub leads_on : Header → Bool
 leads_on h = (h.slot_count == 0 || h.slot_count == 1) && is_hard (option_map tail_view h.tail)
 
 -- the number of the first pair that has a slot, where the pairs before it have hard tails
-abbrev pub first_filled : List Header → Option ℕ
-first_filled [] = None
-first_filled (h ∷ hs) = if h.slot_count == 0 then (if is_hard (option_map tail_view h.tail) then option_map (λ k. suc k) (first_filled hs) else None) else Some 0
+abbrev pub first_pair_with_slots : List Header → Option ℕ
+first_pair_with_slots [] = None
+first_pair_with_slots (h ∷ hs) = if h.slot_count == 0 then (if is_hard (option_map tail_view h.tail) then option_map (λ k. suc k) (first_pair_with_slots hs) else None) else Some 0
 
 -- ---- the thread
 

@@ -15,12 +15,12 @@ Marks old [] new = old ≡ new
 Marks old (b ∷ bs) new = IsFree old b × Marks (slice_set old b Used) bs new
 
 -- A walk marks one block. `was_free` and `is_free` say whether all blocks were free so far, before and after it.
-pub record Step (old : BlockSets) (was_free : Bool) (b : ℕ) (new : BlockSets) (is_free : Bool) : Type 0 where
+pub record MarksBlock (old : BlockSets) (was_free : Bool) (b : ℕ) (new : BlockSets) (is_free : Bool) : Type 0 where
   pub free : is_free ≡ true → (was_free ≡ true) × IsFree old b × (new ≡ slice_set old b Used)
   pub taken : is_free ≡ false → (was_free ≡ false) ⊎ (IsFree old b → ⊥)
 
 -- These blocks are used, each is in the list once, and all others are free.
-pub record Owns (sets : BlockSets) (bs : List ℕ) : Type 0 where
+pub record HasExactly (sets : BlockSets) (bs : List ℕ) : Type 0 where
   pub distinct : IsDistinct nat_eq bs
   pub used : (i b : ℕ) → slice_get bs i ≡ Some b → slice_get sets b ≡ Some Used
   pub free : (b : ℕ) → b < length sets → ((i : ℕ) → slice_get bs i ≡ Some b → ⊥) → IsFree sets b
@@ -37,15 +37,15 @@ abbrev pub lists_in : List RawSlot → List (ℕ × ℕ)
 lists_in slots = filter_map (λ s. option_and_then list_of (entry_in s)) slots
 
 -- a list's blocks from the last one back, in the order in which they are marked
-abbrev pub marked_of : Disk → ℕ × ℕ → List ℕ
-marked_of disk l = reverse (blocks_back disk.blocks (blocks_for disk.block_size l.1) l.0)
+abbrev pub blocks_to_mark : Disk → ℕ × ℕ → List ℕ
+blocks_to_mark disk l = reverse (blocks_back disk.blocks (blocks_for disk.block_size l.1) l.0)
 
 -- the list of that head and size is well formed, and its blocks were free
 pub record MarksList (disk : Disk) (old : BlockSets) (l : ℕ × ℕ) (new : BlockSets) : Type 0 where
   pub list : IsList disk.blocks disk.block_size l.0 l.1
-  pub marked : Marks old (marked_of disk l) new
+  pub marked : Marks old (blocks_to_mark disk l) new
 
 -- each list is well formed, and the blocks of all of them were free
 pub record MarksLists (disk : Disk) (old : BlockSets) (all : List (ℕ × ℕ)) (new : BlockSets) : Type 0 where
   pub lists : All (λ l. IsList disk.blocks disk.block_size l.0 l.1) all
-  pub marked : Marks old (flat_map (marked_of disk) all) new
+  pub marked : Marks old (flat_map (blocks_to_mark disk) all) new

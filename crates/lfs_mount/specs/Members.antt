@@ -36,21 +36,21 @@ members_in g is_first [] = []
 members_in g is_first (h ∷ hs) = member_in g is_first h ∷ members_in g false hs
 
 -- the addresses at which directories begin: those of pairs that no hard tail names
-abbrev pub begins_in : Bool → List Header → List (ℕ × ℕ)
-begins_in begins [] = []
-begins_in begins (h ∷ hs) = if begins then address_in h ∷ begins_in (not (continues h)) hs else begins_in (not (continues h)) hs
+abbrev pub directory_addresses : Bool → List Header → List (ℕ × ℕ)
+directory_addresses begins [] = []
+directory_addresses begins (h ∷ hs) = if begins then address_in h ∷ directory_addresses (not (continues h)) hs else directory_addresses (not (continues h)) hs
 
 -- These are the headers of the directories' pairs in a thread that is known. No two directories begin in the same block.
 pub record AreDirectories (disk : Disk) (sets : BlockSets) (g : Gstate) (headers : List Header) : Type 0 where
-  pub apart : IsDistinct nat_eq (blocks_at (begins_in true headers))
-  pub known : HasKnownThread disk sets (begins_in true headers) (members_in g true headers) g.sync
+  pub apart : IsDistinct nat_eq (blocks_at (directory_addresses true headers))
+  pub known : HasKnownThread disk sets (directory_addresses true headers) (members_in g true headers) g.sync
 
 -- the thread with these headers
 abbrev pub IsThreadOf : Disk → BlockSets → Gstate → List Header → List Pair → Pair → List Pair → Type 0
-IsThreadOf disk sets g headers chain p rest = IsKnownThread disk sets (begins_in true headers) (members_in g true headers) g.sync chain p rest
+IsThreadOf disk sets g headers chain p rest = IsKnownThread disk sets (directory_addresses true headers) (members_in g true headers) g.sync chain p rest
 
 -- A thread was read: its headers and the map are kept, and the map has its pairs' blocks only.
-pub record IsRead (disk : Disk) (history : List Event) (headers : List Header) (sets : BlockSets) (g : Gstate) : Type 0 where
+pub record IsThreadRead (disk : Disk) (history : List Event) (headers : List Header) (sets : BlockSets) (g : Gstate) : Type 0 where
   pub kept : IsKept disk history headers sets
   pub thread : IsThread (content_at disk) (block_count disk) (pairs_on disk headers)
   pub used : AreUsed sets (blocks_of (pairs_on disk headers))

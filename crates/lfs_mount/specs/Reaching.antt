@@ -33,7 +33,7 @@ found_after graph zero = 0 ∷ []
 found_after graph (suc k) = with_next graph k (found_after graph k)
 
 -- The search has ended: each directory that was found was looked into and is sound. None was found twice.
-pub record IsFinished (graph : Graph) (k : ℕ) : Type 0 where
+pub record HasSearchedAll (graph : Graph) (k : ℕ) : Type 0 where
   pub all : length (found_after graph k) ≡ k
   pub distinct : IsDistinct nat_eq (found_after graph k)
   pub sound : All (λ v. is_sound_at graph v ≡ true) (found_after graph k)
@@ -43,20 +43,20 @@ abbrev pub IsUnsound : Graph → ℕ → Type 0
 IsUnsound graph k = (IsDistinct nat_eq (found_after graph k) → ⊥) ⊎ ((v : ℕ) × (slice_get (found_after graph k) k ≡ Some v) × (is_sound_at graph v ≡ false))
 
 -- the marks are those of the directories that were found, each once
-pub record IsMarked (marks : List Bool) (found : List ℕ) : Type 0 where
+pub record AreMarksOf (marks : List Bool) (found : List ℕ) : Type 0 where
   pub distinct : IsDistinct nat_eq found
   pub all : (i v : ℕ) → slice_get found i ≡ Some v → slice_get marks v ≡ Some true
   pub only : (v : ℕ) → slice_get marks v ≡ Some true → (i : ℕ) × (slice_get found i ≡ Some v)
 
 -- these directories are found, too, each for the first time
-pub record Finds (marks : List Bool) (found branches : List ℕ) (new_marks : List Bool) (new_found : List ℕ) : Type 0 where
+pub record FindsNew (marks : List Bool) (found branches : List ℕ) (new_marks : List Bool) (new_found : List ℕ) : Type 0 where
   pub found_is : new_found ≡ found ++ branches
-  pub marked : IsMarked new_marks new_found
+  pub marked : AreMarksOf new_marks new_found
   pub len : length new_marks ≡ length marks
 
 -- The marks are those of the directories that are found in the end, where each one was looked into.
 pub record AreReached (graph : Graph) (marks : List Bool) : Type 0 where
   pub steps : ℕ
-  pub finished : IsFinished graph steps
-  pub marked : IsMarked marks (found_after graph steps)
+  pub finished : HasSearchedAll graph steps
+  pub marked : AreMarksOf marks (found_after graph steps)
   pub len : length marks ≡ length graph

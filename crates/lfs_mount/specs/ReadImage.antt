@@ -7,7 +7,7 @@ use Rattle.lfs_model.specs.Thread.{Pair}
 use Rattle.lfs_model.specs.View.{IsAccepted}
 use Rattle.lfs_model.specs.declared.order.NameOrder.{NameOrder}
 use Rattle.lfs_thread.specs.Kept.{State}
-use Rattle.lfs_mount.specs.Accepted.{IsMounted}
+use Rattle.lfs_mount.specs.Accepted.{IsMountedThread}
 use Rattle.lfs_mount.specs.Orders.{has_order}
 use Rattle.lfs_mount.specs.Reads.{mount_reads}
 use Rattle.lfs_mount.specs.declared.orders.Orders.{Orders}
@@ -28,6 +28,6 @@ pub record IsReadImage (disk : Disk) (history : List Event) (t : State) (orders 
   pub disk_is : t.kept.disk ≡ disk
   pub reads : OnlyReads disk.blocks history t.kept.history
   pub no_fault : faults t.kept.history ≡ faults history
-  pub mounted : (order : NameOrder) → has_order order orders ≡ true → IsMounted (ordered order disk) history (in_order order t)
+  pub mounted : (order : NameOrder) → has_order order orders ≡ true → IsMountedThread (ordered order disk) history (in_order order t)
   pub few : (order : NameOrder) → has_order order orders ≡ true → HasFewReads disk history t
   pub refused : (order : NameOrder) → has_order order orders ≡ false → (ps : List Pair) → IsAccepted (ordered order disk) ps → ⊥

@@ -9,7 +9,7 @@ use Rattle.lfs_model.specs.Slots.{Branch, Ctz, Inline, Struct}
 use Rattle.lfs_model.specs.Thread.{Pair}
 use Rattle.lfs_model.specs.Log.{log_entries}
 use Rattle.lfs_mount.specs.Marking.{lists_in}
-use Rattle.lfs_mount.specs.Taken.{kept_of}
+use Rattle.lfs_mount.specs.Taken.{entries_of_member}
 use Rattle.lfs_mount.specs.declared.pass.Member.{Member}
 
 -- the reads of a list: one for each block
@@ -18,7 +18,7 @@ list_reads block_size l = blocks_for block_size l.1
 
 -- the head and the size of each list in a pair
 abbrev pub lists_at : Disk → Member → List (ℕ × ℕ)
-lists_at disk member = option_map_or lists_in (option_and_then (λ c. kept_of member c.slots) (content_after_all no_content (log_entries (block_at disk member.active)))) []
+lists_at disk member = option_map_or lists_in (option_and_then (λ c. entries_of_member member c.slots) (content_after_all no_content (log_entries (block_at disk member.active)))) []
 
 -- the reads of a pair: one, and those of its lists
 abbrev pub pair_reads : Disk → Member → ℕ

@@ -12,9 +12,9 @@ ghost use Rattle.lfs_model.specs.declared.order.NameOrder.{NameOrder};
 ghost use Rattle.lfs_tag.specs.FieldsView.{move_view};
 ghost use Rattle.lfs_thread.specs.Device.{GivesBack};
 ghost use Rattle.lfs_thread.specs.Kept.{disk_on, pairs_on};
-ghost use Rattle.lfs_mount.specs.Accepted.{HasImage, IsJudged, IsMounted};
+ghost use Rattle.lfs_mount.specs.Accepted.{HasImage, IsAcceptedIfFits, IsMountedThread};
 ghost use Rattle.lfs_mount.specs.Device.{IsMountError, ReportsErrors};
-ghost use Rattle.lfs_mount.specs.Members.{AreDirectories, IsRead, IsThreadOf, members_in};
+ghost use Rattle.lfs_mount.specs.Members.{AreDirectories, IsThreadRead, IsThreadOf, members_in};
 ghost use Rattle.lfs_mount.specs.Orders.{has_order};
 ghost use Rattle.lfs_mount.specs.ReadImage.{IsReadImage};
 ghost use Rattle.lfs_mount.specs.Reads.{check_reads, mount_reads, pair_reads};
@@ -40,7 +40,7 @@ use std::alloc::Global;
 /// `Corrupt` exactly where no image is accepted there. `Io` where a read failed, and `NoMemory` where
 /// memory isn't granted. The device comes back with an error.
 pub fn mount<D: BlockDevice>(alloc: Global, device: D) -> Result<Thread<D>, (D, Error)>
-    ensures mounted { IfOk result (IsMounted (disk_on D.BlockDevice device) (D.history device)) }
+    ensures mounted { IfOk result (IsMountedThread (disk_on D.BlockDevice device) (D.history device)) }
     ensures corrupt { IfErr result (λ e. e.1 ≡ Error.Corrupt → (ps : List ThreadPair) → ¬ IsAccepted (disk_on D.BlockDevice device) ps) }
     ensures errors { IfErr result (λ e. IsMountError e.1) }
     ensures back { IfErr result (λ e. GivesBack D.BlockDevice device e.0 e.1) }
@@ -90,7 +90,7 @@ fn check_image<D: BlockDevice>(
     pairs: &[Pair],
     state: &MoveState,
 ) -> Result<Orders, Error>
-    requires { IsRead (disk_on D.BlockDevice device.old) (D.history device.old) pairs.now map.old (move_view state.now) }
+    requires { IsThreadRead (disk_on D.BlockDevice device.old) (D.history device.old) pairs.now map.old (move_view state.now) }
     ensures image { IfOk result (λ orders. (order : NameOrder) → HasImage (ordered order (disk_on D.BlockDevice device.old)) pairs.now (has_order order orders) map.old map.new) }
     ensures corrupt { IsErrOf result Error.Corrupt → (order : NameOrder) (ps : List ThreadPair) → ¬ IsAccepted (ordered order (disk_on D.BlockDevice device.old)) ps }
     ensures device { ReadsOnly D.BlockDevice device.old device.new }
@@ -149,7 +149,7 @@ fn check_directories<D: BlockDevice>(
     requires { AreDirectories (disk_on D.BlockDevice device.old) map.old (move_view state.now) pairs.now }
     ensures ok { IfOk result (λ orders. (order : NameOrder) (chain : List ThreadPair) (p : ThreadPair) (rest : List ThreadPair)
         → IsThreadOf (ordered order (disk_on D.BlockDevice device.old)) map.old (move_view state.now) pairs.now chain p rest
-        → IsJudged (ordered order (disk_on D.BlockDevice device.old)) (has_order order orders) map.old map.new chain p rest) }
+        → IsAcceptedIfFits (ordered order (disk_on D.BlockDevice device.old)) (has_order order orders) map.old map.new chain p rest) }
     ensures corrupt { IsErrOf result Error.Corrupt → (order : NameOrder) (chain : List ThreadPair) (p : ThreadPair) (rest : List ThreadPair)
         → IsThreadOf (ordered order (disk_on D.BlockDevice device.old)) map.old (move_view state.now) pairs.now chain p rest
         → ¬ IsAccepted (ordered order (disk_on D.BlockDevice device.old)) (chain ++ p ∷ rest) }

@@ -8,7 +8,7 @@ ghost use Rattle.lfs_model.specs.Thread.{Pair};
 ghost use Rattle.lfs_model.specs.View.{IsAccepted};
 ghost use Rattle.lfs_model.specs.declared.order.NameOrder.{NameOrder};
 ghost use Rattle.lfs_mount.specs.Checked.{HasKnownThread, IsKnownThread};
-ghost use Rattle.lfs_mount.specs.Accepted.{IsJudged};
+ghost use Rattle.lfs_mount.specs.Accepted.{IsAcceptedIfFits};
 ghost use Rattle.lfs_mount.specs.Device.{ReportsErrors};
 ghost use Rattle.lfs_thread.specs.Kept.{disk_on};
 ghost use Rattle.lfs_mount.specs.Orders.{has_order};
@@ -48,7 +48,7 @@ pub(crate) fn check_thread<D: BlockDevice>(
     requires { HasKnownThread (disk_on D.BlockDevice device.old) map.old places.now members.now sync }
     ensures ok { IfOk result (λ orders. (order : NameOrder) (chain : List Pair) (p : Pair) (rest : List Pair)
         → IsKnownThread (ordered order (disk_on D.BlockDevice device.old)) map.old places.now members.now sync chain p rest
-        → IsJudged (ordered order (disk_on D.BlockDevice device.old)) (has_order order orders) map.old map.new chain p rest) }
+        → IsAcceptedIfFits (ordered order (disk_on D.BlockDevice device.old)) (has_order order orders) map.old map.new chain p rest) }
     ensures corrupt { IsErrOf result Error.Corrupt → (order : NameOrder) (chain : List Pair) (p : Pair) (rest : List Pair)
         → IsKnownThread (ordered order (disk_on D.BlockDevice device.old)) map.old places.now members.now sync chain p rest
         → ¬ IsAccepted (ordered order (disk_on D.BlockDevice device.old)) (chain ++ p ∷ rest) }

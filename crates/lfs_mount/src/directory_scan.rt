@@ -3,10 +3,10 @@
 ghost use Rattle.std.specs.Prelude.{◌≡◌, ◌⊎◌, map, OnOk, IfErr, IsErrOf, Some, None};
 ghost use Rattle.lfs_model.specs.declared.order.NameOrder.{NameOrder};
 ghost use Rattle.lfs_tag.specs.ContentView.{slot_view};
-ghost use Rattle.lfs_mount.specs.Entries.{comes_behind, nothing_known, with_entry};
+ghost use Rattle.lfs_mount.specs.Entries.{comes_after_name, nothing_known, with_entry};
 ghost use Rattle.lfs_mount.specs.EntryView.{entry_view};
 ghost use Rattle.lfs_mount.specs.Orders.{has_order};
-ghost use Rattle.lfs_mount.specs.Scanned.{scanned};
+ghost use Rattle.lfs_mount.specs.Scanned.{known_after_slots};
 
 use crate::entry::{NamedStruct, entry_of};
 use crate::orders::Orders;
@@ -18,19 +18,19 @@ use std::alloc::Global;
 
 // Returns whether a name comes after the last one in an order of names. `last` is empty where there
 // is none.
-fn comes_behind(order: NameOrder, last: &[u8], name: &[u8]) -> bool
-    ensures { result ≡ comes_behind order last.now name.now }
+fn comes_after_name(order: NameOrder, last: &[u8], name: &[u8]) -> bool
+    ensures { result ≡ comes_after_name order last.now name.now }
 {
     last.is_empty() || name_cmp(order, last, name).is_lt()
 }
 
 // Returns the orders in which a name comes after the last one.
 fn orders_behind(last: &[u8], name: &[u8]) -> Orders
-    ensures { (order : NameOrder) → has_order order result ≡ comes_behind order last.now name.now }
+    ensures { (order : NameOrder) → has_order order result ≡ comes_after_name order last.now name.now }
 {
     Orders {
-        longer_first: comes_behind(NameOrder::LongerFirst, last, name),
-        shorter_first: comes_behind(NameOrder::ShorterFirst, last, name),
+        longer_first: comes_after_name(NameOrder::LongerFirst, last, name),
+        shorter_first: comes_after_name(NameOrder::ShorterFirst, last, name),
     }
 }
 
@@ -97,8 +97,8 @@ impl Known {
 
     // Adds the entries in these slots of a pair. Corrupt exactly where one of the slots holds none.
     pub fn scan(&mut self, places: &Places, slots: &[Slot<'_>]) -> Result<(), Error>
-        ensures ok { OnOk result ((order : NameOrder) → scanned order places.now (known_view order self.old) (map slot_view slots.now) ≡ Some (known_view order self.new)) }
-        ensures corrupt { IsErrOf result Error.Corrupt → (order : NameOrder) → scanned order places.now (known_view order self.old) (map slot_view slots.now) ≡ None }
+        ensures ok { OnOk result ((order : NameOrder) → known_after_slots order places.now (known_view order self.old) (map slot_view slots.now) ≡ Some (known_view order self.new)) }
+        ensures corrupt { IsErrOf result Error.Corrupt → (order : NameOrder) → known_after_slots order places.now (known_view order self.old) (map slot_view slots.now) ≡ None }
         ensures errors { IfErr result (λ e. (e ≡ Error.Corrupt) ⊎ (e ≡ Error.NoMemory)) }
     {
         for slot in slots {

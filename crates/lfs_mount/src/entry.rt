@@ -4,7 +4,7 @@ ghost use Rattle.std.specs.Prelude.{◌≡◌};
 ghost use Rattle.std.specs.Option.{option_map};
 ghost use Rattle.lfs_tag.specs.ContentView.{part_view, slot_view};
 ghost use Rattle.lfs_tag.specs.StructView.{struct_view};
-ghost use Rattle.lfs_mount.specs.Entries.{entry_in, stand_in, stand_of};
+ghost use Rattle.lfs_mount.specs.Entries.{entry_in, target_of_raw, target_of_struct};
 ghost use Rattle.lfs_mount.specs.EntryView.{entry_view};
 
 use lfs_tag::{Kind, Part, Slot, Struct, is_name};
@@ -18,7 +18,7 @@ pub(crate) struct NamedStruct<'a> {
 
 // Returns what a struct says, where it suits the type of the name.
 fn target_of<'a>(name: &Part<'_>, structure: &Part<'a>) -> Option<Struct<'a>>
-    ensures { option_map (λ s. stand_of (struct_view s)) result ≡ stand_in name.now.kind (part_view structure.now) }
+    ensures { option_map (λ s. target_of_struct (struct_view s)) result ≡ target_of_raw name.now.kind (part_view structure.now) }
 {
     let Some(target) = Struct::of(structure) else {
         return None;

@@ -6,11 +6,11 @@ ghost use Rattle.lfs_device.specs.Calls.{ReadsOnly, ReportsFaults};
 ghost use Rattle.lfs_device.specs.Shown.{ordered};
 ghost use Rattle.lfs_model.specs.Blocks.{block_in};
 ghost use Rattle.lfs_model.specs.History.{reads};
-ghost use Rattle.lfs_model.specs.View.{BeginsWith, IsAccepted, superblock_entry};
+ghost use Rattle.lfs_model.specs.View.{BeginsWithEntry, IsAccepted, superblock_entry};
 ghost use Rattle.lfs_model.specs.declared.order.NameOrder.{NameOrder};
 ghost use Rattle.lfs_tag.specs.ContentView.{part_view, slot_view};
 ghost use Rattle.lfs_thread.specs.Kept.{disk_on, pairs_on};
-ghost use Rattle.lfs_mount.specs.Head.{HasHeaders, IsHead, IsSuperblockOf, describes, first_filled, inline_in, is_called, leads_on, repeats_in, repeats_of, superblock_in, superblock_of};
+ghost use Rattle.lfs_mount.specs.Head.{HasHeaders, IsHead, IsSuperblockOf, describes, first_pair_with_slots, inline_in, has_name_bytes, leads_on, repeats_first_slot, repeats_superblock, superblock_in, superblock_of};
 
 use lfs_device::{BlockDevice, Error, Geometry, read_block};
 use lfs_pair::Pair;
@@ -22,7 +22,7 @@ const MAGIC: &[u8] = b"littlefs";
 
 // Returns whether the log's first entry names the superblock.
 fn begins_with_superblock(log: &Log<'_>) -> bool
-    ensures { IsTrue result ↔ BeginsWith (Some log.now) superblock_entry }
+    ensures { IsTrue result ↔ BeginsWithEntry (Some log.now) superblock_entry }
 {
     match log.entries().next() {
         Some(entry) => entry.tag == Tag::new(SUPERBLOCK_NAME, 0, 8) && entry.bytes == MAGIC,
@@ -45,8 +45,8 @@ fn describes(geometry: &Geometry, bytes: &[u8]) -> bool
     }
 }
 
-fn is_called(slot: &Slot<'_>, bytes: &[u8]) -> bool
-    ensures { result ≡ is_called bytes.now (slot_view slot.now).name }
+fn has_name_bytes(slot: &Slot<'_>, bytes: &[u8]) -> bool
+    ensures { result ≡ has_name_bytes bytes.now (slot_view slot.now).name }
 {
     match slot.name {
         Some(name) => name.bytes == bytes,
@@ -72,7 +72,7 @@ fn superblock_in<'a>(geometry: &Geometry, slots: &[Slot<'a>]) -> Option<&'a [u8]
     let [first, ..] = slots else {
         return None;
     };
-    if !first.is_superblock() || !is_called(first, MAGIC) {
+    if !first.is_superblock() || !has_name_bytes(first, MAGIC) {
         return None;
     }
     match inline_in(first) {
@@ -83,9 +83,9 @@ fn superblock_in<'a>(geometry: &Geometry, slots: &[Slot<'a>]) -> Option<&'a [u8]
 
 // Returns whether the first slot is a superblock's. Corrupt exactly where it is one with another
 // struct than `bytes`.
-fn repeats_in(slots: &[Slot<'_>], bytes: &[u8]) -> Result<bool, Error>
-    ensures ok { IfOk result (λ repeats. repeats_in bytes.now (map slot_view slots.now) ≡ Some repeats) }
-    ensures corrupt { IfErr result (λ e. (e ≡ Error.Corrupt) × (repeats_in bytes.now (map slot_view slots.now) ≡ None)) }
+fn repeats_first_slot(slots: &[Slot<'_>], bytes: &[u8]) -> Result<bool, Error>
+    ensures ok { IfOk result (λ repeats. repeats_first_slot bytes.now (map slot_view slots.now) ≡ Some repeats) }
+    ensures corrupt { IfErr result (λ e. (e ≡ Error.Corrupt) × (repeats_first_slot bytes.now (map slot_view slots.now) ≡ None)) }
 {
     let [first, ..] = slots else {
         return Ok(false);
@@ -102,9 +102,9 @@ fn repeats_in(slots: &[Slot<'_>], bytes: &[u8]) -> Result<bool, Error>
 // Returns the superblock's struct in a block whose log begins with the superblock. Corrupt exactly
 // where the block has none.
 fn read_superblock(alloc: Global, geometry: &Geometry, block: &[u8]) -> Result<Vec<u8>, Error>
-    ensures begins { OnOk result (BeginsWith (Some block.now) superblock_entry) }
+    ensures begins { OnOk result (BeginsWithEntry (Some block.now) superblock_entry) }
     ensures holds { IfOk result (λ bytes. superblock_of geometry.now.block_size geometry.now.block_count block.now ≡ Some bytes.items) }
-    ensures corrupt { IsErrOf result Error.Corrupt → BeginsWith (Some block.now) superblock_entry → superblock_of geometry.now.block_size geometry.now.block_count block.now ≡ None }
+    ensures corrupt { IsErrOf result Error.Corrupt → BeginsWithEntry (Some block.now) superblock_entry → superblock_of geometry.now.block_size geometry.now.block_count block.now ≡ None }
     ensures errors { IfErr result (λ e. (e ≡ Error.Corrupt) ⊎ (e ≡ Error.NoMemory)) }
 {
     let log = Log::read(block);
@@ -121,13 +121,13 @@ fn read_superblock(alloc: Global, geometry: &Geometry, block: &[u8]) -> Result<V
 // Returns whether the first slot that a block's log comes to is a superblock's. Corrupt exactly
 // where it is one with another struct than `bytes`, or where the log is malformed.
 fn repeats(alloc: Global, block: &[u8], bytes: &[u8]) -> Result<bool, Error>
-    ensures ok { IfOk result (λ repeats. repeats_of bytes.now block.now ≡ Some repeats) }
-    ensures corrupt { IsErrOf result Error.Corrupt → repeats_of bytes.now block.now ≡ None }
+    ensures ok { IfOk result (λ repeats. repeats_superblock bytes.now block.now ≡ Some repeats) }
+    ensures corrupt { IsErrOf result Error.Corrupt → repeats_superblock bytes.now block.now ≡ None }
     ensures errors { IfErr result (λ e. (e ≡ Error.Corrupt) ⊎ (e ≡ Error.NoMemory)) }
 {
     let log = Log::read(block);
     let content = Content::read(alloc, &log)?;
-    repeats_in(&content.slots, bytes)
+    repeats_first_slot(&content.slots, bytes)
 }
 
 // Reads a block of the device, and returns the superblock's struct in it. Corrupt exactly where the
@@ -155,8 +155,8 @@ fn repeats_at<D: BlockDevice>(
     bytes: &[u8],
 ) -> Result<bool, Error>
     requires { block < (D.geometry dev.old).block_count }
-    ensures ok { IfOk result (λ repeats. repeats_of bytes.now (block_in (D.blocks dev.old) block) ≡ Some repeats) }
-    ensures corrupt { IsErrOf result Error.Corrupt → repeats_of bytes.now (block_in (D.blocks dev.old) block) ≡ None }
+    ensures ok { IfOk result (λ repeats. repeats_superblock bytes.now (block_in (D.blocks dev.old) block) ≡ Some repeats) }
+    ensures corrupt { IsErrOf result Error.Corrupt → repeats_superblock bytes.now (block_in (D.blocks dev.old) block) ≡ None }
     ensures device { ReadsOnly D.BlockDevice dev.old dev.new }
     ensures errors { IfErr result (λ e. (e ≡ Error.Corrupt) ⊎ ((e ≡ Error.Io) ⊎ (e ≡ Error.NoMemory))) }
     ensures faults { ReportsFaults D.BlockDevice dev.old dev.new result }
@@ -175,10 +175,10 @@ fn leads_on(pair: &Pair) -> bool
 
 // Returns the number of the first pair that has a slot. Corrupt exactly where there is none, or
 // where a pair before it has no hard tail.
-fn first_filled(pairs: &[Pair]) -> Result<usize, Error>
-    ensures ok { IfOk result (λ index. first_filled pairs.now ≡ Some index) }
+fn first_pair_with_slots(pairs: &[Pair]) -> Result<usize, Error>
+    ensures ok { IfOk result (λ index. first_pair_with_slots pairs.now ≡ Some index) }
     ensures below { IfOk result (λ index. index < length pairs.now) }
-    ensures corrupt { IfErr result (λ e. (e ≡ Error.Corrupt) × (first_filled pairs.now ≡ None)) }
+    ensures corrupt { IfErr result (λ e. (e ≡ Error.Corrupt) × (first_pair_with_slots pairs.now ≡ None)) }
 {
     for index in 0..pairs.len() {
         if pairs[index].slot_count != 0 {
@@ -220,7 +220,7 @@ pub(crate) fn count_superblocks<D: BlockDevice>(
     ensures faults { ReportsFaults D.BlockDevice dev.old dev.new result }
     ensures reads { IfOk result (λ count. reads (D.history dev.new) ≤ reads (D.history dev.old) + count + 2) }
 {
-    let first = first_filled(pairs)?;
+    let first = first_pair_with_slots(pairs)?;
     let bytes = superblock_at(alloc, dev, pairs[first].active)?;
     let mut root = first;
     for index in first + 1..pairs.len() {

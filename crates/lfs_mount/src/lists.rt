@@ -10,7 +10,7 @@ ghost use Rattle.lfs_model.specs.History.{reads};
 ghost use Rattle.lfs_thread.specs.Kept.{disk_on};
 ghost use Rattle.lfs_mount.specs.Entries.{entry_in};
 ghost use Rattle.lfs_mount.specs.ListsView.{lists_view};
-ghost use Rattle.lfs_mount.specs.Marking.{MarksList, MarksLists, Step, list_of};
+ghost use Rattle.lfs_mount.specs.Marking.{MarksList, MarksLists, MarksBlock, list_of};
 ghost use Rattle.lfs_mount.specs.Reads.{list_reads};
 ghost use Rattle.lfs_tag.specs.ContentView.{slot_view};
 
@@ -52,7 +52,7 @@ fn mark_list<D: BlockDevice>(
         head,
         size,
         &mut |block: u32|
-            ensures { Step map.entry.now is_free.entry block map.exit.now is_free.exit }
+            ensures { MarksBlock map.entry.now is_free.entry block map.exit.now is_free.exit }
         {
             let was_free = mark(map, block);
             is_free = is_free && was_free;

@@ -5,7 +5,7 @@ ghost use Rattle.std.specs.List.{IsDistinct};
 ghost use Rattle.lfs_model.specs.Slots.{address_of};
 ghost use Rattle.lfs_tag.specs.FieldsView.{move_view};
 ghost use Rattle.lfs_thread.specs.Places.{blocks_at};
-ghost use Rattle.lfs_mount.specs.Members.{begins_in, member_in, members_in, moved_at};
+ghost use Rattle.lfs_mount.specs.Members.{directory_addresses, member_in, members_in, moved_at};
 
 use crate::pass::Member;
 use lfs_device::Error;
@@ -57,8 +57,8 @@ pub(crate) fn members_of(
 
 // Returns the addresses of the directories of these pairs, from the root's first pair on.
 pub(crate) fn places_of(alloc: Global, pairs: &[Pair]) -> Result<Places, Error>
-    requires { IsDistinct nat_eq (blocks_at (begins_in true pairs.now)) }
-    ensures places { IfOk result (λ places. places ≡ begins_in true pairs.now) }
+    requires { IsDistinct nat_eq (blocks_at (directory_addresses true pairs.now)) }
+    ensures places { IfOk result (λ places. places ≡ directory_addresses true pairs.now) }
     ensures error { IfErr result (λ e. e ≡ Error.NoMemory) }
 {
     let mut places = Places::new(alloc);

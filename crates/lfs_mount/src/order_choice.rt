@@ -7,7 +7,7 @@ ghost use Rattle.lfs_model.specs.declared.order.NameOrder.{NameOrder};
 ghost use Rattle.lfs_model.specs.declared.order.NameOrder.TheVariants.{LongerFirst, ShorterFirst};
 ghost use Rattle.lfs_device.specs.Shown.{ordered};
 ghost use Rattle.lfs_thread.specs.Kept.{disk_on};
-ghost use Rattle.lfs_mount.specs.Accepted.{IsMounted};
+ghost use Rattle.lfs_mount.specs.Accepted.{IsMountedThread};
 ghost use Rattle.lfs_mount.specs.Device.{IsMountError};
 ghost use Rattle.lfs_mount.specs.Either.{GivesDeviceBack};
 ghost use Rattle.lfs_mount.specs.ReadImage.{HasFewReads, in_order};
@@ -42,7 +42,7 @@ pub fn mount_either<D: BlockDevice>(
     alloc: Global,
     device: D,
 ) -> Result<Thread<Ordered<D>>, (D, Error)>
-    ensures mounted { IfOk result (λ t. IsMounted (ordered t.kept.disk.order (disk_on D.BlockDevice device)) (D.history device) t) }
+    ensures mounted { IfOk result (λ t. IsMountedThread (ordered t.kept.disk.order (disk_on D.BlockDevice device)) (D.history device) t) }
     ensures longer { IfOk result (λ t. t.kept.disk.order ≡ ShorterFirst → (ps : List ThreadPair) → ¬ IsAccepted (ordered LongerFirst (disk_on D.BlockDevice device)) ps) }
     ensures corrupt { IfErr result (λ e. e.1 ≡ Error.Corrupt → (order : NameOrder) (ps : List ThreadPair) → ¬ IsAccepted (ordered order (disk_on D.BlockDevice device)) ps) }
     ensures errors { IfErr result (λ e. IsMountError e.1) }

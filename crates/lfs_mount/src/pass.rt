@@ -15,7 +15,7 @@ ghost use Rattle.lfs_mount.specs.KnownView.{known_view};
 ghost use Rattle.lfs_mount.specs.Passed.{Passes};
 ghost use Rattle.lfs_mount.specs.Reaching.{Graph, Vertex};
 ghost use Rattle.lfs_mount.specs.Reads.{pair_reads};
-ghost use Rattle.lfs_mount.specs.Taken.{Takes, behind_superblock, unmoved_of};
+ghost use Rattle.lfs_mount.specs.Taken.{TakesPair, slots_after_superblock, raw_slots_not_moved};
 ghost use Rattle.lfs_tag.specs.ContentView.{slot_view};
 
 use crate::directory_scan::Known;
@@ -43,8 +43,8 @@ pub(crate) struct Member {
 
 // Removes the slot that a set move names. Corrupt exactly where it is no entry.
 fn take_moved_slot(slots: &mut Vec<Slot<'_>>, moved: Option<u32>) -> Result<(), Error>
-    ensures ok { OnOk result (unmoved_of moved (map slot_view slots.old.items) ≡ Some (map slot_view slots.new.items)) }
-    ensures corrupt { IfErr result (λ e. (e ≡ Error.Corrupt) × (unmoved_of moved (map slot_view slots.old.items) ≡ None)) }
+    ensures ok { OnOk result (raw_slots_not_moved moved (map slot_view slots.old.items) ≡ Some (map slot_view slots.new.items)) }
+    ensures corrupt { IfErr result (λ e. (e ≡ Error.Corrupt) × (raw_slots_not_moved moved (map slot_view slots.old.items) ≡ None)) }
 {
     let Some(id) = moved else {
         return Ok(());
@@ -65,8 +65,8 @@ fn is_entry(slot: &Slot<'_>) -> bool
 
 // Removes the superblock's slot. Corrupt exactly where there is no slot.
 fn take_superblock(slots: &mut Vec<Slot<'_>>, has_superblock: bool) -> Result<(), Error>
-    ensures ok { OnOk result (behind_superblock has_superblock (map slot_view slots.old.items) ≡ Some (map slot_view slots.new.items)) }
-    ensures corrupt { IfErr result (λ e. (e ≡ Error.Corrupt) × (behind_superblock has_superblock (map slot_view slots.old.items) ≡ None)) }
+    ensures ok { OnOk result (slots_after_superblock has_superblock (map slot_view slots.old.items) ≡ Some (map slot_view slots.new.items)) }
+    ensures corrupt { IfErr result (λ e. (e ≡ Error.Corrupt) × (slots_after_superblock has_superblock (map slot_view slots.old.items) ≡ None)) }
 {
     if !has_superblock {
         return Ok(());
@@ -91,8 +91,8 @@ fn take_pair<D: BlockDevice>(
     member: &Member,
 ) -> Result<(), Error>
     requires { member.now.active < (D.geometry device.old).block_count }
-    ensures taken { OnOk result ((order : NameOrder) → Takes (ordered order (disk_on D.BlockDevice device.old)) places.now member.now (known_view order known.old) map.old (known_view order known.new) map.new) }
-    ensures corrupt { IsErrOf result Error.Corrupt → (order : NameOrder) (new : Name × Vertex) (sets : BlockSets) → ¬ Takes (ordered order (disk_on D.BlockDevice device.old)) places.now member.now (known_view order known.old) map.old new sets }
+    ensures taken { OnOk result ((order : NameOrder) → TakesPair (ordered order (disk_on D.BlockDevice device.old)) places.now member.now (known_view order known.old) map.old (known_view order known.new) map.new) }
+    ensures corrupt { IsErrOf result Error.Corrupt → (order : NameOrder) (new : Name × Vertex) (sets : BlockSets) → ¬ TakesPair (ordered order (disk_on D.BlockDevice device.old)) places.now member.now (known_view order known.old) map.old new sets }
     ensures device { ReadsOnly D.BlockDevice device.old device.new }
     ensures errors { ReportsErrors D.BlockDevice device.old device.new result }
     ensures few { OnOk result (reads (D.history device.new) ≤ reads (D.history device.old) + pair_reads (disk_on D.BlockDevice device.old) member.now) }

@@ -6,7 +6,7 @@ use Rattle.std.proofs.Common.{nat_eq}
 use Rattle.std.proofs.lemmas.Option.{same_Some}
 use Rattle.lfs_model.specs.Disk.{Disk}
 use Rattle.lfs_model.specs.Slots.{Gstate, Slot, same_pair}
-use Rattle.lfs_model.specs.Thread.{Links, Pair, anchor, blocks_of, next_of}
+use Rattle.lfs_model.specs.Thread.{LinkByTails, Pair, anchor, blocks_of, next_of}
 use Rattle.lfs_model.specs.View.{IsAccepted}
 use Rattle.lfs_model.specs.SlotEdits.{with_slots}
 use Rattle.lfs_model.proofs.Became.{Became}
@@ -15,8 +15,8 @@ use Rattle.lfs_model.proofs.Counts.{Each}
 use Rattle.lfs_model.proofs.Pairs.{pair_itself}
 use Rattle.lfs_model.proofs.Searches.{avoids_behind, avoids_front}
 use Rattle.lfs_model.proofs.Splices.{slots_in}
-use Rattle.lfs_model.proofs.Sites.{Among, Site, among_parts, thread_at}
-use Rattle.lfs_operations.specs.Changing.{Alters}
+use Rattle.lfs_model.proofs.Sites.{SomeIn, Site, among_parts, thread_at}
+use Rattle.lfs_operations.specs.Changing.{AltersPair}
 use Rattle.lfs_operations.specs.Dropping.{HasDroppedBehind, with_tail_taken}
 use Rattle.lfs_operations.proofs.DroppedTails.{TwoAt, front_is, gone_is, over_next, two_at, without_is}
 use Rattle.lfs_thread.specs.Kept.{Kept}
@@ -24,12 +24,12 @@ use Rattle.lfs_thread.specs.Steps.{pair_in}
 
 -- ---- a pair in a thread
 
-pub among_contains : (p : Pair) (xs : List Pair) → Contains xs p → Among (λ y. y ≡ p) xs
+pub among_contains : (p : Pair) (xs : List Pair) → Contains xs p → SomeIn (λ y. y ≡ p) xs
 among_contains p [] (k, l, e) = absurd (omega arith)
 among_contains p (x ∷ xs) (zero, l, e) = inl e
 among_contains p (x ∷ xs) (suc k, l, e) = inr (among_contains p xs (k, omega arith, e))
 
-avoided : (p : Pair) (xs : List Pair) → Each (λ x. same_pair x.at p.at ≡ false) xs → Among (λ y. y ≡ p) xs → ⊥
+avoided : (p : Pair) (xs : List Pair) → Each (λ x. same_pair x.at p.at ≡ false) xs → SomeIn (λ y. y ≡ p) xs → ⊥
 avoided p [] h a = a
 avoided p (x ∷ xs) h (inl e) = absurd (let k = sym (pair_itself p.at) ∙ ap (λ (y : Pair). same_pair y.at p.at) (sym e) ∙ h.0 in cc)
 avoided p (x ∷ xs) h (inr a) = avoided p xs h.1 a
@@ -41,17 +41,17 @@ only_there xs q ys p distinct e has = go (among_parts (λ y. y ≡ p) xs (q ∷ 
     same : same_pair q.at p.at ≡ true
     same = ap (λ a. same_pair a p.at) e ∙ pair_itself p.at
 
-    go : Among (λ y. y ≡ p) xs ⊎ Among (λ y. y ≡ p) (q ∷ ys) → q ≡ p
+    go : SomeIn (λ y. y ≡ p) xs ⊎ SomeIn (λ y. y ≡ p) (q ∷ ys) → q ≡ p
     go (inl h) = absurd (avoided p xs (avoids_front xs q ys p.at distinct same) h)
     go (inr (inl h)) = h
     go (inr (inr h)) = absurd (avoided p ys (avoids_behind xs q ys p.at distinct same) h)
 
-pub links_behind : (at : Option (ℕ × ℕ)) (xs ys : List Pair) → Links at (xs ++ ys) → (to : Option (ℕ × ℕ)) × Links to ys
+pub links_behind : (at : Option (ℕ × ℕ)) (xs ys : List Pair) → LinkByTails at (xs ++ ys) → (to : Option (ℕ × ℕ)) × LinkByTails to ys
 links_behind at [] ys h = (at, h)
 links_behind at (x ∷ xs) ys h = links_behind (next_of x.content.tail) xs ys h.1
 
 -- no pair's tail names it
-names_another : (xs : List Pair) (f : Pair) (ys : List Pair) → Links (Some anchor) (xs ++ f ∷ ys) → IsDistinct nat_eq (blocks_of (xs ++ f ∷ ys)) → next_of f.content.tail ≡ Some f.at → ⊥
+names_another : (xs : List Pair) (f : Pair) (ys : List Pair) → LinkByTails (Some anchor) (xs ++ f ∷ ys) → IsDistinct nat_eq (blocks_of (xs ++ f ∷ ys)) → next_of f.content.tail ≡ Some f.at → ⊥
 names_another xs f [] links distinct e = absurd (let k = sym e ∙ (links_behind (Some anchor) xs (f ∷ []) links).1.1 in cc)
 names_another xs f (g ∷ ys) links distinct e =
     let k = (links_behind (Some anchor) xs (f ∷ g ∷ ys) links).1.1.0 in
@@ -91,7 +91,7 @@ module _ (disk new : Disk) (w : Site) (p q : Pair) (fresh : List ℕ) (l olds ne
       let e = sym (append_assoc w.chain (w.before ++ w.left) (q ∷ f ∷ behind)) in
       let is = only_there ahead q (f ∷ behind) p (subst (λ z. IsDistinct nat_eq (blocks_of z)) e ok.thread.distinct) at (subst (λ z. Contains z p) e has) in
       let g = e ∙ sym (append_assoc ahead (q ∷ []) (f ∷ behind)) in
-      names_another (ahead ++ q ∷ []) f behind (subst (λ z. Links (Some anchor) z) g ok.thread.links) (subst (λ z. IsDistinct nat_eq (blocks_of z)) g ok.thread.distinct)
+      names_another (ahead ++ q ∷ []) f behind (subst (λ z. LinkByTails (Some anchor) z) g ok.thread.links) (subst (λ z. IsDistinct nat_eq (blocks_of z)) g ok.thread.distinct)
       (other_tail f is became.0 became.1)
   put_alters (f ∷ g ∷ rest) ok at was now became has = absurd became
 
@@ -100,10 +100,10 @@ module _ (disk new : Disk) (w : Site) (p q : Pair) (fresh : List ℕ) (l olds ne
 
 -- ---- a pair takes over the tail of the one behind it
 
-pub drop_alters : (t : Kept) (front : ℕ) (state : Gstate) (new : Kept) → front + 1 < length t.pairs → IsAccepted t.disk t.pairs → HasDroppedBehind t front state new → Alters t front new
+pub drop_alters : (t : Kept) (front : ℕ) (state : Gstate) (new : Kept) → front + 1 < length t.pairs → IsAccepted t.disk t.pairs → HasDroppedBehind t front state new → AltersPair t front new
 drop_alters t front state new low ok d = go (two_at t.pairs front low)
   where
-    go : TwoAt t.pairs front → Alters t front new
+    go : TwoAt t.pairs front → AltersPair t front new
     go two has =
         let p = two.one in
         let o = two.other in
@@ -113,9 +113,9 @@ drop_alters t front state new low ok d = go (two_at t.pairs front low)
         let next = gone_is t front two.ahead p o two.back two.is two.number in
         let now = d.pairs ∙ without_is t front two.ahead p o two.back two.is two.number c in
         let same : q ≡ p = only_there two.ahead q two.back p (subst (λ z. IsDistinct nat_eq (blocks_of z)) now d.thread.distinct) refl (subst (Contains (two.ahead ++ q ∷ two.back)) here (subst (λ z. Contains z (pair_in t front)) now has)) in
-        let links = (links_behind (Some anchor) two.ahead (p ∷ o ∷ two.back) (subst (λ z. Links (Some anchor) z) two.is ok.thread.links)).1 in
+        let links = (links_behind (Some anchor) two.ahead (p ∷ o ∷ two.back) (subst (λ z. LinkByTails (Some anchor) z) two.is ok.thread.links)).1 in
         let taken : next_of c.tail ≡ next_of o.content.tail
         = over_next (pair_in t front).content.tail (pair_in t (front + 1)).content.tail ∙ ap (λ (z : Pair). next_of z.content.tail) next in
         let names : next_of o.content.tail ≡ Some o.at = sym taken ∙ ap (λ (z : Pair). next_of z.content.tail) same ∙ links.1.0 in
         let is = two.is ∙ sym (append_assoc two.ahead (p ∷ []) (o ∷ two.back)) in
-        names_another (two.ahead ++ p ∷ []) o two.back (subst (λ z. Links (Some anchor) z) is ok.thread.links) (subst (λ z. IsDistinct nat_eq (blocks_of z)) is ok.thread.distinct) names
+        names_another (two.ahead ++ p ∷ []) o two.back (subst (λ z. LinkByTails (Some anchor) z) is ok.thread.links) (subst (λ z. IsDistinct nat_eq (blocks_of z)) is ok.thread.distinct) names

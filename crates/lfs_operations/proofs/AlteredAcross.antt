@@ -14,17 +14,17 @@ use Rattle.lfs_model.specs.Shown.{all_slots, used_blocks}
 use Rattle.lfs_model.proofs.Alike.{AreAlike}
 use Rattle.lfs_model.proofs.BlockSets.{Contains-head, Contains-tail}
 use Rattle.lfs_model.proofs.Counts.{Each, count, count_append, count_here, each_weaker, once_from_distinct}
-use Rattle.lfs_model.proofs.Sites.{Among, Site, among_right, dirs_at}
+use Rattle.lfs_model.proofs.Sites.{SomeIn, Site, among_right, dirs_at}
 use Rattle.lfs_model.proofs.Splices.{files_of}
 use Rattle.lfs_model.proofs.TwoPlaces.{two}
 use Rattle.lfs_thread.specs.Device.{two_of}
 use Rattle.lfs_thread.specs.Kept.{Kept}
 use Rattle.lfs_thread.specs.Steps.{pair_in}
 use Rattle.lfs_operations.specs.Altering.{IsAltered}
-use Rattle.lfs_operations.specs.Changing.{Alters}
-use Rattle.lfs_operations.specs.MoveEnds.{HasEnded, end_at, move_of}
+use Rattle.lfs_operations.specs.Changing.{AltersPair}
+use Rattle.lfs_operations.specs.MoveEnds.{HasEndedMoveAt, end_at, move_of}
 use Rattle.lfs_operations.specs.MovingSteps.{EndsAfter, left_at, place_after}
-use Rattle.lfs_operations.specs.Removing.{goes_whole}
+use Rattle.lfs_operations.specs.Removing.{drops_pair}
 use Rattle.lfs_operations.proofs.AlteredBehind.{entered_alters, gone_alters}
 use Rattle.lfs_operations.proofs.MovAcross.{Arranged}
 use Rattle.lfs_operations.proofs.MovStep.{IsFirst, IsLeftOver, arr, last_taken, left_over}
@@ -51,7 +51,7 @@ within_two false chain front os mid q more back = record { before = chain ++ fro
 module _ (t : Kept) (sync : Bool) (old_pair : ℕ) (goes : Bool) (new_pair : ℕ) (changes : List Change) (wo : Site) (o : Pair) (lo : List Slot) (u : Slot) (ro : List Slot) (w : Site) (p : Pair) (l : List Slot) (v : Slot) (r : List Slot)
     (old_path new_path : Path) (name : Name) (k : IsFirst t sync old_pair goes new_pair changes wo o lo u ro w p l None v r old_path new_path name)
     (mid : Kept) (x : TurnedTo t w p (l ++ v ∷ r) (gstate_xor (move_of sync o.at (length lo)) p.content.move) mid)
-    (last : Kept) (e : HasEnded mid (place_after old_pair new_pair (length mid.pairs - length t.pairs)) (length lo) goes last) where
+    (last : Kept) (e : HasEndedMoveAt mid (place_after old_pair new_pair (length mid.pairs - length t.pairs)) (length lo) goes last) where
   abbrev a : Arranged t.disk wo o w p x.q x.more
   a = arr t sync old_pair goes new_pair changes wo o lo u ro w p l None v r old_path new_path name k mid x
 
@@ -67,11 +67,11 @@ module _ (t : Kept) (sync : Bool) (old_pair : ℕ) (goes : Bool) (new_pair : ℕ
       let c = count_append b (blocks_of t.pairs) (files_of t.disk (all_slots t.pairs)) in
       omega (arith, n, c)
 
-  there : Among (λ y. y ≡ p) t.pairs
-  there = subst (Among (λ y. y ≡ p)) (sym k.turn.there) (among_right (λ y. y ≡ p) w.chain (dirs_at w (p ∷ [])) (among_right (λ y. y ≡ p) (w.before ++ w.left) (p ∷ (w.right ++ w.after)) (inl refl)))
+  there : SomeIn (λ y. y ≡ p) t.pairs
+  there = subst (SomeIn (λ y. y ≡ p)) (sym k.turn.there) (among_right (λ y. y ≡ p) w.chain (dirs_at w (p ∷ [])) (among_right (λ y. y ≡ p) (w.before ++ w.left) (p ∷ (w.right ++ w.after)) (inl refl)))
 
   -- it has one slot more, or is cut
-  pub moved_alters : Alters t new_pair last
+  pub moved_alters : AltersPair t new_pair last
   moved_alters has = entered_alters t last t.disk p (with_slots (l ++ v ∷ r) p) x.q x.more place.before place.behind l r v k.ready.accepted
       (last_taken t sync old_pair goes new_pair changes wo o lo u ro w p l None v r old_path new_path name k mid x last e).follows.accepted
       (subst (λ z. AreAlike z last.pairs) (ap (λ z. w.chain ++ z) (sym (a.cut left.os)) ∙ place.is) left.alike)
@@ -82,7 +82,7 @@ module _ (t : Kept) (sync : Bool) (old_pair : ℕ) (goes : Bool) (new_pair : ℕ
 
 -- the old one is gone
 pub ended_alters : (t mid m new : Kept) (old_pair old_id new_pair : ℕ) → 0 < old_pair → old_pair < length t.pairs → IsAccepted t.disk t.pairs → EndsAfter t old_pair old_id true new_pair mid
-    → HasEnded mid (place_after old_pair new_pair (length mid.pairs - length t.pairs)) old_id true m → IsAccepted new.disk new.pairs → ((b : ℕ) → count b (used_blocks new.disk new.pairs) ≤ count b (used_blocks m.disk m.pairs)) → Alters t (old_pair - 1) new
+    → HasEndedMoveAt mid (place_after old_pair new_pair (length mid.pairs - length t.pairs)) old_id true m → IsAccepted new.disk new.pairs → ((b : ℕ) → count b (used_blocks new.disk new.pairs) ≤ count b (used_blocks m.disk m.pairs)) → AltersPair t (old_pair - 1) new
 ended_alters t mid m new old_pair old_id new_pair some low ok ends ended now fewer =
     let b = (pair_in t old_pair).at.0 in
     let e = ended.blocks b in
@@ -98,11 +98,11 @@ ended_alters t mid m new old_pair old_id new_pair some low ok ends ended now few
 abbrev pub IsKnown : Kept → Kept → List ℕ → ℕ → Type 0
 IsKnown t new bs b = Contains bs b ⊎ (IsAltered t new b ⊎ IsFree t.map b)
 
-pub front_altered : (t new : Kept) (old_pair first : ℕ) → old_pair < length t.pairs → (goes_whole t old_pair first ≡ true → Alters t (old_pair - 1) new) → (bs : List ℕ) → ((b : ℕ) → Contains (two_of (pair_in t old_pair).at) b → Contains bs b)
+pub front_altered : (t new : Kept) (old_pair first : ℕ) → old_pair < length t.pairs → (drops_pair t old_pair first ≡ true → AltersPair t (old_pair - 1) new) → (bs : List ℕ) → ((b : ℕ) → Contains (two_of (pair_in t old_pair).at) b → Contains bs b)
     → (b : ℕ) → Contains (two_of (pair_in t (left_at t old_pair first)).at) b → IsKnown t new bs b
-front_altered t new old_pair first low alters bs within b = go (goes_whole t old_pair first) refl
+front_altered t new old_pair first low alters bs within b = go (drops_pair t old_pair first) refl
   where
-    go : (g : Bool) → goes_whole t old_pair first ≡ g → Contains (two_of (pair_in t (end_at old_pair g)).at) b → IsKnown t new bs b
+    go : (g : Bool) → drops_pair t old_pair first ≡ g → Contains (two_of (pair_in t (end_at old_pair g)).at) b → IsKnown t new bs b
     go true whole own = inr (inl (record { index = old_pair - 1; below = omega (arith, low); own = own; alters = alters whole }))
     go false stays own = inl (within b own)
 
@@ -112,7 +112,7 @@ each_known t new bs at rest own behind = (own at.0 (Contains-head at.0 (at.1 ∷
 pub free_known : (t new : Kept) (bs fresh : List ℕ) → AllByRecursion (IsFree t.map) fresh → Each (IsKnown t new bs) fresh
 free_known t new bs fresh free = each_weaker (IsFree t.map) (IsKnown t new bs) (λ b f. inr (inr f)) fresh free
 
-pub two_altered : (t new : Kept) (bs : List ℕ) (old_pair first new_pair : ℕ) → old_pair < length t.pairs → (goes_whole t old_pair first ≡ true → Alters t (old_pair - 1) new) → ((b : ℕ) → Contains (two_of (pair_in t old_pair).at) b → Contains bs b)
+pub two_altered : (t new : Kept) (bs : List ℕ) (old_pair first new_pair : ℕ) → old_pair < length t.pairs → (drops_pair t old_pair first ≡ true → AltersPair t (old_pair - 1) new) → ((b : ℕ) → Contains (two_of (pair_in t old_pair).at) b → Contains bs b)
     → ((b : ℕ) → Contains (two_of (pair_in t new_pair).at) b → IsKnown t new bs b) → (fresh : List ℕ) → AllByRecursion (IsFree t.map) fresh
     → Each (IsKnown t new bs) ((pair_in t new_pair).at.0 ∷ (pair_in t new_pair).at.1 ∷ (pair_in t (left_at t old_pair first)).at.0 ∷ (pair_in t (left_at t old_pair first)).at.1 ∷ fresh)
 two_altered t new bs old_pair first new_pair low alters within entered fresh free =

@@ -1,12 +1,12 @@
 -- An empty directory goes: the pairs in front of those that go don't stay with what they held.
 use Rattle.std.proofs.Common.{ℕ, ◌≡◌, ◌+◌, ◌-◌, ◌<◌, ◌≤◌, false, [], ◌∷◌, length, Some, sym, ap, ◌∙◌, arith}
 use Rattle.lfs_model.specs.Slots.{Gstate, no_gstate}
-use Rattle.lfs_model.specs.Thread.{Links, Pair, anchor, blocks_of}
+use Rattle.lfs_model.specs.Thread.{LinkByTails, Pair, anchor, blocks_of}
 use Rattle.lfs_model.proofs.Counts.{count, count_here, once_from_distinct}
 use Rattle.lfs_model.proofs.Global.{sync_delta}
-use Rattle.lfs_operations.specs.Changing.{Alters}
+use Rattle.lfs_operations.specs.Changing.{AltersPair}
 use Rattle.lfs_operations.specs.Dropping.{CanDropAt, HasDroppedBehind, with_tail_taken}
-use Rattle.lfs_operations.specs.Removing.{goes_whole}
+use Rattle.lfs_operations.specs.Removing.{drops_pair}
 use Rattle.lfs_operations.specs.Unlinking.{AltersInFront, CanRemoveDirectory, IsUnlinked, number_without}
 use Rattle.lfs_operations.proofs.AlteredTails.{names_next, tail_goes}
 use Rattle.lfs_operations.proofs.DroppedTails.{gone_is, two_at, without_is}
@@ -48,11 +48,11 @@ none_left t front state new low d once =
 -- ---- an empty directory goes
 
 module _ (t : Kept) (index id first gone : ℕ) (take : CanRemoveDirectory t index id first gone) where
-  links_are : Links (Some anchor) t.pairs
+  links_are : LinkByTails (Some anchor) t.pairs
   links_are = take.can.ready.accepted.thread.links
 
   -- its entry goes from a pair that stays
-  pub beside_alters : (goes : goes_whole t index first ≡ false) (m : Kept) (u : IsUnlinked t index id m) (new : Kept) → HasDroppedBehind m (gone - 1) no_gstate new → AltersInFront t index first gone new
+  pub beside_alters : (goes : drops_pair t index first ≡ false) (m : Kept) (u : IsUnlinked t index id m) (new : Kept) → HasDroppedBehind m (gone - 1) no_gstate new → AltersInFront t index first gone new
   beside_alters goes m u new d = record { front = front; entry = λ whole. absurd (let k = sym whole ∙ goes in cc) }
     where
       can : CanDropAt m gone no_gstate
@@ -61,7 +61,7 @@ module _ (t : Kept) (index id first gone : ℕ) (take : CanRemoveDirectory t ind
       same : (pair_in m (gone - 1 + 1)).at ≡ (pair_in t (gone - 1 + 1)).at
       same = at_there t m index id (gone - 1 + 1) u
 
-      front : Alters t (gone - 1) new
+      front : AltersPair t (gone - 1) new
       front =
           let above = can.above in
           let low = take.below in
@@ -85,14 +85,14 @@ module _ (t : Kept) (index id first gone : ℕ) (take : CanRemoveDirectory t ind
       low_now : number_without index gone - 1 + 1 < length m.pairs
       low_now = let a = then.above in let b = then.below in omega arith
 
-      entry : Alters t (index - 1) new
+      entry : AltersPair t (index - 1) new
       entry =
           let at = (pair_in t (index - 1 + 1)).at in
           let n = none_left t (index - 1) sync_delta m low h (once_from_distinct (blocks_of t.pairs) take.can.ready.accepted.thread.distinct at.0) in
           let f = fewer_blocks m (number_without index gone - 1) no_gstate new low_now d at.0 in
           tail_goes t new (index - 1) at (names_next t (index - 1) low links_are) d.thread.links (omega arith)
 
-      front : Alters t (gone - 1) new
+      front : AltersPair t (gone - 1) new
       front =
           let above = above_gone t index id first gone take s in
           let below = take.below in

@@ -10,13 +10,13 @@ use Rattle.lfs_model.specs.Tree.{Path}
 use Rattle.lfs_model.specs.View.{IsAccepted}
 use Rattle.lfs_model.proofs.BlockSets.{Contains-count, count-Contains}
 use Rattle.lfs_model.proofs.Counts.{count, count_append, count_here, once_from_distinct}
-use Rattle.lfs_model.proofs.Sites.{Among, among_right}
+use Rattle.lfs_model.proofs.Sites.{SomeIn, among_right}
 use Rattle.lfs_model.proofs.Splices.{files_of}
 use Rattle.lfs_thread.specs.Device.{four_of, two_of}
 use Rattle.lfs_thread.specs.Kept.{Kept}
 use Rattle.lfs_thread.specs.Steps.{Writes, no_pair, pair_in}
 use Rattle.lfs_operations.specs.Altering.{AltersBut}
-use Rattle.lfs_operations.specs.Changing.{Alters}
+use Rattle.lfs_operations.specs.Changing.{AltersPair}
 use Rattle.lfs_operations.specs.Dropping.{HasDroppedBehind}
 use Rattle.lfs_operations.proofs.Altered.{among_contains}
 use Rattle.lfs_operations.proofs.AlteredAcross.{IsKnown, each_known}
@@ -26,7 +26,7 @@ use Rattle.lfs_operations.proofs.OntoGone.{IsReplacing, end_gone, o_there, pairs
 
 -- ---- pairs of a thread
 
-among_at : (xs : List Pair) (i : ℕ) → i < length xs → Among (λ z. z ≡ get_or xs i no_pair) xs
+among_at : (xs : List Pair) (i : ℕ) → i < length xs → SomeIn (λ z. z ≡ get_or xs i no_pair) xs
 among_at [] i l = absurd (omega arith)
 among_at (x ∷ xs) zero l = inl refl
 among_at (x ∷ xs) (suc i) l = inr (among_at xs i (omega arith))
@@ -55,22 +55,22 @@ module _ (t m : Kept) (from to : Path) (d : ℕ × ℕ) (gone n : ℕ) (some : 0
   not_there = end_gone t m from to d (pair_in t gone) n k new g
 
   -- the pair in front of it
-  pub replaced_alters : Alters t (gone - 1) new
+  pub replaced_alters : AltersPair t (gone - 1) new
   replaced_alters = gone_alters t new gone some low k.ready.accepted accepted not_there
 
   -- the pair that the step writes, which is written then
   abbrev written : Pair
   written = y t m from to d (pair_in t gone) n k
 
-  written_there : Among (λ z. z ≡ written) new.pairs
-  written_there = subst (Among (λ z. z ≡ written)) (sym (pairs_end t m from to d (pair_in t gone) n k new g))
+  written_there : SomeIn (λ z. z ≡ written) new.pairs
+  written_there = subst (SomeIn (λ z. z ≡ written)) (sym (pairs_end t m from to d (pair_in t gone) n k new g))
       (among_right (λ z. z ≡ written) k.chain (k.front ++ written ∷ k.back) (among_right (λ z. z ≡ written) k.front (written ∷ k.back) (inl refl)))
 
   names_same : next_of written.content.tail ≡ next_of (pair_in t gone).content.tail
   names_same = over_next (pair_in m (n - 1)).content.tail (pair_in m (n - 1 + 1)).content.tail ∙ ap (λ (z : Pair). next_of z.content.tail) (o_there t m from to d (pair_in t gone) n k)
 
   -- a pair of before doesn't stay that has one of its blocks: else its tail named what that of the pair does that is gone
-  owner_alters : (b index : ℕ) → 1 ≤ count b (two_of (pair_in m (n - 1)).at) → index < length t.pairs → 1 ≤ count b (two_of (pair_in t index).at) → Alters t index new
+  owner_alters : (b index : ℕ) → 1 ≤ count b (two_of (pair_in m (n - 1)).at) → index < length t.pairs → 1 ≤ count b (two_of (pair_in t index).at) → AltersPair t index new
   owner_alters b index own below there has =
       let p = pair_in t index in
       let o = pair_in t gone in

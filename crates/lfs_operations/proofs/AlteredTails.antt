@@ -5,11 +5,11 @@ use Rattle.std.specs.List.{IsDistinct}
 use Rattle.std.proofs.lemmas.Option.{same_Some}
 use Rattle.lfs_model.specs.BlockSets.{AreUsed, IsFree}
 use Rattle.lfs_model.specs.Shown.{all_slots, used_blocks}
-use Rattle.lfs_model.specs.Thread.{Links, Pair, anchor, blocks_of, is_hard, next_of}
+use Rattle.lfs_model.specs.Thread.{LinkByTails, Pair, anchor, blocks_of, is_hard, next_of}
 use Rattle.lfs_model.proofs.Counts.{count, count_append, count_here}
-use Rattle.lfs_model.proofs.Sites.{Among}
+use Rattle.lfs_model.proofs.Sites.{SomeIn}
 use Rattle.lfs_model.proofs.Splices.{files_of}
-use Rattle.lfs_operations.specs.Changing.{Alters}
+use Rattle.lfs_operations.specs.Changing.{AltersPair}
 use Rattle.lfs_operations.specs.Ready.{IsReady}
 use Rattle.lfs_operations.proofs.Altered.{among_contains, links_behind, only_there}
 use Rattle.lfs_operations.proofs.DroppedTails.{front_is, gone_is, two_at}
@@ -21,14 +21,14 @@ use Rattle.lfs_thread.specs.Steps.{pair_in}
 -- ---- what a tail names
 
 -- it is a pair of the thread
-names_there : (at : Option (ℕ × ℕ)) (xs : List Pair) (p : Pair) (to : ℕ × ℕ) → Links at xs → Among (λ y. y ≡ p) xs → next_of p.content.tail ≡ Some to → 1 ≤ count to.0 (blocks_of xs)
+names_there : (at : Option (ℕ × ℕ)) (xs : List Pair) (p : Pair) (to : ℕ × ℕ) → LinkByTails at xs → SomeIn (λ y. y ≡ p) xs → next_of p.content.tail ≡ Some to → 1 ≤ count to.0 (blocks_of xs)
 names_there at [] p to links h e = absurd h
 names_there at (x ∷ xs) p to links (inl same) e = go xs links.1
   where
     named : next_of x.content.tail ≡ Some to
     named = ap (λ (z : Pair). next_of z.content.tail) same ∙ e
 
-    go : (ys : List Pair) → Links (next_of x.content.tail) ys → 1 ≤ count to.0 (blocks_of (x ∷ ys))
+    go : (ys : List Pair) → LinkByTails (next_of x.content.tail) ys → 1 ≤ count to.0 (blocks_of (x ∷ ys))
     go [] none = absurd (let k = sym none ∙ named in cc)
     go (y ∷ ys) l =
         let k : y.at ≡ to = same_Some y.at to (sym l.0 ∙ named) in
@@ -39,14 +39,14 @@ names_there at (x ∷ xs) p to links (inl same) e = go xs links.1
 names_there at (x ∷ xs) p to links (inr h) e = let k = names_there (next_of x.content.tail) xs p to links.1 h e in let a = blocks_append (x ∷ []) xs to.0 in omega arith
 
 -- so it is no free block
-names_used : (t : Kept) (p : Pair) (to : ℕ × ℕ) → Links (Some anchor) t.pairs → AreUsed t.map (used_blocks t.disk t.pairs) → Among (λ y. y ≡ p) t.pairs → next_of p.content.tail ≡ Some to → IsFree t.map to.0 → ⊥
+names_used : (t : Kept) (p : Pair) (to : ℕ × ℕ) → LinkByTails (Some anchor) t.pairs → AreUsed t.map (used_blocks t.disk t.pairs) → SomeIn (λ y. y ≡ p) t.pairs → next_of p.content.tail ≡ Some to → IsFree t.map to.0 → ⊥
 names_used t p to links used has e free =
     let k = names_there (Some anchor) t.pairs p to links has e in
     let n = not_used t.map (used_blocks t.disk t.pairs) used to.0 free in
     let c = count_append to.0 (blocks_of t.pairs) (files_of t.disk (all_slots t.pairs)) in
     absurd (omega arith)
 
-parted : (xs : List Pair) (q : Pair) → Among (λ y. y ≡ q) xs → (l : List Pair) × (r : List Pair) × (xs ≡ l ++ q ∷ r)
+parted : (xs : List Pair) (q : Pair) → SomeIn (λ y. y ≡ q) xs → (l : List Pair) × (r : List Pair) × (xs ≡ l ++ q ∷ r)
 parted [] q h = absurd h
 parted (x ∷ xs) q (inl e) = ([], xs, ap (λ z. z ∷ xs) e)
 parted (x ∷ xs) q (inr h) = let k = parted xs q h in (x ∷ k.0, k.1, ap (λ z. x ∷ z) k.2)
@@ -54,8 +54,8 @@ parted (x ∷ xs) q (inr h) = let k = parted xs q h in (x ∷ k.0, k.1, ap (λ z
 -- ---- pairs with another tail
 
 -- the last pair of a directory, where the one that stands there now names one that was free, or goes on
-pub other_tail : (t : Kept) (z p : Pair) (fresh : ℕ × ℕ) → IsReady t → IsFree t.map fresh.0 → Among (λ y. y ≡ p) t.pairs → is_hard p.content.tail ≡ false
-    → (now : List Pair) → IsDistinct nat_eq (blocks_of now) → Among (λ y. y ≡ z) now → z.at ≡ p.at → (next_of z.content.tail ≡ Some fresh) ⊎ (is_hard z.content.tail ≡ true) → Contains now p → ⊥
+pub other_tail : (t : Kept) (z p : Pair) (fresh : ℕ × ℕ) → IsReady t → IsFree t.map fresh.0 → SomeIn (λ y. y ≡ p) t.pairs → is_hard p.content.tail ≡ false
+    → (now : List Pair) → IsDistinct nat_eq (blocks_of now) → SomeIn (λ y. y ≡ z) now → z.at ≡ p.at → (next_of z.content.tail ≡ Some fresh) ⊎ (is_hard z.content.tail ≡ true) → Contains now p → ⊥
 other_tail t z p fresh ready free was soft now distinct there at tail has = go tail
   where
     k : (l : List Pair) × (r : List Pair) × (now ≡ l ++ z ∷ r)
@@ -69,12 +69,12 @@ other_tail t z p fresh ready free was soft now distinct there at tail has = go t
     go (inr hard) = absurd (let e = sym soft ∙ ap (λ (y : Pair). is_hard y.content.tail) (sym same) ∙ hard in cc)
 
 -- a pair, where the thread hasn't the one that it named any more
-pub tail_goes : (t new : Kept) (index : ℕ) (to : ℕ × ℕ) → next_of (pair_in t index).content.tail ≡ Some to → Links (Some anchor) new.pairs → count to.0 (blocks_of new.pairs) ≡ 0 → Alters t index new
+pub tail_goes : (t new : Kept) (index : ℕ) (to : ℕ × ℕ) → next_of (pair_in t index).content.tail ≡ Some to → LinkByTails (Some anchor) new.pairs → count to.0 (blocks_of new.pairs) ≡ 0 → AltersPair t index new
 tail_goes t new index to names links none has = let k = names_there (Some anchor) new.pairs (pair_in t index) to links (among_contains (pair_in t index) new.pairs has) names in absurd (omega arith)
 
-pub names_next : (t : Kept) (front : ℕ) → front + 1 < length t.pairs → Links (Some anchor) t.pairs → next_of (pair_in t front).content.tail ≡ Some (pair_in t (front + 1)).at
+pub names_next : (t : Kept) (front : ℕ) → front + 1 < length t.pairs → LinkByTails (Some anchor) t.pairs → next_of (pair_in t front).content.tail ≡ Some (pair_in t (front + 1)).at
 names_next t front low links =
     let two = two_at t.pairs front low in
-    let k = (links_behind (Some anchor) two.ahead (two.one ∷ two.other ∷ two.back) (subst (λ z. Links (Some anchor) z) two.is links)).1 in
+    let k = (links_behind (Some anchor) two.ahead (two.one ∷ two.other ∷ two.back) (subst (λ z. LinkByTails (Some anchor) z) two.is links)).1 in
     ap (λ (z : Pair). next_of z.content.tail) (front_is t front two.ahead two.one two.other two.back two.is two.number) ∙ k.1.0
     ∙ ap (λ (z : Pair). Some z.at) (sym (gone_is t front two.ahead two.one two.other two.back two.is two.number))

@@ -3,14 +3,14 @@ use Rattle.std.proofs.Common.{ℕ, ◌≡◌, ◌≤◌, ◌&&◌, Bool, true, f
 use Rattle.std.specs.Prelude.{Contains, nat_le}
 use Rattle.std.specs.Option.{option_and_then}
 use Rattle.std.proofs.lemmas.Bool.{ne_eqb, leb-true}
-use Rattle.lfs_model.specs.TreeEdits.{added}
+use Rattle.lfs_model.specs.TreeEdits.{tree_with_node}
 use Rattle.lfs_model.specs.Changes.{changed_by}
 use Rattle.lfs_model.specs.Content.{RawContent, raw_at, completed}
 use Rattle.lfs_model.specs.EntryTypes.{file_name_type, inline_struct_type}
 use Rattle.lfs_model.specs.Cut.{CanBeCut}
 use Rattle.lfs_model.specs.Disk.{Disk}
 use Rattle.lfs_model.specs.History.{Event}
-use Rattle.lfs_model.specs.InDirectory.{Belongs}
+use Rattle.lfs_model.specs.InDirectory.{BelongsInDirectory}
 use Rattle.lfs_model.specs.LoggedContent.{IsPart}
 use Rattle.lfs_model.specs.Names.{Name, is_name, is_component}
 use Rattle.lfs_model.specs.Operations as ops
@@ -23,7 +23,7 @@ use Rattle.lfs_model.specs.Thread.{Pair, blocks_of, next_of}
 use Rattle.lfs_model.specs.Session.{Session}
 use Rattle.lfs_model.specs.Tree.{Tree, FileNode}
 use Rattle.lfs_model.specs.View.{IsAccepted}
-use Rattle.lfs_model.specs.Shown.{Leads, entries_in, tree_in}
+use Rattle.lfs_model.specs.Shown.{PathLeadsTo, entries_in, tree_in}
 use Rattle.lfs_model.proofs.Changes.{Follows}
 use Rattle.lfs_model.proofs.Committed.{IsCompleted, no_move_from, recovered_from, commit_step}
 use Rattle.lfs_model.proofs.Completed.{complete_insert, complete_length, completed_parts, completed_from}
@@ -41,7 +41,7 @@ use Rattle.lfs_pair.specs.Commit.{made_at}
 use Rattle.lfs_thread.specs.Device.{StopsLeave}
 use Rattle.lfs_thread.specs.Kept.{Kept}
 use Rattle.lfs_thread.specs.Steps.{pair_in, made_in_thread}
-use Rattle.lfs_operations.specs.Changing.{Alters, CanPut, IsLeftByPut, IsPut}
+use Rattle.lfs_operations.specs.Changing.{AltersPair, CanPut, IsLeftByPut, IsPut}
 use Rattle.lfs_operations.specs.Creating.{CanCreate, IsCreated, file_changes, with_file}
 use Rattle.lfs_operations.proofs.Altered.{commit_alters}
 use Rattle.lfs_operations.proofs.Held.{CompletesTo, below, fits_there, here, raw_there}
@@ -71,7 +71,7 @@ no_bytes : IsPart 2 (inline_struct_type, [])
 no_bytes = record { of_class = refl; short = omega arith; in_table = refl }
 
 module _ (t : Kept) (index id : ℕ) (name : Name) (can : CanCreate t index id name) where
-  abbrev b : Belongs t.disk.order t.pairs can.first name index id
+  abbrev b : BelongsInDirectory t.disk.order t.pairs can.first name index id
   b = can.belongs
 
   abbrev p : Pair
@@ -162,8 +162,8 @@ module _ (t : Kept) (index id : ℕ) (name : Name) (can : CanCreate t index id n
     blocks = λ disk geometry files come n. refl;
   }
 
-  leads_there : Leads (thread_at w (p ∷ [])) can.path can.at
-  leads_there = subst (λ z. Leads z can.path can.at) there can.leads
+  leads_there : PathLeadsTo (thread_at w (p ∷ [])) can.path can.at
+  leads_there = subst (λ z. PathLeadsTo z can.path can.at) there can.leads
 
   same_there : same_pair (begin_of w (p ∷ [])) can.at ≡ true
   same_there = same t.disk t.pairs can.path can.at can.ready.accepted can.leads can.first index p (b.later ++ b.rest) b.place can.begins
@@ -175,7 +175,7 @@ module _ (t : Kept) (index id : ℕ) (name : Name) (can : CanCreate t index id n
   place_there = subst (λ z. IsPlace t.disk.order (entries_in z can.at) (place_at w b.left) name) there place
 
   follows : (disk : Disk) (q : Pair) (more : List Pair) → Commits t w p b.left [] (u ∷ []) b.right [] disk q more
-      → Follows t.disk (thread_at w (p ∷ [])) disk (thread_at w (q ∷ more)) (added (can.path ++ name ∷ []) (FileNode [] [])) (λ d. d)
+      → Follows t.disk (thread_at w (p ∷ [])) disk (thread_at w (q ∷ more)) (tree_with_node (can.path ++ name ∷ []) (FileNode [] [])) (λ d. d)
   follows disk q more commit = file_comes t.disk disk w p [] q more (blocks_of more) [] b.left b.right u (commit_step t.disk disk w p q more [] b.left [] (u ∷ []) b.right commit.commit) can.path can.at
       leads_there same_there place_there [] refl (λ e. (recovered_from t.disk (thread_at w (p ∷ [])) commit.commit.accepted commit.commit.settled).reached)
 
@@ -188,14 +188,14 @@ module _ (t : Kept) (index id : ℕ) (name : Name) (can : CanCreate t index id n
           create_completed t.disk new.disk w p s.q s.more b.left b.right name s.commit.commit can.path can.at leads_there same_there place_there z given flags (tree ∙ ap (tree_in t.disk) there) is_path
           (ap₂ (λ (f : Tree) x. f x) tree is_path ∙ (nothing_there t.disk t.pairs can.path can.at (place_at w b.left) name can.leads place).1) in
           record {
-            now = ready_again t new (with_file t can.path name) (becomes t index (file_changes id name) w p b.left [] (u ∷ []) b.right [] [] splicing (added (can.path ++ name ∷ []) (FileNode [] []))
+            now = ready_again t new (with_file t can.path name) (becomes t index (file_changes id name) w p b.left [] (u ∷ []) b.right [] [] splicing (tree_with_node (can.path ++ name ∷ []) (FileNode [] []))
                 (λ disk q more commit. ((λ d. d), follows disk q more commit)) (λ e. some_filled b.left b.right u) new s);
             completed = λ z given flags tree is_path. subst (λ x. IsCompleted t.disk x z (ops.Open given flags) new.disk new.pairs) (sym there)
                 (subst (λ x. IsCompleted t.disk (thread_at w (p ∷ [])) z (ops.Open given flags) new.disk x) (sym s.pairs) (done z given flags tree is_path));
           }
 
   -- the pair has one slot more, or is cut
-  pub alters : (new : Kept) → IsPut t index (file_changes id name) new → Alters t index new
+  pub alters : (new : Kept) → IsPut t index (file_changes id name) new → AltersPair t index new
   alters new is has = go (put_step t index (file_changes id name) w p b.left [] (u ∷ []) b.right [] [] splicing new is)
     where
       go : HasStep t w p b.left [] (u ∷ []) b.right [] [] new → ⊥
@@ -204,5 +204,5 @@ module _ (t : Kept) (index id : ℕ) (name : Name) (can : CanCreate t index id n
           (subst (λ z. Contains z p) s.pairs (subst (Contains new.pairs) (pair_is t index (file_changes id name) w p b.left [] (u ∷ []) b.right [] [] splicing) has))
 
   pub create_survives : (new : List Event) → StopsLeave t.history new (IsLeftByPut t index (file_changes id name)) → Survives t.disk t.history new (tree_in t.disk t.pairs) (with_file t can.path name)
-  create_survives new stops = survives t index (file_changes id name) w p b.left [] (u ∷ []) b.right [] [] splicing (added (can.path ++ name ∷ []) (FileNode [] []))
+  create_survives new stops = survives t index (file_changes id name) w p b.left [] (u ∷ []) b.right [] [] splicing (tree_with_node (can.path ++ name ∷ []) (FileNode [] []))
       (λ disk q more commit. ((λ d. d), follows disk q more commit)) (λ e. some_filled b.left b.right u) new stops

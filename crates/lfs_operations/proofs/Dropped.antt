@@ -11,7 +11,7 @@ use Rattle.lfs_model.specs.Content.{content_at, holder_at}
 use Rattle.lfs_model.specs.Disk.{Disk}
 use Rattle.lfs_model.specs.Slots.{Content, FitsPair, Slot}
 use Rattle.lfs_model.specs.Thread.{Pair, blocks_of, gstate_of}
-use Rattle.lfs_model.specs.View.{BeginsWith, IsAccepted, superblock_entry}
+use Rattle.lfs_model.specs.View.{BeginsWithEntry, IsAccepted, superblock_entry}
 use Rattle.lfs_model.specs.Profile.{FitsSlot, IsWritable}
 use Rattle.lfs_model.specs.Shown.{all_slots, file_blocks, used_blocks}
 use Rattle.lfs_model.proofs.BlockSets.{Contains-count, count-Contains, slice_get-set_other, slice_get-set_same}
@@ -69,8 +69,8 @@ module _ (t : Kept) (n : ℕ) (ahead : List Pair) (p o : Pair) (back : List Pair
     geometry = record { block_size = w.shape.block_size; page = w.shape.page; order = w.shape.order; count = w.shape.count };
     same = λ b none. (subst (λ at. OutsideKeeps at t.disk.blocks disk.blocks) at_is w.others).others b (all_apart (p.at.0 ∷ p.at.1 ∷ []) b none);
     contents = (ap (content_at disk) (sym at_is) ∙ w.holds, tt);
-    first = λ h b. subst (λ at. BeginsWith (holder_at disk at) superblock_entry) at_is
-        (w.first (subst (λ at. BeginsWith (holder_at t.disk at) superblock_entry) (sym at_is) b) (subst SlotsHaveFirst (sym same) (h.kind, h.name)));
+    first = λ h b. subst (λ at. BeginsWithEntry (holder_at disk at) superblock_entry) at_is
+        (w.first (subst (λ at. BeginsWithEntry (holder_at t.disk at) superblock_entry) (sym at_is) b) (subst SlotsHaveFirst (sym same) (h.kind, h.name)));
   }
 
   pub device_kept : (disk : Disk) (c : Content) → c.slots ≡ p.content.slots → IsWrittenAs t n c disk → IsDevice t.disk disk (ahead ++ p ∷ o ∷ back) (ahead ++ record { at = p.at; content = c } ∷ o ∷ back)

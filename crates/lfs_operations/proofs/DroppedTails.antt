@@ -19,7 +19,7 @@ use Rattle.lfs_model.proofs.Effects.{Does, does_first, does_nothing, ends_tail, 
 use Rattle.lfs_model.proofs.Global.{gstate_assoc, gstate_comm, gstate_cons, gstate_moved, gstate_right, gstate_self}
 use Rattle.lfs_model.proofs.Logged.{logged}
 use Rattle.lfs_thread.specs.Kept.{Kept}
-use Rattle.lfs_thread.specs.Steps.{CanDrop, IsDropped, IsLeftByChange, IsRefused, IsWrittenAs, made_in_thread, no_pair, pair_in, put_tail, with_pair}
+use Rattle.lfs_thread.specs.Steps.{CanDrop, IsDropped, IsLeftByChange, IsCommitRefused, IsWrittenAs, made_in_thread, no_pair, pair_in, put_tail, with_pair}
 use Rattle.lfs_operations.specs.Dropping.{HasDroppedBehind, IsLeftByDrop, delta_taken, tail_taken, taken_over, taking_changes, with_tail_taken}
 use Rattle.lfs_operations.proofs.Held.{completes_to}
 
@@ -219,7 +219,7 @@ module _ (t : Kept) (front : ℕ) (state : Gstate) (below : front + 1 < length t
   parted = two_at t.pairs front below
 
   -- the slots stay, so it fits
-  pub drop_not_refused : FitsPair t.disk.block_size t.disk.page (pair_in t front).content → (new : Kept) → IsRefused t front (taking_changes t front state) new → ⊥
+  pub drop_not_refused : FitsPair t.disk.block_size t.disk.page (pair_in t front).content → (new : Kept) → IsCommitRefused t front (taking_changes t front state) new → ⊥
   drop_not_refused fits new is = is.too_large (subst (FitsPair t.disk.block_size t.disk.page) (same_Some (with_tail_taken t front state) is.content (sym made ∙ is.made)) (record { size = fits.size; count = fits.count }))
 
   pub has_dropped : (new : Kept) → IsDropped t front (taking_changes t front state) new → HasDroppedBehind t front state new

@@ -18,7 +18,7 @@ use Rattle.lfs_model.specs.Thread.{Pair, blocks_of}
 use Rattle.lfs_model.specs.Tree.{Tree}
 use Rattle.lfs_model.specs.View.{IsEntry, IsListIfCtz}
 use Rattle.lfs_model.specs.Profile.{FitsEntry, FitsSlot}
-use Rattle.lfs_model.specs.Shown.{Leads, all_slots, tree_in}
+use Rattle.lfs_model.specs.Shown.{PathLeadsTo, all_slots, tree_in}
 use Rattle.lfs_model.proofs.Changes.{Follows}
 use Rattle.lfs_model.proofs.Committed.{IsCompleted, recovered_from, commit_step}
 use Rattle.lfs_model.proofs.Counts.{Each, each_right, count}
@@ -30,7 +30,7 @@ use Rattle.lfs_model.proofs.OneCommit.{remove_attr_completed, set_attr_completed
 use Rattle.lfs_model.proofs.Sites.{Site, thread_at, begin_of}
 use Rattle.lfs_thread.specs.Device.{StopsLeave}
 use Rattle.lfs_thread.specs.Kept.{Kept}
-use Rattle.lfs_thread.specs.Steps.{CanChange, IsChanged, IsLeftByChange, IsRefused}
+use Rattle.lfs_thread.specs.Steps.{CanChange, IsChanged, IsLeftByChange, IsCommitRefused}
 use Rattle.lfs_operations.specs.Changing.{CanPut, IsLeftByPut, IsPut}
 use Rattle.lfs_operations.specs.Editing.{CanEdit, CanSetAttribute, HasRemovedAttribute, HasSetAttribute, slot_at, with_attributes_at}
 use Rattle.lfs_operations.specs.Ready.{HasBecome}
@@ -74,7 +74,7 @@ module _ (t : Kept) (index id : ℕ) (can : CanEdit t index id) (f : Attributes 
   pub can_put_attributes : CanPut t index (change ∷ [])
   can_put_attributes = can_put t index id can g v change does turns fits
 
-  pub edit_not_refused : slot_size v ≤ slot_size u → (new : Kept) → IsRefused t index (change ∷ []) new → ⊥
+  pub edit_not_refused : slot_size v ≤ slot_size u → (new : Kept) → IsCommitRefused t index (change ∷ []) new → ⊥
   edit_not_refused less = replacing.not_refused t index id can g v change does turns fits less
 
   there_now : t.pairs ≡ thread_at w (p ∷ [])
@@ -100,7 +100,7 @@ module _ (t : Kept) (index id : ℕ) (can : CanEdit t index id) (f : Attributes 
   other_slot : is_superblock u ≡ false
   other_slot = can.stands.stands.entry
 
-  led : Leads (thread_at w (p ∷ [])) can.path can.at
+  led : PathLeadsTo (thread_at w (p ∷ [])) can.path can.at
   led = leads_there t index id can g v change does turns fits
 
   same_begin : same_pair (begin_of w (p ∷ [])) can.at ≡ true
@@ -186,7 +186,7 @@ module _ (t : Kept) (index id kind : ℕ) (low : kind < 2 ^ 8) (can : CanEdit t 
   can_remove = (can_put_attributes t index id can (without_attribute kind) (RemoveAttribute id kind) remove_does still_fits).can
 
   -- so what the pair holds then fits, as what it held did
-  pub not_refused : (new : Kept) → IsRefused t index (RemoveAttribute id kind ∷ []) new → ⊥
+  pub not_refused : (new : Kept) → IsCommitRefused t index (RemoveAttribute id kind ∷ []) new → ⊥
   not_refused new is = edit_not_refused t index id can (without_attribute kind) (RemoveAttribute id kind) remove_does still_fits
       (let n = fewer_attributes kind (slot_at can).attributes in omega arith) new is
 

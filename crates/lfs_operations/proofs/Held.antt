@@ -7,7 +7,7 @@ use Rattle.lfs_model.proofs.Logged.{logged}
 use Rattle.std.proofs.lemmas.List.Elements.{recursion_from_All}
 use Rattle.lfs_model.specs.Content.{RawContent, raw_at, content_after_all, content_at, completed, holder_at, no_content}
 use Rattle.lfs_model.specs.Disk.{Disk}
-use Rattle.lfs_model.specs.InDirectory.{IsBehind}
+use Rattle.lfs_model.specs.InDirectory.{IsPairOfDirectory}
 use Rattle.lfs_model.specs.Slots.{Content, FitsPair, Slot, is_superblock}
 use Rattle.lfs_model.specs.View.{MayHaveSuperblock, IsAccepted, IsEntry}
 use Rattle.std.specs.Prelude.{All}
@@ -53,7 +53,7 @@ other_entries disk ps ok = subst (Each (λ p. Each IsEntryIfOther p.content.slot
 
 -- ---- the pair of a place
 
-module _ (t : Kept) (ready : IsReady t) (first index : ℕ) (p : Pair) (rest : List Pair) (place : IsBehind t.pairs first index p rest) where
+module _ (t : Kept) (ready : IsReady t) (first index : ℕ) (p : Pair) (rest : List Pair) (place : IsPairOfDirectory t.pairs first index p rest) where
   parts : t.pairs ≡ (place.front ++ place.left) ++ p ∷ rest
   parts = place.parts ∙ sym (append_assoc place.front place.left (p ∷ rest))
 

@@ -25,7 +25,7 @@ use Rattle.lfs_pair.specs.Commit.{made_at}
 use Rattle.lfs_thread.specs.Kept.{Kept}
 use Rattle.lfs_thread.specs.Steps.{pair_in, made_in_thread}
 use Rattle.lfs_operations.specs.Changing.{CanPut}
-use Rattle.lfs_operations.specs.Making.{naming, threading}
+use Rattle.lfs_operations.specs.Making.{name_directory_changes, thread_in_changes}
 use Rattle.lfs_operations.specs.Ready.{IsLoggedAt}
 use Rattle.lfs_operations.proofs.Held.{CompletesTo, completes_to, logged_at}
 
@@ -104,15 +104,15 @@ module _ (t : Kept) (index : ℕ) (p : Pair) (here : pair_in t index ≡ p) (hol
   abbrev raw_threaded : ℕ × ℕ → RawContent
   raw_threaded fresh = record c.raw { tail = Some (record { hard = false; to = fresh }); move = delta }
 
-  threads : (fresh : ℕ × ℕ) → IsAddress fresh → fresh.0 ≢ fresh.1 → changed_by c.raw (threading t index fresh) ≡ Some (raw_threaded fresh)
+  threads : (fresh : ℕ × ℕ) → IsAddress fresh → fresh.0 ≢ fresh.1 → changed_by c.raw (thread_in_changes t index fresh) ≡ Some (raw_threaded fresh)
   threads fresh address apart =
       let named : RawContent = record c.raw { tail = tail_with false fresh } in
       does_first (PutTail false (Some fresh)) (PutMove delta ∷ []) c.raw named (raw_threaded fresh) (puts_tail c.raw false fresh address)
       (does_first (PutMove delta) [] named (record named { move = delta }) (raw_threaded fresh) (puts_move named delta delta_state) (ap (λ (tail : Option Tail). Some (record c.raw { tail = tail; move = delta })) (tail_is fresh apart)))
 
-  pub threaded_made : (fresh : ℕ × ℕ) → IsAddress fresh → fresh.0 ≢ fresh.1 → made_in_thread t index (threading t index fresh) ≡ Some (threaded_now fresh)
+  pub threaded_made : (fresh : ℕ × ℕ) → IsAddress fresh → fresh.0 ≢ fresh.1 → made_in_thread t index (thread_in_changes t index fresh) ≡ Some (threaded_now fresh)
   threaded_made fresh address apart =
-      ap (λ o. option_and_then completed (option_and_then (λ (r : RawContent). changed_by r (threading t index fresh)) o)) c.is
+      ap (λ o. option_and_then completed (option_and_then (λ (r : RawContent). changed_by r (thread_in_changes t index fresh)) o)) c.is
       ∙ ap (λ o. option_and_then completed o) (threads fresh address apart)
       ∙ completed_from (raw_threaded fresh) p.content.slots parts.slots
       ∙ ap (λ m. Some (record { slots = p.content.slots; tail = Some (record { hard = false; to = fresh }); move = m })) delta_is
@@ -126,7 +126,7 @@ module _ (t : Kept) (index : ℕ) (p : Pair) (here : pair_in t index ≡ p) (hol
     abbrev raw_named : RawContent
     raw_named = record c.raw { slots = insert c.raw.slots id (slot_with (directory_name_type, name) (directory_struct_type, pair_bytes to)); move = delta }
 
-    names : changed_by c.raw (naming t index id name to) ≡ Some raw_named
+    names : changed_by c.raw (name_directory_changes t index id name to) ≡ Some raw_named
     names =
         let l = complete_length c.raw.slots p.content.slots parts.slots in
         let few = fits.count in
@@ -134,8 +134,8 @@ module _ (t : Kept) (index : ℕ) (p : Pair) (here : pair_in t index ≡ p) (hol
         creates_with_struct c.raw id directory_name_type name directory_struct_type (pair_bytes to) (PutMove delta ∷ []) raw_named (omega arith) (omega arith) (directory_name name short) (branch_part to)
         (does_first (PutMove delta) [] created raw_named raw_named (puts_move created delta delta_state) refl)
 
-    raw_made : made_at t.disk (pair_in t index).at (naming t index id name to) ≡ Some raw_named
-    raw_made = ap (λ o. option_and_then (λ (r : RawContent). changed_by r (naming t index id name to)) o) c.is ∙ names
+    raw_made : made_at t.disk (pair_in t index).at (name_directory_changes t index id name to) ≡ Some raw_named
+    raw_made = ap (λ o. option_and_then (λ (r : RawContent). changed_by r (name_directory_changes t index id name to)) o) c.is ∙ names
 
     slot_is : complete (slot_with (directory_name_type, name) (directory_struct_type, pair_bytes to)) ≡ Some (new_directory name to)
     slot_is = ap (λ (a : ℕ × ℕ). Some (new_directory name a)) (pair_at-pair_bytes to address)
@@ -146,10 +146,10 @@ module _ (t : Kept) (index : ℕ) (p : Pair) (here : pair_in t index ≡ p) (hol
         (complete_insert c.raw.slots p.content.slots id (slot_with (directory_name_type, name) (directory_struct_type, pair_bytes to)) (new_directory name to) parts.slots slot_is)
         ∙ ap₂ (λ t m. Some (record { slots = insert p.content.slots id (new_directory name to); tail = t; move = m })) (sym parts.tail) delta_is
 
-    pub named_made : made_in_thread t index (naming t index id name to) ≡ Some named_now
+    pub named_made : made_in_thread t index (name_directory_changes t index id name to) ≡ Some named_now
     named_made = ap (λ o. option_and_then completed o) raw_made ∙ now_complete
 
-    pub can_name : index < length t.pairs → slot_size (new_directory name to) ≤ entry_limit t.disk.block_size t.disk.page → CanPut t index (naming t index id name to)
+    pub can_name : index < length t.pairs → slot_size (new_directory name to) ≤ entry_limit t.disk.block_size t.disk.page → CanPut t index (name_directory_changes t index id name to)
     can_name below small = record {
       can = record {
         below = below;
@@ -160,5 +160,5 @@ module _ (t : Kept) (index : ℕ) (p : Pair) (here : pair_in t index ≡ p) (hol
       raw = raw_named;
       made = raw_made;
       cut = insert_cut t.disk.block_size t.disk.page raw_named named_now p.content id (new_directory name to)
-          (logged_changed c.raw (naming t index id name to) raw_named (logged c.raw c.is) names) now_complete refl small fits;
+          (logged_changed c.raw (name_directory_changes t index id name to) raw_named (logged c.raw c.is) names) now_complete refl small fits;
     }

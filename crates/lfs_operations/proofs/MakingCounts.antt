@@ -16,8 +16,8 @@ use Rattle.lfs_model.proofs.Files.{HasSameFile}
 use Rattle.lfs_model.proofs.Global.{HasNoMove}
 use Rattle.lfs_model.proofs.Sites.{Site, thread_at}
 use Rattle.lfs_model.proofs.Splices.{IsDevice, files_of, slots_in, unmoved_in, count_files}
-use Rattle.lfs_thread.specs.Steps.{settled}
-use Rattle.lfs_operations.specs.Changing.{AreTwoFree, HasTwoFree, flying}
+use Rattle.lfs_thread.specs.Steps.{map_with_used_pair}
+use Rattle.lfs_operations.specs.Changing.{AreTwoFree, HasTwoFree, map_with_two_in_flight}
 use Rattle.lfs_operations.specs.Making.{HasRoomFor}
 use Rattle.lfs_operations.proofs.Owning.{elsewhere}
 use Rattle.lfs_operations.proofs.Placing.{blocks_append}
@@ -114,7 +114,7 @@ module _ (disk new : Disk) (w : Site) (p q : Pair) (more : List Pair) (l news r 
 -- ---- room
 
 -- two fewer are free
-pub less_room : (n : ℕ) (sets : BlockSets) (fresh : ℕ × ℕ) → AreTwoFree sets fresh → HasRoomFor (2 + n) sets → HasRoomFor n (settled (flying sets fresh) fresh)
+pub less_room : (n : ℕ) (sets : BlockSets) (fresh : ℕ × ℕ) → AreTwoFree sets fresh → HasRoomFor (2 + n) sets → HasRoomFor n (map_with_used_pair (map_with_two_in_flight sets fresh) fresh)
 less_room n sets fresh two room =
     let one : BlockSets = set sets fresh.0 InFlight in
     let both : BlockSets = set one fresh.1 InFlight in
@@ -155,7 +155,7 @@ no_room sets none room = not_none (λ a free. go a free)
         absurd (omega arith)
 
 -- what is free then was so before
-pub freed : (sets : BlockSets) (fresh : ℕ × ℕ) → AreTwoFree sets fresh → (b : ℕ) → IsFree (settled (flying sets fresh) fresh) b → IsFree sets b
+pub freed : (sets : BlockSets) (fresh : ℕ × ℕ) → AreTwoFree sets fresh → (b : ℕ) → IsFree (map_with_used_pair (map_with_two_in_flight sets fresh) fresh) b → IsFree sets b
 freed sets fresh two b free = go (nat_eq b fresh.0) (nat_eq b fresh.1) refl refl
   where
     go : (x y : Bool) → nat_eq b fresh.0 ≡ x → nat_eq b fresh.1 ≡ y → IsFree sets b

@@ -15,7 +15,7 @@ use Rattle.lfs_model.specs.PowerLoss.{with_blocks}
 use Rattle.lfs_model.specs.Slots.{Slot, Content, FitsPair, no_gstate, gstate_xor}
 use Rattle.lfs_model.specs.SlotEdits.{with_slots, new_directory}
 use Rattle.lfs_model.specs.Thread.{Pair, blocks_of, gstate_of, starts_with_superblock}
-use Rattle.lfs_model.specs.View.{BeginsWith, superblock_entry, IsAccepted, IsEntry}
+use Rattle.lfs_model.specs.View.{BeginsWithEntry, superblock_entry, IsAccepted, IsEntry}
 use Rattle.lfs_model.specs.Profile.{IsWritable, FitsSlot}
 use Rattle.lfs_model.specs.Shown.{used_blocks}
 use Rattle.lfs_model.proofs.Became.{Became, became_front, became_shape, fits_same}
@@ -29,9 +29,9 @@ use Rattle.lfs_model.proofs.Splices.{IsDevice, slots_in}
 use Rattle.lfs_model.proofs.StepsTaken as taken
 use Rattle.lfs_model.proofs.Unchanged.{HasFirst}
 use Rattle.lfs_thread.specs.Kept.{Kept}
-use Rattle.lfs_thread.specs.Steps.{pair_in, made_in_thread, front_pair, back_pair, AreHalves, HasShape, IsAsBefore, IsChanged, IsLeftByChange, IsWrittenAs, SlotsHaveFirst}
-use Rattle.lfs_operations.specs.Changing.{AreTwoFree, IsCutIn, IsLeftByPut, IsPut, IsTooLarge}
-use Rattle.lfs_operations.specs.Ready.{NoneComes, StayTaken}
+use Rattle.lfs_thread.specs.Steps.{pair_in, made_in_thread, front_pair, back_pair, AreHalves, HasShape, HasOldContent, IsChanged, IsLeftByChange, IsWrittenAs, SlotsHaveFirst}
+use Rattle.lfs_operations.specs.Changing.{AreTwoFree, IsPairCutInto, IsLeftByPut, IsPut, IsTooLarge}
+use Rattle.lfs_operations.specs.Ready.{NoNewInFlight, StayTaken}
 use Rattle.lfs_operations.proofs.MakingCounts.{used_count_now}
 use Rattle.lfs_operations.proofs.MakingPlaces.{at_is, fresh_distinct, fresh_range, one_now, pair_is, placed_one, placed_still, same_four, shape_same, two_now}
 use Rattle.lfs_operations.proofs.Owning.{length_now, none_comes_now, stay_taken, used_more, used_same}
@@ -79,7 +79,7 @@ pub record HasEntered (t : Kept) (w : Site) (p : Pair) (l : List Slot) (name : N
   pub used : AreUsed new.map (used_blocks new.disk new.pairs)
   pub size : length new.map ≡ block_count new.disk
   pub stays : StayTaken t.map new.map
-  pub none_comes : NoneComes t.map new.map
+  pub none_comes : NoNewInFlight t.map new.map
 
 module _ (t : Kept) (index : ℕ) (changes : List Change) (w : Site) (p : Pair) (l : List Slot) (name : Name) (to : ℕ × ℕ) (r : List Slot) (k : IsEntering t index changes w p l name to r) where
   abbrev ps : List Pair
@@ -128,8 +128,8 @@ module _ (t : Kept) (index : ℕ) (changes : List Change) (w : Site) (p : Pair) 
     geometry = shape_same t index w p k.there k.place is.shape;
     same = same_four t index w p k.there k.place disk fresh is.others;
     contents = (ap (content_at disk) (sym (at_is t index w p k.there k.place)) ∙ is.front, (is.back, tt));
-    first = λ h b. subst (λ at. BeginsWith (holder_at disk at) superblock_entry) (at_is t index w p k.there k.place)
-        (is.parts.first (subst (λ at. BeginsWith (holder_at t.disk at) superblock_entry) (sym (at_is t index w p k.there k.place)) b) (front_has cut some h));
+    first = λ h b. subst (λ at. BeginsWithEntry (holder_at disk at) superblock_entry) (at_is t index w p k.there k.place)
+        (is.parts.first (subst (λ at. BeginsWithEntry (holder_at t.disk at) superblock_entry) (sym (at_is t index w p k.there k.place)) b) (front_has cut some h));
   }
 
   -- ---- the commit
@@ -226,7 +226,7 @@ module _ (t : Kept) (index : ℕ) (changes : List Change) (w : Site) (p : Pair) 
         none_comes = λ b flies. subst (λ m. IsInFlight m b) is.map flies;
       }
 
-  cut_in : (new : Kept) (fresh : ℕ × ℕ) → IsTooLarge t index changes → IsCutIn t index fresh changes new → HasEntered t w p l name to r new
+  cut_in : (new : Kept) (fresh : ℕ × ℕ) → IsTooLarge t index changes → IsPairCutInto t index fresh changes new → HasEntered t w p l name to r new
   cut_in new fresh large is =
       let same = made_same is.content is.made in
       let there : new.pairs ≡ thread_at w (front_pair t index is.content is.cut fresh ∷ back_pair is.content is.cut fresh ∷ [])
@@ -288,7 +288,7 @@ module _ (t : Kept) (index : ℕ) (changes : List Change) (w : Site) (p : Pair) 
   left_entered left (inl is) = left_one left is
   left_entered left (inr (large, (fresh, (two, is)))) = go is.content
     where
-      go : IsAsBefore t index (with_blocks left t.disk) ⊎ AreHalves t index changes fresh (with_blocks left t.disk) → Stays (with_blocks left t.disk) ⊎ HasEntry t w p l name to r (with_blocks left t.disk)
+      go : HasOldContent t index (with_blocks left t.disk) ⊎ AreHalves t index changes fresh (with_blocks left t.disk) → Stays (with_blocks left t.disk) ⊎ HasEntry t w p l name to r (with_blocks left t.disk)
       go (inl b) = inl (device t.disk (with_blocks left t.disk) w p p [] (fresh.0 ∷ fresh.1 ∷ []) accepted_there (fresh_distinct t index w p k.there k.place k.used k.accepted.owned_once fresh two)
           (placed_still t index w p k.there k.place (with_blocks left t.disk) fresh (shape_of left is.others.count) is.others b))
       go (inr h) =

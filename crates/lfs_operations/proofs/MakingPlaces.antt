@@ -7,7 +7,7 @@ use Rattle.lfs_model.specs.Content.{content_at, holder_at}
 use Rattle.lfs_model.specs.Disk.{Disk, block_at, block_count, SameGeometry}
 use Rattle.lfs_model.specs.Slots.{Content}
 use Rattle.lfs_model.specs.Thread.{Pair, blocks_of}
-use Rattle.lfs_model.specs.View.{BeginsWith, superblock_entry}
+use Rattle.lfs_model.specs.View.{BeginsWithEntry, superblock_entry}
 use Rattle.lfs_model.specs.Shown.{used_blocks}
 use Rattle.lfs_model.proofs.Counts.{Each, count, once_from_distinct, distinct_from_once}
 use Rattle.lfs_model.proofs.Sites.{Site, thread_at}
@@ -15,7 +15,7 @@ use Rattle.lfs_model.proofs.Unchanged.{HasFirst}
 use Rattle.lfs_pair.specs.Commit.{OutsideKeeps}
 use Rattle.lfs_pair.specs.Split.{OutsideBothKeeps}
 use Rattle.lfs_thread.specs.Kept.{Kept}
-use Rattle.lfs_thread.specs.Steps.{pair_in, no_pair, with_pair, with_two, HasShape, IsAsBefore, IsWrittenAs, SlotsHaveFirst}
+use Rattle.lfs_thread.specs.Steps.{pair_in, no_pair, with_pair, with_two, HasShape, HasOldContent, IsWrittenAs, SlotsHaveFirst}
 use Rattle.lfs_operations.specs.Changing.{AreTwoFree}
 use Rattle.lfs_operations.proofs.Placing.{IsPlaced, all_apart}
 use Rattle.lfs_operations.proofs.Splicing.{not_used}
@@ -86,15 +86,15 @@ module _ (t : Kept) (index : ℕ) (w : Site) (p : Pair) (there : t.pairs ≡ thr
     geometry = shape_same is.shape;
     same = same_two disk is.others;
     contents = (ap (content_at disk) (sym at_is) ∙ is.holds, tt);
-    first = λ h b. subst (λ at. BeginsWith (holder_at disk at) superblock_entry) at_is (is.first (subst (λ at. BeginsWith (holder_at t.disk at) superblock_entry) (sym at_is) b) (first h));
+    first = λ h b. subst (λ at. BeginsWithEntry (holder_at disk at) superblock_entry) at_is (is.first (subst (λ at. BeginsWithEntry (holder_at t.disk at) superblock_entry) (sym at_is) b) (first h));
   }
 
-  pub placed_still : (disk : Disk) (fresh : ℕ × ℕ) → HasShape t.disk disk → OutsideBothKeeps (pair_in t index).at fresh t.disk.blocks disk.blocks → IsAsBefore t index disk → IsPlaced t.disk disk p p [] (fresh.0 ∷ fresh.1 ∷ [])
+  pub placed_still : (disk : Disk) (fresh : ℕ × ℕ) → HasShape t.disk disk → OutsideBothKeeps (pair_in t index).at fresh t.disk.blocks disk.blocks → HasOldContent t index disk → IsPlaced t.disk disk p p [] (fresh.0 ∷ fresh.1 ∷ [])
   placed_still disk fresh shape others is = record {
     geometry = shape_same shape;
     same = same_four disk fresh others;
     contents = (subst (λ (z : Pair). content_at disk z.at ≡ Some z.content) pair_is is.holds, tt);
-    first = λ h b. subst (λ at. BeginsWith (holder_at disk at) superblock_entry) at_is (is.first (subst (λ at. BeginsWith (holder_at t.disk at) superblock_entry) (sym at_is) b));
+    first = λ h b. subst (λ at. BeginsWithEntry (holder_at disk at) superblock_entry) at_is (is.first (subst (λ at. BeginsWithEntry (holder_at t.disk at) superblock_entry) (sym at_is) b));
   }
 
   -- ---- free blocks

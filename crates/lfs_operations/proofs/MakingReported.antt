@@ -8,7 +8,7 @@ use Rattle.lfs_model.specs.History.{faults}
 use Rattle.lfs_thread.specs.Kept.{Kept, State}
 use Rattle.lfs_thread.specs.Steps.{HasReportedBeside}
 use Rattle.lfs_operations.specs.Changing.{Reports, has_failed}
-use Rattle.lfs_operations.specs.Making.{ReportsOfSteps}
+use Rattle.lfs_operations.specs.Making.{ReportsOfMaking}
 use Rattle.lfs_operations.proofs.Putting.{with_map}
 
 same_err : {A : Type 0} (a b : Error) (r : Result A Error) → r ≡ Err a → r ≡ Err b → a ≡ b
@@ -26,11 +26,11 @@ reported_again bs old new e result given is same reported = record {
 
 -- the first step failed
 pub reports_first : {X : Type 0} (old new : State) (sets : BlockSets) (bs : List ℕ) (result : Result X Error) → new.failed ≡ is_err result → HasReportedBeside bs (with_map old.kept sets) new.kept result
-    → ReportsOfSteps old new result
+    → ReportsOfMaking old new result
 reports_first old new sets bs result failed reported = record { failed = failed; errors = reported.errors; fault = reported.fault; no_fault = reported.no_fault }
 
 -- the second one tells, and never that there is no space
-pub reports_second : {X : Type 0} (old mid new : State) (result : Result X Error) → faults mid.kept.history ≡ faults old.kept.history → (result ≡ Err NoSpace → ⊥) → Reports mid new result → ReportsOfSteps old new result
+pub reports_second : {X : Type 0} (old mid new : State) (result : Result X Error) → faults mid.kept.history ≡ faults old.kept.history → (result ≡ Err NoSpace → ⊥) → Reports mid new result → ReportsOfMaking old new result
 reports_second {X = X} old mid new result same room reported = record {
   failed = reported.failed ∙ failing result room reported.reports.errors;
   errors = narrow result room reported.reports.errors;

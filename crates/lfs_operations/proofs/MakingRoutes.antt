@@ -10,14 +10,14 @@ use Rattle.lfs_model.specs.SlotEdits.{new_directory}
 use Rattle.lfs_model.specs.Refusals.{as_path}
 use Rattle.lfs_model.specs.Thread.{Pair, blocks_of, first_at, gstate_of}
 use Rattle.lfs_model.specs.Tree.{Path}
-use Rattle.lfs_model.specs.Shown.{Leads, entries_in, tree_in}
+use Rattle.lfs_model.specs.Shown.{PathLeadsTo, entries_in, tree_in}
 use Rattle.lfs_model.proofs.Beside.{last_site}
 use Rattle.lfs_model.proofs.Committed.{IsCompleted}
 use Rattle.lfs_model.proofs.Listings.{IsRun}
 use Rattle.lfs_model.proofs.MkdirSteps.{mkdir_in_two_completed}
 use Rattle.lfs_model.proofs.Moves.{IsStep, place_at}
 use Rattle.lfs_model.proofs.Names.{IsPlace}
-use Rattle.lfs_model.proofs.Sites.{Among, Site, among_right, begin_of, dirs_at, run_changed, thread_at, IsSite}
+use Rattle.lfs_model.proofs.Sites.{SomeIn, Site, among_right, begin_of, dirs_at, run_changed, thread_at, IsSite}
 use Rattle.lfs_model.proofs.StepsTaken as taken
 use Rattle.lfs_model.proofs.Superblocks.{IsChain}
 use Rattle.lfs_thread.specs.Kept.{Kept}
@@ -75,7 +75,7 @@ Completes disk w left x fresh right p2 l r P name =
     (middle new : Disk) (q : Pair) (more : List Pair) → IsThreading disk middle w.chain w.before left w.after x fresh → IsThreaded disk w.chain w.before left w.after x fresh
     → IsStep middle new (site_behind w right (fresh_pair x fresh)) p2 [] q more (blocks_of more) [] l [] (new_directory name fresh ∷ []) r
     → taken.IsPut middle (site_behind w right (fresh_pair x fresh)) p2 q more l [] (new_directory name fresh ∷ []) r
-    → (a : ℕ × ℕ) → Leads (thread_at (last_site w.chain w.before left w.after) (x ∷ [])) P a → same_pair (begin_of (last_site w.chain w.before left w.after) (x ∷ [])) a ≡ true
+    → (a : ℕ × ℕ) → PathLeadsTo (thread_at (last_site w.chain w.before left w.after) (x ∷ [])) P a → same_pair (begin_of (last_site w.chain w.before left w.after) (x ∷ [])) a ≡ true
     → IsPlace middle.order (entries_in (thread_at (site_behind w right (fresh_pair x fresh)) (p2 ∷ [])) a) (place_at (site_behind w right (fresh_pair x fresh)) l) name
     → (gstate_of (thread_at (last_site w.chain w.before left w.after) (naming_pair x fresh ∷ ([] ++ fresh_pair x fresh ∷ [])))).sync ≡ true
     → gstate_of (thread_at (last_site w.chain w.before left w.after) (x ∷ [])) ≡ no_gstate
@@ -91,7 +91,7 @@ pub record IsOne (p x p2 : Pair) (fresh : ℕ × ℕ) : Type 0 where
 -- or the last one stands behind it
 pub record IsAhead (p x p2 : Pair) (right : List Pair) (fresh : ℕ × ℕ) : Type 0 where
   pub stays : p2 ≡ p
-  pub names : Among (λ y. y ≡ naming_pair x fresh) right
+  pub names : SomeIn (λ y. y ≡ naming_pair x fresh) right
 
 -- The last pair stands there, and after the first step the pair of the name here.
 pub record IsRoute (t : Kept) (last : ℕ) (w : Site) (p : Pair) (fresh : ℕ × ℕ) (l r : List Slot) (P : Path) (name : Name) : Type 0 where

@@ -12,9 +12,9 @@ use Rattle.lfs_model.specs.PowerLoss.{IsLeftByStop, with_blocks}
 use Rattle.lfs_model.specs.Slots.{Content, FitsPair, Gstate, no_gstate, gstate_xor, same_pair}
 use Rattle.lfs_model.specs.Thread.{Pair, blocks_of, gstate_of, is_hard}
 use Rattle.lfs_model.specs.Tree.{Path, Tree}
-use Rattle.lfs_model.specs.View.{BeginsWith, superblock_entry, IsAccepted}
+use Rattle.lfs_model.specs.View.{BeginsWithEntry, superblock_entry, IsAccepted}
 use Rattle.lfs_model.specs.Profile.{HaveSlots, IsWritable}
-use Rattle.lfs_model.specs.Shown.{Leads, all_slots, entries_in, file_blocks, tree_in, used_blocks}
+use Rattle.lfs_model.specs.Shown.{PathLeadsTo, all_slots, entries_in, file_blocks, tree_in, used_blocks}
 use Rattle.lfs_model.proofs.Became.{fits_same}
 use Rattle.lfs_model.proofs.Beside.{IsStepBeside, beside_shape, last_site, other_entries, own_entries, threaded}
 use Rattle.lfs_model.proofs.Committed.{no_move_from}
@@ -24,15 +24,15 @@ use Rattle.lfs_model.proofs.Global.{HasNoMove, gstate_assoc, gstate_cons, gstate
 use Rattle.lfs_model.proofs.Moves.{shown_before, shown_behind}
 use Rattle.lfs_model.proofs.Pairs.{pair_itself, put_at}
 use Rattle.lfs_model.proofs.Sites.{Site, begin_of, dirs_at, thread_at, IsSite}
-use Rattle.lfs_model.proofs.StepsTaken.{IsPutBeside, IsTaken, beside_taken, taken_before, within_at}
+use Rattle.lfs_model.proofs.StepsTaken.{IsPutBeside, IsOnlyStep, beside_taken, taken_before, within_at}
 use Rattle.lfs_model.proofs.Superblocks.{pairs_behind}
-use Rattle.lfs_model.proofs.Writable.{flag}
+use Rattle.lfs_model.proofs.Writable.{ends_in_hard_tail}
 use Rattle.lfs_pair.specs.Split.{OutsideBothKeeps}
 use Rattle.lfs_thread.specs.Device.{four_of, two_of}
 use Rattle.lfs_thread.specs.Kept.{Kept}
-use Rattle.lfs_thread.specs.Steps.{HasShape, IsAsBefore, IsJoined, IsJoinedOn, IsLeftByJoin, StaysFirst, Writes, joined_pair, made_in_thread, pair_in, settled}
-use Rattle.lfs_operations.specs.Changing.{AreTwoFree, flying}
-use Rattle.lfs_operations.specs.Making.{threading}
+use Rattle.lfs_thread.specs.Steps.{HasShape, HasOldContent, IsThreadedIn, IsJoinedOn, IsLeftByJoin, KeepsSuperblockFirst, Writes, joined_pair, made_in_thread, pair_in, map_with_used_pair}
+use Rattle.lfs_operations.specs.Changing.{AreTwoFree, map_with_two_in_flight}
+use Rattle.lfs_operations.specs.Making.{thread_in_changes}
 use Rattle.lfs_operations.specs.Ready.{IsReady}
 use Rattle.lfs_operations.proofs.MakingCounts.{count_pairs, used_count_now}
 use Rattle.lfs_operations.proofs.MakingPlaces.{at_is, fresh_distinct, fresh_range, pair_is, placed_still, same_four, shape_same, two_now}
@@ -65,20 +65,20 @@ pub record HasThreaded (t : Kept) (chain before left after : List Pair) (x : Pai
   pub step : IsThreading t.disk new.disk chain before left after x fresh
   pub pairs : new.pairs ≡ thread_at (last_site chain before left after) (naming_pair x fresh ∷ fresh_pair x fresh ∷ [])
   pub used : AreUsed new.map (used_blocks new.disk new.pairs)
-  pub map : new.map ≡ settled (flying t.map fresh) fresh
+  pub map : new.map ≡ map_with_used_pair (map_with_two_in_flight t.map fresh) fresh
   pub size : length new.map ≡ block_count new.disk
 
-have_at : (b : Bool) (xs : List Pair) (x : Pair) (ys : List Pair) → HaveSlots b (xs ++ x ∷ ys) → flag b xs ≡ true → x.content.slots ≢ []
+have_at : (b : Bool) (xs : List Pair) (x : Pair) (ys : List Pair) → HaveSlots b (xs ++ x ∷ ys) → ends_in_hard_tail b xs ≡ true → x.content.slots ≢ []
 have_at b [] x ys h f = h.0 f
 have_at b (z ∷ xs) x ys h f = have_at (is_hard z.content.tail) xs x ys h.1 f
 
 module _ (t : Kept) (ready : IsReady t) (last : ℕ) (chain before left after : List Pair) (x : Pair) (e : IsEnd t last chain before left after x) (fresh : ℕ × ℕ) (two : AreTwoFree t.map fresh)
-    (made : made_in_thread t last (threading t last fresh) ≡ Some (naming_pair x fresh).content) where
+    (made : made_in_thread t last (thread_in_changes t last fresh) ≡ Some (naming_pair x fresh).content) where
   abbrev w : Site
   w = last_site chain before left after
 
   abbrev held : Kept
-  held = with_map t (flying t.map fresh)
+  held = with_map t (map_with_two_in_flight t.map fresh)
 
   abbrev y : Pair
   y = naming_pair x fresh
@@ -155,20 +155,20 @@ module _ (t : Kept) (ready : IsReady t) (last : ℕ) (chain before left after : 
   }
 
   placed_from : (disk : Disk) → HasShape t.disk disk → OutsideBothKeeps (pair_in t last).at fresh t.disk.blocks disk.blocks → content_at disk x.at ≡ Some y.content → content_at disk fresh ≡ Some f.content
-      → StaysFirst t.disk (pair_in t last).at y.content disk → IsPlaced t.disk disk x y (f ∷ []) (fresh.0 ∷ fresh.1 ∷ [])
+      → KeepsSuperblockFirst t.disk (pair_in t last).at y.content disk → IsPlaced t.disk disk x y (f ∷ []) (fresh.0 ∷ fresh.1 ∷ [])
   placed_from disk shape others here behind first = record {
     geometry = shape_same t last w x e.there e.place shape;
     same = same_four t last w x e.there e.place disk fresh others;
     contents = (here, (behind, tt));
-    first = λ h b. subst (λ at. BeginsWith (holder_at disk at) superblock_entry) (at_is t last w x e.there e.place)
-        (first (subst (λ at. BeginsWith (holder_at t.disk at) superblock_entry) (sym (at_is t last w x e.there e.place)) b) (h.kind, h.name));
+    first = λ h b. subst (λ at. BeginsWithEntry (holder_at disk at) superblock_entry) (at_is t last w x e.there e.place)
+        (first (subst (λ at. BeginsWithEntry (holder_at t.disk at) superblock_entry) (sym (at_is t last w x e.there e.place)) b) (h.kind, h.name));
   }
 
-  made_same : (c : Content) → made_in_thread t last (threading t last fresh) ≡ Some c → c ≡ y.content
+  made_same : (c : Content) → made_in_thread t last (thread_in_changes t last fresh) ≡ Some c → c ≡ y.content
   made_same c m = same_Some c y.content (sym m ∙ made)
 
   -- what is made takes no more than what the pair held
-  pub fits_now : (c : Content) → made_in_thread t last (threading t last fresh) ≡ Some c → FitsPair t.disk.block_size t.disk.page c
+  pub fits_now : (c : Content) → made_in_thread t last (thread_in_changes t last fresh) ≡ Some c → FitsPair t.disk.block_size t.disk.page c
   fits_now c m = subst (FitsPair t.disk.block_size t.disk.page) (sym (made_same c m)) (fits_same t.disk x y refl (within_at t.disk w x [] writable_there).pair)
 
   -- only the blocks of the fresh pair may differ: the image shows the tree that it showed
@@ -201,12 +201,12 @@ module _ (t : Kept) (ready : IsReady t) (last : ℕ) (chain before left after : 
         geometry = record { block_size = refl; page = refl; order = refl; count = others.count };
         same = λ b none. others.others b (all_apart (fresh.0 ∷ fresh.1 ∷ []) b (omega arith));
         contents = (content_same t.disk (with_blocks blocks t.disk) x.at first_same second_same ∙ held_there, tt);
-        first = λ h b. subst (λ o. BeginsWith o superblock_entry) (sym (ap₂ holder first_same second_same)) b;
+        first = λ h b. subst (λ o. BeginsWithEntry o superblock_entry) (sym (ap₂ holder first_same second_same)) b;
       }
 
   -- ---- it was done
 
-  pub has_threaded : (new : Kept) → IsJoined (with_map t (flying t.map fresh)) last fresh (threading t last fresh) new → Writes (four_of (pair_in t last).at fresh) (with_map t (flying t.map fresh)) new
+  pub has_threaded : (new : Kept) → IsThreadedIn (with_map t (map_with_two_in_flight t.map fresh)) last fresh (thread_in_changes t last fresh) new → Writes (four_of (pair_in t last).at fresh) (with_map t (map_with_two_in_flight t.map fresh)) new
       → HasThreaded t chain before left after x fresh new
   has_threaded new is writes =
       let same = made_same is.content is.made in
@@ -220,7 +220,7 @@ module _ (t : Kept) (ready : IsReady t) (last : ℕ) (chain before left after : 
       let here = each_right (λ (z : Pair). content_at new.disk z.at ≡ Some z.content) (before ++ left) (y ∷ f ∷ after)
       (each_right (λ (z : Pair). content_at new.disk z.at ≡ Some z.content) chain ((before ++ left) ++ (y ∷ f ∷ after)) contents) in
       let shape : HasShape t.disk new.disk = record { block_size = writes.shape.block_size; page = writes.shape.page; order = writes.shape.order; count = writes.shape.count } in
-      let step = step_from new.disk (placed_from new.disk shape writes.others here.0 here.1.0 (subst (λ (c : Content). StaysFirst t.disk (pair_in t last).at c new.disk) same is.first)) in
+      let step = step_from new.disk (placed_from new.disk shape writes.others here.0 here.1.0 (subst (λ (c : Content). KeepsSuperblockFirst t.disk (pair_in t last).at c new.disk) same is.first)) in
       record {
         step = step;
         pairs = pairs;
@@ -235,12 +235,12 @@ module _ (t : Kept) (ready : IsReady t) (last : ℕ) (chain before left after : 
 
   -- ---- what it shows
 
-  module _ (P : Path) (a : ℕ × ℕ) (leads : Leads (thread_at (last_site chain before left after) (x ∷ [])) P a) (same : same_pair (begin_of (last_site chain before left after) (x ∷ [])) a ≡ true) where
+  module _ (P : Path) (a : ℕ × ℕ) (leads : PathLeadsTo (thread_at (last_site chain before left after) (x ∷ [])) P a) (same : same_pair (begin_of (last_site chain before left after) (x ∷ [])) a ≡ true) where
     pub sync_now : (gstate_of (thread_at (last_site chain before left after) (naming_pair x fresh ∷ ([] ++ fresh_pair x fresh ∷ [])))).sync ≡ true
     sync_now = ap (λ (z : Gstate). z.sync) state_now
 
     pub first_taken : (disk : Disk) → IsThreading t.disk disk chain before left after x fresh
-        → IsTaken t.disk (thread_at (last_site chain before left after) (x ∷ [])) disk (thread_at (last_site chain before left after) (naming_pair x fresh ∷ ([] ++ fresh_pair x fresh ∷ []))) (λ z. z) (λ d. d)
+        → IsOnlyStep t.disk (thread_at (last_site chain before left after) (x ∷ [])) disk (thread_at (last_site chain before left after) (naming_pair x fresh ∷ ([] ++ fresh_pair x fresh ∷ []))) (λ z. z) (λ d. d)
     first_taken disk step = beside_taken t.disk disk chain before left after x y [] f x.content.slots [] [] [] put_there (fresh.0 ∷ fresh.1 ∷ []) [] (λ z. z) (λ d. d) step P a leads same
         (threaded t.disk disk chain before left after x [] y [] f (fresh.0 ∷ fresh.1 ∷ []) x.content.slots [] step P a leads same sync_now)
 
@@ -253,7 +253,7 @@ module _ (t : Kept) (ready : IsReady t) (last : ℕ) (chain before left after : 
         ∙ sym (own_entries t.disk disk chain before left after x [] y [] f (fresh.0 ∷ fresh.1 ∷ []) [] x.content.slots [] [] [] step P a leads same)
 
     -- a stop leaves the tree from before it
-    pub left_threading : (left_blocks : Blocks) (tree : Tree) → IsLeftByJoin (with_map t (flying t.map fresh)) last fresh (threading t last fresh) left_blocks
+    pub left_threading : (left_blocks : Blocks) (tree : Tree) → IsLeftByJoin (with_map t (map_with_two_in_flight t.map fresh)) last fresh (thread_in_changes t last fresh) left_blocks
         → IsLeftByStop (with_blocks left_blocks t.disk) (tree_in t.disk t.pairs) tree
     left_threading blocks tree is = go is.content
       where
@@ -263,7 +263,7 @@ module _ (t : Kept) (ready : IsReady t) (last : ℕ) (chain before left after : 
         shape : HasShape t.disk (with_blocks blocks t.disk)
         shape = record { block_size = refl; page = refl; order = refl; count = is.others.count }
 
-        go : IsAsBefore held last (with_blocks blocks t.disk) ⊎ IsJoinedOn held last fresh (threading t last fresh) (with_blocks blocks t.disk) → IsLeftByStop (with_blocks blocks t.disk) (tree_in t.disk t.pairs) tree
+        go : HasOldContent held last (with_blocks blocks t.disk) ⊎ IsJoinedOn held last fresh (thread_in_changes t last fresh) (with_blocks blocks t.disk) → IsLeftByStop (with_blocks blocks t.disk) (tree_in t.disk t.pairs) tree
         go (inl b) =
             let on = device t.disk (with_blocks blocks t.disk) w x x [] (fresh.0 ∷ fresh.1 ∷ []) accepted_there distinct
             (placed_still t last w x e.there e.place (with_blocks blocks t.disk) fresh shape is.others (record { holds = b.holds; first = b.first })) in
@@ -278,6 +278,6 @@ module _ (t : Kept) (ready : IsReady t) (last : ℕ) (chain before left after : 
             let at = at_is t last w x e.there e.place in
             let c = made_same j.content j.made in
             let step = step_from (with_blocks blocks t.disk) (placed_from (with_blocks blocks t.disk) shape is.others (ap (content_at (with_blocks blocks t.disk)) (sym at) ∙ j.holds ∙ ap (λ (z : Content). Some z) c)
-            (j.behind ∙ ap (λ (z : Pair). Some z.content) behind_is) (subst (λ (z : Content). StaysFirst t.disk (pair_in t last).at z (with_blocks blocks t.disk)) c j.first)) in
+            (j.behind ∙ ap (λ (z : Pair). Some z.content) behind_is) (subst (λ (z : Content). KeepsSuperblockFirst t.disk (pair_in t last).at z (with_blocks blocks t.disk)) c j.first)) in
             subst (λ z. IsLeftByStop (with_blocks blocks t.disk) (tree_in t.disk z) tree) (sym e.there)
             (taken_before t.disk (thread_at w (x ∷ [])) (with_blocks blocks t.disk) (thread_at w (y ∷ ([] ++ f ∷ []))) (λ d. d) tree (first_taken (with_blocks blocks t.disk) step))

@@ -13,8 +13,8 @@ use Rattle.lfs_model.proofs.Counts.{each_weaker}
 use Rattle.lfs_model.proofs.Histories.{LeavesOnly-trans, LeavesOnly-weaker, StayUnprogrammed-trans, StayUnprogrammed-wider}
 use Rattle.lfs_thread.specs.Device.{StopsLeave, four_of}
 use Rattle.lfs_thread.specs.Kept.{Kept}
-use Rattle.lfs_thread.specs.Steps.{Writes, pair_in, settled}
-use Rattle.lfs_operations.specs.Changing.{AreTwoFree, WritesIn, flying}
+use Rattle.lfs_thread.specs.Steps.{Writes, pair_in, map_with_used_pair}
+use Rattle.lfs_operations.specs.Changing.{AreTwoFree, WritesIn, map_with_two_in_flight}
 use Rattle.lfs_operations.specs.Making.{IsLastFrom, WritesUpTo}
 use Rattle.lfs_operations.proofs.MakingCounts.{freed}
 use Rattle.lfs_operations.proofs.Putting.{with_map}
@@ -59,12 +59,12 @@ module _ (t : Kept) (index last : ℕ) (is_last : IsLastFrom t.pairs index last)
       let each = recursion_from_All (λ (c : ℕ). c ≢ b) (own more) apart in
       All-from_recursion (λ c. c ≢ b) ((pair_in t index).at.0 ∷ (pair_in t index).at.1 ∷ more) (each.0, (each.1.0, each.1.1.1.1.1.1))
 
-  first_wider : (new : Kept) (more : List ℕ) → Writes (four_of (pair_in t last).at fresh) (with_map t (flying t.map fresh)) new → Writes (own more) t new
+  first_wider : (new : Kept) (more : List ℕ) → Writes (four_of (pair_in t last).at fresh) (with_map t (map_with_two_in_flight t.map fresh)) new → Writes (own more) t new
   first_wider new more w =
-      let k = writes_wider {bs = four_of (pair_in t last).at fresh} {cs = own more} {old = with_map t (flying t.map fresh)} {new = new} (covers_first more) w in
+      let k = writes_wider {bs = four_of (pair_in t last).at fresh} {cs = own more} {old = with_map t (map_with_two_in_flight t.map fresh)} {new = new} (covers_first more) w in
       record { others = k.others; elsewhere = k.elsewhere; shape = record { block_size = k.shape.block_size; page = k.shape.page; order = k.shape.order; count = k.shape.count }; at_worst = k.at_worst }
 
-  pub writes_first : (new : Kept) → Writes (four_of (pair_in t last).at fresh) (with_map t (flying t.map fresh)) new → WritesUpTo t index new
+  pub writes_first : (new : Kept) → Writes (four_of (pair_in t last).at fresh) (with_map t (map_with_two_in_flight t.map fresh)) new → WritesUpTo t index new
   writes_first new w = record {
     last = last;
     is_last = is_last;
@@ -74,7 +74,7 @@ module _ (t : Kept) (index last : ℕ) (is_last : IsLastFrom t.pairs index last)
     writes = first_wider new [] w;
   }
 
-  pub writes_both : (mid new : Kept) → Writes (four_of (pair_in t last).at fresh) (with_map t (flying t.map fresh)) mid → mid.map ≡ settled (flying t.map fresh) fresh → (pair_in mid index).at ≡ (pair_in t index).at
+  pub writes_both : (mid new : Kept) → Writes (four_of (pair_in t last).at fresh) (with_map t (map_with_two_in_flight t.map fresh)) mid → mid.map ≡ map_with_used_pair (map_with_two_in_flight t.map fresh) fresh → (pair_in mid index).at ≡ (pair_in t index).at
       → WritesIn mid index new → WritesUpTo t index new
   writes_both mid new first map at second = record {
     last = last;
@@ -88,7 +88,7 @@ module _ (t : Kept) (index last : ℕ) (is_last : IsLastFrom t.pairs index last)
   }
 
   -- a stop in either step
-  pub survives_both : (mid new : Kept) (before after : Tree) → Writes (four_of (pair_in t last).at fresh) (with_map t (flying t.map fresh)) mid → WritesIn mid index new
+  pub survives_both : (mid new : Kept) (before after : Tree) → Writes (four_of (pair_in t last).at fresh) (with_map t (map_with_two_in_flight t.map fresh)) mid → WritesIn mid index new
       → Survives t.disk t.history mid.history before after → Survives t.disk mid.history new.history before after → Survives t.disk t.history new.history before after
   survives_both mid new before after first second a b = survives_then t.disk t.history mid.history new.history before after first.at_worst second.writes.at_worst a b
 

@@ -4,13 +4,13 @@ use Rattle.std.specs.Prelude.{All, Contains, nat_le}
 use Rattle.std.proofs.lemmas.Bool.{leb-true}
 use Rattle.std.proofs.lemmas.List.Elements.{recursion_from_All}
 use Rattle.lfs_device.specs.Bytes.{HasBytes}
-use Rattle.lfs_model.specs.TreeEdits.{added}
+use Rattle.lfs_model.specs.TreeEdits.{tree_with_node}
 use Rattle.lfs_model.specs.Blocks.{Blocks, SameButThese}
 use Rattle.lfs_model.specs.BlockSets.{IsFree, IsInFlight}
 use Rattle.lfs_model.specs.BlockSets.BlockState.{Free}
 use Rattle.lfs_model.specs.Content.{content_at}
 use Rattle.lfs_model.specs.Disk.{Disk, block_count, entry_limit}
-use Rattle.lfs_model.specs.InDirectory.{Belongs}
+use Rattle.lfs_model.specs.InDirectory.{BelongsInDirectory}
 use Rattle.lfs_model.specs.LoggedContent.{IsAddress}
 use Rattle.lfs_model.specs.Names.{Name, is_name, is_component}
 use Rattle.lfs_model.specs.Operations as ops
@@ -21,7 +21,7 @@ use Rattle.lfs_model.specs.Thread.{Pair, blocks_of, gstate_of, is_hard, next_of,
 use Rattle.lfs_model.specs.Tree.{DirectoryNode}
 use Rattle.lfs_model.specs.Profile.{FitsEntry, IsWritable}
 use Rattle.lfs_model.specs.View.{IsAccepted}
-use Rattle.lfs_model.specs.Shown.{Leads, entries_in, tree_in}
+use Rattle.lfs_model.specs.Shown.{PathLeadsTo, entries_in, tree_in}
 use Rattle.lfs_model.proofs.Became.{Became}
 use Rattle.lfs_model.proofs.Beside.{change, last_site}
 use Rattle.lfs_model.proofs.Changes.{chain_now}
@@ -34,14 +34,14 @@ use Rattle.lfs_model.proofs.Moves.{place_at, insert_here}
 use Rattle.lfs_model.proofs.Names.{IsPlace}
 use Rattle.lfs_model.proofs.Profiles.{step_writable}
 use Rattle.lfs_model.proofs.Searches.{site, thread_is, is_site, same, number_is, place_of_belongs}
-use Rattle.lfs_model.proofs.Sites.{Among, Site, among_left, among_right, begin_of, dirs_at, thread_at, IsSite}
+use Rattle.lfs_model.proofs.Sites.{SomeIn, Site, among_left, among_right, begin_of, dirs_at, thread_at, IsSite}
 use Rattle.lfs_model.proofs.StepsTaken as taken
 use Rattle.lfs_model.proofs.Superblocks.{IsChain}
 use Rattle.lfs_thread.specs.Device.{four_of, two_of}
 use Rattle.lfs_thread.specs.Kept.{Kept}
-use Rattle.lfs_thread.specs.Steps.{CanJoin, IsJoined, IsLeftByJoin, Writes, pair_in, made_in_thread}
-use Rattle.lfs_operations.specs.Changing.{Alters, AreTwoFree, CanPut, HasTwoFree, IsLeftByPut, IsPut, flying}
-use Rattle.lfs_operations.specs.Making.{AltersUpTo, CanMake, FitsJoined, HasRoomFor, IsLastFrom, IsMade, naming, threading, with_directory}
+use Rattle.lfs_thread.specs.Steps.{CanJoin, IsThreadedIn, IsLeftByJoin, Writes, pair_in, made_in_thread}
+use Rattle.lfs_operations.specs.Changing.{AltersPair, AreTwoFree, CanPut, HasTwoFree, IsLeftByPut, IsPut, map_with_two_in_flight}
+use Rattle.lfs_operations.specs.Making.{AltersUpTo, CanMakeAt, FitsJoined, HasRoomFor, IsLastFrom, IsDirectoryMade, name_directory_changes, thread_in_changes, with_directory}
 use Rattle.lfs_operations.proofs.Altered.{put_alters}
 use Rattle.lfs_operations.proofs.AlteredTails.{other_tail}
 use Rattle.lfs_operations.proofs.MakingCounts.{freed, less_room, no_room}
@@ -72,9 +72,9 @@ holds_at t index w p there place ok =
     (each_right (λ (x : Pair). content_at t.disk x.at ≡ Some x.content) w.chain (dirs_at w (p ∷ []))
     (recursion_from_All (λ (x : Pair). content_at t.disk x.at ≡ Some x.content) (thread_at w (p ∷ [])) (subst (λ z. All (λ (x : Pair). content_at t.disk x.at ≡ Some x.content) z) there ok.thread.contents)))).0
 
-module _ (t : Kept) (index id : ℕ) (name : Name) (can : CanMake t index id name) (last : ℕ) (is_last : IsLastFrom t.pairs index last) (fresh : ℕ × ℕ) (two : AreTwoFree t.map fresh)
+module _ (t : Kept) (index id : ℕ) (name : Name) (can : CanMakeAt t index id name) (last : ℕ) (is_last : IsLastFrom t.pairs index last) (fresh : ℕ × ℕ) (two : AreTwoFree t.map fresh)
     (bytes : HasBytes t.disk.blocks) (many : block_count t.disk < 2 ^ 32) where
-  abbrev b : Belongs t.disk.order t.pairs can.first name index id
+  abbrev b : BelongsInDirectory t.disk.order t.pairs can.first name index id
   b = can.belongs
 
   abbrev p : Pair
@@ -111,8 +111,8 @@ module _ (t : Kept) (index id : ℕ) (name : Name) (can : CanMake t index id nam
   abbrev here : Site
   here = last_site w.chain w.before way.left w.after
 
-  leads_here : Leads (thread_at here (x ∷ [])) can.path can.at
-  leads_here = subst (λ z. Leads z can.path can.at) way.end.there can.leads
+  leads_here : PathLeadsTo (thread_at here (x ∷ [])) can.path can.at
+  leads_here = subst (λ z. PathLeadsTo z can.path can.at) way.end.there can.leads
 
   same_first : same_pair (begin_of w (p ∷ [])) can.at ≡ true
   same_first = same t.disk t.pairs can.path can.at can.ready.accepted can.leads can.first index p (b.later ++ b.rest) b.place can.begins
@@ -125,22 +125,22 @@ module _ (t : Kept) (index id : ℕ) (name : Name) (can : CanMake t index id nam
   address : IsAddress fresh
   address = let s = can.ready.size in let g = within t.map fresh.0 Free two.first in let h = within t.map fresh.1 Free two.second in (omega arith, omega arith)
 
-  made : made_in_thread t last (threading t last fresh) ≡ Some y.content
+  made : made_in_thread t last (thread_in_changes t last fresh) ≡ Some y.content
   made = threaded_made t last x (pair_is t last here x way.end.there way.end.place) (holds_at t last here x way.end.there way.end.place can.ready.accepted)
       (logged_there t.disk (pair_in t last).at bytes) fresh address two.apart
 
-  pub can_thread : CanJoin (with_map t (flying t.map fresh)) last fresh (threading (with_map t (flying t.map fresh)) last fresh)
+  pub can_thread : CanJoin (with_map t (map_with_two_in_flight t.map fresh)) last fresh (thread_in_changes (with_map t (map_with_two_in_flight t.map fresh)) last fresh)
   can_thread = record { below = below t last here x way.end.there way.end.place; content = y.content; made = made; next = refl; held = held t.map fresh two }
 
-  pub thread_fits : FitsJoined (with_map t (flying t.map fresh)) last fresh
+  pub thread_fits : FitsJoined (with_map t (map_with_two_in_flight t.map fresh)) last fresh
   thread_fits c m = fits_now t can.ready last w.chain w.before way.left w.after x way.end fresh two made c m
 
-  pub left_by_threading : (left : Blocks) → IsLeftByJoin (with_map t (flying t.map fresh)) last fresh (threading (with_map t (flying t.map fresh)) last fresh) left
+  pub left_by_threading : (left : Blocks) → IsLeftByJoin (with_map t (map_with_two_in_flight t.map fresh)) last fresh (thread_in_changes (with_map t (map_with_two_in_flight t.map fresh)) last fresh) left
       → IsLeftOf (with_blocks left t.disk) (tree_in t.disk t.pairs) (with_directory t can.path name)
   left_by_threading left is = left_threading t can.ready last w.chain w.before way.left w.after x way.end fresh two made can.path can.at leads_here same_here left (with_directory t can.path name) is
 
   -- where there was no memory for the step
-  pub left_unthreaded : (new : Kept) → Writes (four_of (pair_in t last).at fresh) (with_map t (flying t.map fresh)) new → SameButThese (two_of fresh) t.disk.blocks new.disk.blocks
+  pub left_unthreaded : (new : Kept) → Writes (four_of (pair_in t last).at fresh) (with_map t (map_with_two_in_flight t.map fresh)) new → SameButThese (two_of fresh) t.disk.blocks new.disk.blocks
       → IsLeftOf new.disk (tree_in t.disk t.pairs) (with_directory t can.path name)
   left_unthreaded new writes others = subst (λ (d : Disk). IsLeftOf d (tree_in t.disk t.pairs) (with_directory t can.path name)) same_disk
       (left_beside t can.ready last w.chain w.before way.left w.after x way.end fresh two made new.disk.blocks (with_directory t can.path name) others)
@@ -153,7 +153,7 @@ module _ (t : Kept) (index id : ℕ) (name : Name) (can : CanMake t index id nam
   abbrev pub IsThreadedNow : Kept → Type 0
   IsThreadedNow m = HasThreaded t w.chain w.before way.left w.after x fresh m
 
-  pub threaded_now : (m : Kept) → IsJoined (with_map t (flying t.map fresh)) last fresh (threading t last fresh) m → Writes (four_of (pair_in t last).at fresh) (with_map t (flying t.map fresh)) m → IsThreadedNow m
+  pub threaded_now : (m : Kept) → IsThreadedIn (with_map t (map_with_two_in_flight t.map fresh)) last fresh (thread_in_changes t last fresh) m → Writes (four_of (pair_in t last).at fresh) (with_map t (map_with_two_in_flight t.map fresh)) m → IsThreadedNow m
   threaded_now m is writes = has_threaded t can.ready last w.chain w.before way.left w.after x way.end fresh two made m is writes
 
   pub room_left : (m : Kept) → IsThreadedNow m → (HasTwoFree m.map → ⊥) → ⊥
@@ -163,7 +163,7 @@ module _ (t : Kept) (index id : ℕ) (name : Name) (can : CanMake t index id nam
     abbrev v : Site
     v = site_behind w way.right f
 
-    first : taken.IsTaken t.disk (thread_at here (x ∷ [])) m.disk (thread_at here (y ∷ ([] ++ f ∷ []))) (λ z. z) (λ d. d)
+    first : taken.IsOnlyStep t.disk (thread_at here (x ∷ [])) m.disk (thread_at here (y ∷ ([] ++ f ∷ []))) (λ z. z) (λ d. d)
     first = first_taken t can.ready last w.chain w.before way.left w.after x way.end fresh two made can.path can.at leads_here same_here m.disk h.step
 
     -- between the steps the tree is the one from before
@@ -223,11 +223,11 @@ module _ (t : Kept) (index id : ℕ) (name : Name) (can : CanMake t index id nam
     abbrev one : Pair
     one = record { at = way.p2.at; content = now }
 
-    made_now : made_in_thread m index (naming m index id name fresh) ≡ Some now
+    made_now : made_in_thread m index (name_directory_changes m index id name fresh) ≡ Some now
     made_now = named_made m index way.p2 pair_now (holds_at m index v way.p2 there_now placed accepted_now) (logged_there m.disk (pair_in m index).at bytes_now)
         id name fresh (name_length name can.is_name) address id_within fits_there
 
-    pub can_enter : CanPut m index (naming m index id name fresh)
+    pub can_enter : CanPut m index (name_directory_changes m index id name fresh)
     can_enter = can_name m index way.p2 pair_now (holds_at m index v way.p2 there_now placed accepted_now) (logged_there m.disk (pair_in m index).at bytes_now)
         id name fresh (name_length name can.is_name) address id_within fits_there (below m index v way.p2 there_now placed) (entry_small m.disk.block_size m.disk.page u large_now entry_fits)
 
@@ -244,7 +244,7 @@ module _ (t : Kept) (index id : ℕ) (name : Name) (can : CanMake t index id nam
         ∙ ap (λ z. gstate_xor sync_delta (gstate_of z)) (append_assoc v.chain (v.before ++ v.left) (way.p2 ∷ (v.right ++ v.after)))
         ∙ ap (gstate_xor sync_delta) (ap gstate_of (sym there_now) ∙ state_is) ∙ gstate_self sync_delta
 
-    entering : IsEntering m index (naming m index id name fresh) v way.p2 b.left name fresh b.right
+    entering : IsEntering m index (name_directory_changes m index id name fresh) v way.p2 b.left name fresh b.right
     entering = record {
       accepted = accepted_now;
       writable = writable_now;
@@ -286,10 +286,10 @@ module _ (t : Kept) (index id : ℕ) (name : Name) (can : CanMake t index id nam
     settled = settled_there t can.ready last w.chain w.before way.left w.after x way.end fresh two made
 
     both : (disk : Disk) (q : Pair) (more : List Pair) → Enters m v way.p2 b.left name fresh b.right disk q more
-        → InTwo t.disk (thread_at here (x ∷ [])) m.disk (thread_at v (way.p2 ∷ [])) disk (thread_at v (q ∷ more)) (λ z. z) (added (can.path ++ name ∷ []) (DirectoryNode [] []))
+        → InTwo t.disk (thread_at here (x ∷ [])) m.disk (thread_at v (way.p2 ∷ [])) disk (thread_at v (q ∷ more)) (λ z. z) (tree_with_node (can.path ++ name ∷ []) (DirectoryNode [] []))
     both disk q more e = mkdir_in_two t.disk m.disk disk w.chain w.before way.left w.after x [] y [] f (fresh.0 ∷ fresh.1 ∷ []) x.content.slots [] h.step can.path can.at leads_here same_here sync
         v way.p2 q more (blocks_of more) b.left b.right u e.step same_thread can.path can.at
-        (subst (λ z. Leads z can.path can.at) same_thread (ap (λ d. d can.path) first.follows.leads ∙ leads_here))
+        (subst (λ z. PathLeadsTo z can.path can.at) same_thread (ap (λ d. d can.path) first.follows.leads ∙ leads_here))
         (ap (λ z. same_pair z can.at) way.begins ∙ same_first) place_there refl
         (recovered_from t.disk (thread_at here (x ∷ [])) h.step.accepted settled).reached
 
@@ -298,12 +298,12 @@ module _ (t : Kept) (index id : ℕ) (name : Name) (can : CanMake t index id nam
         (taken.put_within m.disk v way.p2 q more b.left [] (u ∷ []) b.right e.put) (taken.put_filled m.disk v way.p2 q more b.left [] (u ∷ []) b.right e.put)
 
     shows_now : (disk : Disk) (q : Pair) (more : List Pair) (e : Enters m v way.p2 b.left name fresh b.right disk q more) → tree_in disk (thread_at v (q ∷ more)) ≡ with_directory t can.path name
-    shows_now disk q more e = (both disk q more e).end.shows ∙ ap (λ z. added (can.path ++ name ∷ []) (DirectoryNode [] []) (tree_in t.disk z)) (sym way.end.there)
+    shows_now disk q more e = (both disk q more e).end.shows ∙ ap (λ z. tree_with_node (can.path ++ name ∷ []) (DirectoryNode [] []) (tree_in t.disk z)) (sym way.end.there)
 
-    pub made_is : (new : Kept) → IsPut m index (naming m index id name fresh) new → IsMade t new can.path name
-    made_is new is = go (entered m index (naming m index id name fresh) v way.p2 b.left name fresh b.right entering new is)
+    pub made_is : (new : Kept) → IsPut m index (name_directory_changes m index id name fresh) new → IsDirectoryMade t new can.path name
+    made_is new is = go (entered m index (name_directory_changes m index id name fresh) v way.p2 b.left name fresh b.right entering new is)
       where
-        go : HasEntered m v way.p2 b.left name fresh b.right new → IsMade t new can.path name
+        go : HasEntered m v way.p2 b.left name fresh b.right new → IsDirectoryMade t new can.path name
         go e = record {
           now = record {
             ready = record {
@@ -335,11 +335,11 @@ module _ (t : Kept) (index id : ℕ) (name : Name) (can : CanMake t index id nam
             was_free c free = freed t.map fresh two c (subst (λ s. IsFree s c) h.map free)
 
     -- neither pair stays with what it held
-    pub made_alters : (new : Kept) → IsPut m index (naming m index id name fresh) new → AltersUpTo t index new
-    made_alters new is = go (entered m index (naming m index id name fresh) v way.p2 b.left name fresh b.right entering new is)
+    pub made_alters : (new : Kept) → IsPut m index (name_directory_changes m index id name fresh) new → AltersUpTo t index new
+    made_alters new is = go (entered m index (name_directory_changes m index id name fresh) v way.p2 b.left name fresh b.right entering new is)
       where
-        x_was : Among (λ z. z ≡ x) t.pairs
-        x_was = subst (Among (λ z. z ≡ x)) (sym way.end.there) (among_right (λ z. z ≡ x) w.chain (dirs_at here (x ∷ [])) (among_right (λ z. z ≡ x) (w.before ++ way.left) (x ∷ w.after) (inl refl)))
+        x_was : SomeIn (λ z. z ≡ x) t.pairs
+        x_was = subst (SomeIn (λ z. z ≡ x)) (sym way.end.there) (among_right (λ z. z ≡ x) w.chain (dirs_at here (x ∷ [])) (among_right (λ z. z ≡ x) (w.before ++ way.left) (x ∷ w.after) (inl refl)))
 
         go : HasEntered m v way.p2 b.left name fresh b.right new → AltersUpTo t index new
         go e = by way.which
@@ -348,18 +348,18 @@ module _ (t : Kept) (index id : ℕ) (name : Name) (can : CanMake t index id nam
             ok = (both new.disk e.q e.more e.enters).end.accepted
 
             -- the last one, by the tail of the pair that stands there now
-            end_goes : (z : Pair) → Among (λ y. y ≡ z) (thread_at v (e.q ∷ e.more)) → z.at ≡ x.at → (next_of z.content.tail ≡ Some fresh) ⊎ (is_hard z.content.tail ≡ true) → Contains new.pairs x → ⊥
+            end_goes : (z : Pair) → SomeIn (λ y. y ≡ z) (thread_at v (e.q ∷ e.more)) → z.at ≡ x.at → (next_of z.content.tail ≡ Some fresh) ⊎ (is_hard z.content.tail ≡ true) → Contains new.pairs x → ⊥
             end_goes z h at tail has =
                 other_tail t z x fresh can.ready two.first x_was (run_right way.left x [] way.end.site.run) (thread_at v (e.q ∷ e.more)) ok.thread.distinct h at tail (subst (λ ps. Contains ps x) e.pairs has)
 
-            end_alters : (Contains new.pairs x → ⊥) → (i : ℕ) → IsLastFrom t.pairs index i → Alters t i new
+            end_alters : (Contains new.pairs x → ⊥) → (i : ℕ) → IsLastFrom t.pairs index i → AltersPair t i new
             end_alters gone i is_i =
                 let a = is_i.is in
                 let b = is_last.is in
                 let number : last ≡ i = omega arith in
-                subst (λ (j : ℕ). Alters t j new) number (subst (λ z. Contains new.pairs z → ⊥) (sym (pair_is t last here x way.end.there way.end.place)) gone)
+                subst (λ (j : ℕ). AltersPair t j new) number (subst (λ z. Contains new.pairs z → ⊥) (sym (pair_is t last here x way.end.there way.end.place)) gone)
 
-            entry_alters : (Contains new.pairs p → ⊥) → Alters t index new
+            entry_alters : (Contains new.pairs p → ⊥) → AltersPair t index new
             entry_alters = subst (λ z. Contains new.pairs z → ⊥) (sym (pair_is t index w p there placed))
 
             at_now : e.q.at ≡ p.at
@@ -387,14 +387,14 @@ module _ (t : Kept) (index id : ℕ) (name : Name) (can : CanMake t index id nam
                     (subst (Contains (thread_at v (e.q ∷ e.more))) (sym h.stays) (subst (λ ps. Contains ps p) e.pairs has))
 
     -- a stop leaves the tree from before it or from after it
-    pub left_by_entering : (left : Blocks) → IsLeftByPut m index (naming m index id name fresh) left → IsLeftOf (with_blocks left t.disk) (tree_in t.disk t.pairs) (with_directory t can.path name)
+    pub left_by_entering : (left : Blocks) → IsLeftByPut m index (name_directory_changes m index id name fresh) left → IsLeftOf (with_blocks left t.disk) (tree_in t.disk t.pairs) (with_directory t can.path name)
     left_by_entering left is = subst (λ (d : Disk). IsLeftOf d (tree_in t.disk t.pairs) (with_directory t can.path name)) same_disk
-        (go (left_entered m index (naming m index id name fresh) v way.p2 b.left name fresh b.right entering left is))
+        (go (left_entered m index (name_directory_changes m index id name fresh) v way.p2 b.left name fresh b.right entering left is))
       where
         same_disk : with_blocks left m.disk ≡ with_blocks left t.disk
         same_disk = λ j. record { block_size = h.step.device.geometry.block_size j; page = h.step.device.geometry.page j; order = h.step.device.geometry.order j; blocks = left }
 
-        go : Stays m index (naming m index id name fresh) v way.p2 b.left name fresh b.right entering (with_blocks left m.disk) ⊎ HasEntry m v way.p2 b.left name fresh b.right (with_blocks left m.disk)
+        go : Stays m index (name_directory_changes m index id name fresh) v way.p2 b.left name fresh b.right entering (with_blocks left m.disk) ⊎ HasEntry m v way.p2 b.left name fresh b.right (with_blocks left m.disk)
             → IsLeftOf (with_blocks left m.disk) (tree_in t.disk t.pairs) (with_directory t can.path name)
         go (inl d) =
             let n = nothing_came m.disk (with_blocks left m.disk) v way.p2 site_now (subst (IsAccepted m.disk) there_now accepted_now) d in

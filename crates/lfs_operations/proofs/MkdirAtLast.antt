@@ -7,13 +7,13 @@ use Rattle.lfs_model.specs.Slots.{Slot, no_gstate, same_pair, FitsPair}
 use Rattle.lfs_model.specs.Thread.{Pair, first_at, gstate_of}
 use Rattle.lfs_model.specs.Tree.{Path, DirectoryNode}
 use Rattle.lfs_model.specs.Profile.{IsWritable}
-use Rattle.lfs_model.specs.Shown.{Leads, entries_in, tree_in}
-use Rattle.lfs_model.specs.TreeEdits.{added}
+use Rattle.lfs_model.specs.Shown.{PathLeadsTo, entries_in, tree_in}
+use Rattle.lfs_model.specs.TreeEdits.{tree_with_node}
 use Rattle.lfs_model.specs.Operations as ops
 use Rattle.lfs_model.specs.Session.{Session}
 use Rattle.lfs_model.specs.Refusals.{as_path}
 use Rattle.lfs_model.specs.SlotEdits.{with_slots, new_directory}
-use Rattle.lfs_model.specs.Layout.{Fits}
+use Rattle.lfs_model.specs.Layout.{FitsOnDisk}
 use Rattle.lfs_model.proofs.Names.{IsPlace}
 use Rattle.lfs_model.proofs.Sites.{Site, thread_at, begin_of}
 use Rattle.lfs_model.proofs.Moves.{IsStep, place_at}
@@ -24,7 +24,7 @@ use Rattle.lfs_model.proofs.MadeDirectory.{Cut, IsMkdir, mkdir_completed, none_t
 use Rattle.lfs_model.proofs.Became.{Became}
 use Rattle.lfs_model.proofs.Profiles.{step_writable}
 use Rattle.lfs_model.proofs.Chained.{InTwo, mkdir_in_two}
-use Rattle.lfs_model.proofs.StepsTaken.{IsTaken, IsPut, IsPutBeside, beside_taken, put_within, put_filled}
+use Rattle.lfs_model.proofs.StepsTaken.{IsOnlyStep, IsPut, IsPutBeside, beside_taken, put_within, put_filled}
 
 -- the same site with the fresh pair's directory behind it
 abbrev pub ahead_of : List Pair → List Pair → List Pair → Pair → List Pair → Site
@@ -35,7 +35,7 @@ module _ (disk middle new : Disk) (chain before left after : List Pair) (x y f :
     (put : IsPutBeside disk (last_site chain before left after) x y [] f l0 [] [] r0)
     (step2 : IsStep middle new (ahead_of chain before left f after) y [] q more extra2 [] l [] (new_directory name f.at ∷ []) r)
     (put2 : IsPut middle (ahead_of chain before left f after) y q more l [] (new_directory name f.at ∷ []) r)
-    (a : ℕ × ℕ) (leads : Leads (thread_at (last_site chain before left after) (x ∷ [])) P a)
+    (a : ℕ × ℕ) (leads : PathLeadsTo (thread_at (last_site chain before left after) (x ∷ [])) P a)
     (same : same_pair (begin_of (last_site chain before left after) (x ∷ [])) a ≡ true)
     (place : IsPlace middle.order (entries_in (thread_at (ahead_of chain before left f after) (y ∷ [])) a) (place_at (ahead_of chain before left f after) l) name)
     (sync : (gstate_of (thread_at (last_site chain before left after) (y ∷ ([] ++ f ∷ [])))).sync ≡ true)
@@ -44,11 +44,11 @@ module _ (disk middle new : Disk) (chain before left after : List Pair) (x y f :
   abbrev there : Site
   there = ahead_of chain before left f after
 
-  first : IsTaken disk (thread_at (last_site chain before left after) (x ∷ [])) middle (thread_at (last_site chain before left after) (y ∷ ([] ++ f ∷ []))) (λ t. t) (λ d. d)
+  first : IsOnlyStep disk (thread_at (last_site chain before left after) (x ∷ [])) middle (thread_at (last_site chain before left after) (y ∷ ([] ++ f ∷ []))) (λ t. t) (λ d. d)
   first = beside_taken disk middle chain before left after x y [] f l0 [] [] r0 put extra [] (λ t. t) (λ d. d) step P a leads same
       (threaded disk middle chain before left after x [] y [] f extra l0 r0 step P a leads same sync)
 
-  leads2 : Leads (thread_at (ahead_of chain before left f after) (y ∷ [])) P a
+  leads2 : PathLeadsTo (thread_at (ahead_of chain before left f after) (y ∷ [])) P a
   leads2 = ap (λ d. d P) first.follows.leads ∙ leads
 
   same2 : same_pair (begin_of (ahead_of chain before left f after) (y ∷ [])) a ≡ true
@@ -58,7 +58,7 @@ module _ (disk middle new : Disk) (chain before left after : List Pair) (x y f :
       go [] = step.shape.at
       go (z ∷ xs) = refl
 
-  both : InTwo disk (thread_at (last_site chain before left after) (x ∷ [])) middle (thread_at (ahead_of chain before left f after) (y ∷ [])) new (thread_at (ahead_of chain before left f after) (q ∷ more)) (λ t. t) (added (P ++ name ∷ []) (DirectoryNode [] []))
+  both : InTwo disk (thread_at (last_site chain before left after) (x ∷ [])) middle (thread_at (ahead_of chain before left f after) (y ∷ [])) new (thread_at (ahead_of chain before left f after) (q ∷ more)) (λ t. t) (tree_with_node (P ++ name ∷ []) (DirectoryNode [] []))
   both = mkdir_in_two disk middle new chain before left after x [] y [] f extra l0 r0 step P a leads same sync
       (ahead_of chain before left f after) y q more extra2 l r (new_directory name f.at) step2 refl P a leads2 same2 place refl
       (recovered_from disk (thread_at (last_site chain before left after) (x ∷ [])) step.accepted settled).reached
@@ -95,10 +95,10 @@ module _ (disk middle new : Disk) (chain before left after : List Pair) (x y f :
   }
     where
       -- the tails don't matter, and the sizes are the same on both disks
-      sized : (d : Pair) → Fits middle d → Fits disk d
+      sized : (d : Pair) → FitsOnDisk middle d → FitsOnDisk disk d
       sized d h = subst₂ (λ b g. FitsPair b g d.content) step.device.geometry.block_size step.device.geometry.page h
 
-      resized : (slots : List Slot) → Fits disk (with_slots slots x) → Fits middle (with_slots slots y)
+      resized : (slots : List Slot) → FitsOnDisk disk (with_slots slots x) → FitsOnDisk middle (with_slots slots y)
       resized slots h = subst₂ (λ b g. FitsPair b g (with_slots slots y).content) (sym step.device.geometry.block_size) (sym step.device.geometry.page) (record { size = h.size; count = h.count })
 
       became_cut : (more : List Pair) → Became middle y (with_slots (l ++ (new_directory name f.at ∷ [] ++ r)) y) q more → Cut disk (with_slots (l ++ new_directory name f.at ∷ r) x) q more

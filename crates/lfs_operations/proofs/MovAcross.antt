@@ -20,26 +20,26 @@ use Rattle.lfs_model.proofs.Changes.{Follows}
 use Rattle.lfs_model.proofs.Committed.{IsCompleted}
 use Rattle.lfs_model.proofs.Laws.{Walk}
 use Rattle.lfs_model.proofs.Layouts.{onward_all, onward_some}
-use Rattle.lfs_model.specs.Layout.{onward}
+use Rattle.lfs_model.specs.Layout.{directory_after}
 use Rattle.lfs_model.proofs.RenamedAcross.{IsRenameAcross, IsNoDirectory, across_completed, target_slots}
 use Rattle.lfs_model.proofs.Sites.{Site, thread_at}
-use Rattle.lfs_model.proofs.StepsTaken.{IsTaken}
+use Rattle.lfs_model.proofs.StepsTaken.{IsOnlyStep}
 use Rattle.lfs_model.proofs.TwoPlaces.{OldStays, two, from_old}
-use Rattle.lfs_model.proofs.Writable.{flag}
+use Rattle.lfs_model.proofs.Writable.{ends_in_hard_tail}
 use Rattle.lfs_operations.proofs.MovPlaces.{InTurn, ahead, behind}
 use Rattle.lfs_operations.proofs.MovSet.{HasTurned, IsSetting, turns}
 use Rattle.lfs_operations.specs.MoveEnds.{move_of}
 
-flag_from : (from : Option (ℕ × ℕ)) (xs : List Pair) → is_some (onward_all from xs) ≡ flag (is_some from) xs
+flag_from : (from : Option (ℕ × ℕ)) (xs : List Pair) → is_some (onward_all from xs) ≡ ends_in_hard_tail (is_some from) xs
 flag_from from [] = refl
-flag_from from (x ∷ xs) = flag_from (onward from x) xs ∙ ap (λ b. flag b xs) (onward_some from x)
+flag_from from (x ∷ xs) = flag_from (directory_after from x) xs ∙ ap (λ b. ends_in_hard_tail b xs) (onward_some from x)
 
-pub flag_append : (b : Bool) (xs ys : List Pair) → flag b (xs ++ ys) ≡ flag (flag b xs) ys
+pub flag_append : (b : Bool) (xs ys : List Pair) → ends_in_hard_tail b (xs ++ ys) ≡ ends_in_hard_tail (ends_in_hard_tail b xs) ys
 flag_append b [] ys = refl
 flag_append b (x ∷ xs) ys = flag_append (is_hard x.content.tail) xs ys
 
 -- a hard tail leads on from what a pair became where one leads on from the pair
-pub flag_became : (disk : Disk) (p d q : Pair) (more : List Pair) (b : Bool) → Became disk p d q more → flag b (q ∷ more) ≡ flag b (p ∷ [])
+pub flag_became : (disk : Disk) (p d q : Pair) (more : List Pair) (b : Bool) → Became disk p d q more → ends_in_hard_tail b (q ∷ more) ≡ ends_in_hard_tail b (p ∷ [])
 flag_became disk p d q [] b h = ap is_hard h.0
 flag_became disk p d q (f ∷ []) b h = ap is_hard h.1
 flag_became disk p d q (f ∷ g ∷ more) b h = absurd h
@@ -57,8 +57,8 @@ pub record Arranged (disk : Disk) (wo : Site) (o : Pair) (w : Site) (p q : Pair)
   pub cut : (zs : List Pair) → two b front zs mid (q ∷ more) back ≡ pre ++ (zs ++ post)
   pub number : ((length (wo.before ++ wo.left) < length (w.before ++ w.left)) × (length pre ≡ length (wo.before ++ wo.left)))
       ⊎ ((length (w.before ++ w.left) < length (wo.before ++ wo.left)) × (length pre ≡ length (wo.before ++ wo.left) + length more))
-  pub from : is_some (from_old b front mid p) ≡ flag false (wo.before ++ wo.left)
-  pub led : flag false pre ≡ flag false (wo.before ++ wo.left)
+  pub from : is_some (from_old b front mid p) ≡ ends_in_hard_tail false (wo.before ++ wo.left)
+  pub led : ends_in_hard_tail false pre ≡ ends_in_hard_tail false (wo.before ++ wo.left)
 
 pub arranged : (disk : Disk) (wo : Site) (o : Pair) (w : Site) (p d q : Pair) (more : List Pair) → Became disk p d q more
     → InTurn (w.before ++ w.left) p (w.right ++ w.after) (wo.before ++ wo.left) o (wo.right ++ wo.after) → Arranged disk wo o w p q more
@@ -96,10 +96,10 @@ arranged disk wo o w p d q more became (behind mid e f) =
         (let g = ap length f in let h = length-append front (p ∷ mid) in omega arith),
         (let g = ap length f in let h = length-append front (p ∷ mid) in let i = length-append front (q ∷ more ++ mid) in let j = length-append (q ∷ more) mid in omega arith),
       );
-      from = flag_from (onward_all (onward_all None front) (p ∷ [])) mid ∙ ap (λ b. flag b mid) (flag_from (onward_all None front) (p ∷ []))
-          ∙ sym (ap (flag false) f ∙ flag_append false front (p ∷ mid));
-      led = flag_append false front (q ∷ more ++ mid) ∙ flag_append (flag false front) (q ∷ more) mid ∙ ap (λ b. flag b mid) (flag_became disk p d q more (flag false front) became)
-          ∙ sym (ap (flag false) f ∙ flag_append false front (p ∷ mid));
+      from = flag_from (onward_all (onward_all None front) (p ∷ [])) mid ∙ ap (λ b. ends_in_hard_tail b mid) (flag_from (onward_all None front) (p ∷ []))
+          ∙ sym (ap (ends_in_hard_tail false) f ∙ flag_append false front (p ∷ mid));
+      led = flag_append false front (q ∷ more ++ mid) ∙ flag_append (ends_in_hard_tail false front) (q ∷ more) mid ∙ ap (λ b. ends_in_hard_tail b mid) (flag_became disk p d q more (ends_in_hard_tail false front) became)
+          ∙ sym (ap (ends_in_hard_tail false) f ∙ flag_append false front (p ∷ mid));
     }
   where
     cut_at : (xs ys zs us vs : List Pair) → xs ++ (ys ++ (zs ++ (us ++ vs))) ≡ (xs ++ (ys ++ zs)) ++ (us ++ vs)
@@ -116,7 +116,7 @@ module _ (disk middle new : Disk) (wo : Site) (o : Pair) (lo : List Slot) (u : S
       (first : Follows disk (thread_at w (p ∷ [])) middle (thread_at w (q ∷ more)) (renamed old_path new_path) walk)
       (os rs : List Pair) (stays : OldStays (from_old arrangement.b arrangement.front arrangement.mid p) o (lo ++ ro) os)
       (alike : AreAlike (w.chain ++ (arrangement.pre ++ (os ++ arrangement.post))) rs)
-      (second : IsTaken middle (thread_at w (q ∷ more)) new rs (λ t. t) (λ d. d)) (state : gstate_of rs ≡ no_gstate)
+      (second : IsOnlyStep middle (thread_at w (q ∷ more)) new rs (λ t. t) (λ d. d)) (state : gstate_of rs ≡ no_gstate)
       (from_slot : slot_of_path (thread_at w (p ∷ [])) old_path ≡ Some u) (to_slot : slot_of_path (thread_at w (p ∷ [])) new_path ≡ target) (to_name : last_name new_path ≡ name)
       (file : IsNoDirectory target) where
     is_across : IsRenameAcross disk middle new (thread_at w (q ∷ more)) rs arrangement.b w.chain arrangement.front arrangement.mid arrangement.back o p q os more lo u ro l target r old_path new_path name

@@ -7,7 +7,7 @@ use Rattle.std.proofs.lemmas.List.Elements.{recursion_from_All}
 use Rattle.lfs_model.specs.Disk.{Disk}
 use Rattle.lfs_model.specs.Slots.{Slot, Gstate, is_superblock, same_pair, gstate_xor}
 use Rattle.lfs_model.specs.SlotEdits.{with_slots}
-use Rattle.lfs_model.specs.Thread.{Pair, blocks_of, gstate_of, starts_with_superblock, unmoved}
+use Rattle.lfs_model.specs.Thread.{Pair, blocks_of, gstate_of, starts_with_superblock, slots_not_moved}
 use Rattle.lfs_model.specs.Shown.{directories_in, used_blocks, all_slots}
 use Rattle.lfs_model.specs.Slots.{set_move}
 use Rattle.lfs_model.specs.View.{IsAccepted}
@@ -24,12 +24,12 @@ use Rattle.lfs_model.proofs.Rests.{IsMoveEnd, move_ends, site_gstate_moved, unmo
 use Rattle.lfs_model.proofs.Searches.{avoids_front, avoids_behind}
 use Rattle.lfs_model.proofs.Sites.{Site, dirs_at, thread_at, IsSite}
 use Rattle.lfs_model.proofs.Splices.{slots_in, files_of, unmoved_in}
-use Rattle.lfs_model.proofs.StepsTaken.{IsTaken, IsPut, end_taken}
-use Rattle.lfs_model.proofs.Writable.{flag}
+use Rattle.lfs_model.proofs.StepsTaken.{IsOnlyStep, IsPut, end_taken}
+use Rattle.lfs_model.proofs.Writable.{ends_in_hard_tail}
 use Rattle.lfs_operations.specs.MoveEnds.{move_in, sync_in}
 use Rattle.lfs_operations.proofs.MovSet.{HasTurned}
 use Rattle.lfs_operations.proofs.MovFirsts.{end_firsts}
-use Rattle.lfs_model.proofs.MoveSets.{firsts}
+use Rattle.lfs_model.proofs.MoveSets.{first_addresses}
 
 pub move_out : (g : Gstate) → gstate_xor (move_in g) g ≡ sync_in g
 move_out g = λ j. record { sync = g.sync; kind = xor_self g.kind j; id = xor_self g.id j; pair = (xor_self g.pair.0 j, xor_self g.pair.1 j) }
@@ -44,7 +44,7 @@ pub record IsEnding (disk : Disk) (w : Site) (p : Pair) (l : List Slot) (u : Slo
   pub id : (gstate_of (thread_at w (p ∷ []))).id ≡ length l
   pub held : p.content.slots ≡ l ++ u ∷ r
   pub other : is_superblock u ≡ false
-  pub filled : flag false (w.before ++ w.left) ≡ true → l ++ r ≢ []
+  pub filled : ends_in_hard_tail false (w.before ++ w.left) ≡ true → l ++ r ≢ []
 
 module _ (disk : Disk) (w : Site) (p : Pair) (l : List Slot) (u : Slot) (r : List Slot) (k : IsEnding disk w p l u r) where
   abbrev ps : List Pair
@@ -77,10 +77,10 @@ module _ (disk : Disk) (w : Site) (p : Pair) (l : List Slot) (u : Slot) (r : Lis
   far_back : Each Far back
   far_back = flipped back (avoids_behind (w.chain ++ ahead) p back g.pair distinct_there (pair_back g.pair p.at k.pair))
 
-  hides : unmoved g p ≡ l ++ r
+  hides : slots_not_moved g p ≡ l ++ r
   hides = ap₂ (λ k b. cond (nat_eq k 0x4ff && b) (remove p.content.slots g.id) p.content.slots) k.kind k.pair ∙ ap₂ (λ s i. remove s i) k.held k.id ∙ remove_here l r u
 
-  hidden_none : (ss : List Pair) → Each Far ss → flat_map (unmoved g) ss ≡ slots_in ss
+  hidden_none : (ss : List Pair) → Each Far ss → flat_map (slots_not_moved g) ss ≡ slots_in ss
   hidden_none [] h = refl
   hidden_none (s ∷ ss) h = ap₂ (λ x y. x ++ y) (unmoved_elsewhere g s h.0) (hidden_none ss h.1)
 
@@ -110,19 +110,19 @@ module _ (disk : Disk) (w : Site) (p : Pair) (l : List Slot) (u : Slot) (r : Lis
       was = append-nil p.content.slots ∙ k.held;
       is = x.is;
       other = k.other;
-      hidden = append-nil (unmoved g p) ∙ hides;
+      hidden = append-nil (slots_not_moved g p) ∙ hides;
       elsewhere = each_append Far w.chain (ahead ++ back) (each_left Far w.chain ahead far_front) (each_append Far ahead back (each_right Far w.chain ahead far_front) far_back);
     }
 
     end_put : IsPut disk w p q [] l (u ∷ []) [] r
     end_put = record { writable = k.writable; was = k.held; is = x.is; became = x.became; fit = tt; filled = k.filled }
 
-    pub ended : IsTaken disk (thread_at w (p ∷ [])) new (thread_at w (q ∷ [])) (λ t. t) (λ d. d)
+    pub ended : IsOnlyStep disk (thread_at w (p ∷ [])) new (thread_at w (q ∷ [])) (λ t. t) (λ d. d)
     ended = end_taken disk new w p q [] l u r (λ t. t) (λ d. d) end_put end_step
         (move_ends disk new w p [] q [] l u r end_step (λ e. k.accepted.reached (sym (ap (λ (z : Gstate). z.sync) ended_state) ∙ e)))
 
     -- the directories begin where they did
-    pub ended_firsts : firsts (directories_in qs) ≡ firsts (directories_in ps)
+    pub ended_firsts : first_addresses (directories_in qs) ≡ first_addresses (directories_in ps)
     ended_firsts = end_firsts disk new w p [] q [] l u r end_step
 
     -- ---- the blocks that the image uses
@@ -137,9 +137,9 @@ module _ (disk : Disk) (w : Site) (p : Pair) (l : List Slot) (u : Slot) (r : Lis
     visible_same : all_slots qs ≡ all_slots ps
     visible_same = unmoved_in (gstate_of qs) still_none qs ∙ slots_three (λ s. s.content.slots) (q ∷ [])
         ∙ ap₂ (λ a z. a ++ (slots_in ahead ++ z)) (sym (hidden_none w.chain (each_left Far w.chain ahead far_front)))
-        (ap₂ (λ a z. a ++ z) (x.is ∙ sym hides ∙ sym (append-nil (unmoved g p))) (sym (hidden_none back far_back)))
-        ∙ ap (λ z. flat_map (unmoved g) w.chain ++ (z ++ (flat_map (unmoved g) (p ∷ []) ++ flat_map (unmoved g) back))) (sym (hidden_none ahead (each_right Far w.chain ahead far_front)))
-        ∙ sym (slots_three (unmoved g) (p ∷ []))
+        (ap₂ (λ a z. a ++ z) (x.is ∙ sym hides ∙ sym (append-nil (slots_not_moved g p))) (sym (hidden_none back far_back)))
+        ∙ ap (λ z. flat_map (slots_not_moved g) w.chain ++ (z ++ (flat_map (slots_not_moved g) (p ∷ []) ++ flat_map (slots_not_moved g) back))) (sym (hidden_none ahead (each_right Far w.chain ahead far_front)))
+        ∙ sym (slots_three (slots_not_moved g) (p ∷ []))
 
     pub ended_count : (b : ℕ) → count b (used_blocks new qs) ≡ count b (used_blocks disk ps)
     ended_count b =

@@ -16,17 +16,17 @@ use Rattle.lfs_model.proofs.Counts.{Each, each_right, count}
 use Rattle.lfs_model.proofs.Histories.{LeavesOnly-weaker}
 use Rattle.lfs_model.proofs.Indexes.{HasSite, site_of_number}
 use Rattle.lfs_model.proofs.Listings.{IsRun}
-use Rattle.lfs_model.proofs.MoveSets.{firsts}
-use Rattle.lfs_model.proofs.Sites.{Among, IsSite, Site, among_left, among_parts, among_right, dirs_at, thread_at}
+use Rattle.lfs_model.proofs.MoveSets.{first_addresses}
+use Rattle.lfs_model.proofs.Sites.{SomeIn, IsSite, Site, among_left, among_parts, among_right, dirs_at, thread_at}
 use Rattle.lfs_model.proofs.Splices.{IsDevice}
-use Rattle.lfs_model.proofs.StepsTaken.{IsTaken}
+use Rattle.lfs_model.proofs.StepsTaken.{IsOnlyStep}
 use Rattle.lfs_model.proofs.Superblocks.{IsChain}
-use Rattle.lfs_model.proofs.Writable.{flag}
+use Rattle.lfs_model.proofs.Writable.{ends_in_hard_tail}
 use Rattle.lfs_thread.specs.Device.{StopsLeave}
 use Rattle.lfs_thread.specs.Kept.{Kept}
 use Rattle.lfs_thread.specs.Steps.{IsWrittenAs, no_pair, pair_in, without_pair}
 use Rattle.lfs_operations.specs.Dropping.{CanDropAt, HasDroppedBehind, IsLeftByDrop, taken_over, with_tail_taken}
-use Rattle.lfs_operations.specs.MoveEnds.{CanEnd, HasEnded, is_led, sync_in}
+use Rattle.lfs_operations.specs.MoveEnds.{CanEndMoveAt, HasEndedMoveAt, follows_hard_tail, sync_in}
 use Rattle.lfs_operations.proofs.Dropped.{device_dropped, device_kept, profile_same}
 use Rattle.lfs_operations.proofs.DroppedTails.{front_is, gone_is, gstate_is, remove_next, without_is}
 use Rattle.lfs_operations.proofs.MovEnding.{get_from, led_is}
@@ -38,7 +38,7 @@ use Rattle.lfs_operations.proofs.RemovedWhole.{LastPair, last_pair, only_slot, o
 sync_state : (g : Gstate) → IsMoveState (sync_in g)
 sync_state g = record { kind = omega arith; id = omega arith; pair = (omega arith, omega arith) }
 
-module _ (t : Kept) (index id : ℕ) (can : CanEnd t index id true) where
+module _ (t : Kept) (index id : ℕ) (can : CanEndMoveAt t index id true) where
   abbrev h : HasSite t.pairs index
   h = site_of_number t.disk t.pairs index can.accepted can.begins can.below
 
@@ -70,11 +70,11 @@ module _ (t : Kept) (index id : ℕ) (can : CanEnd t index id true) where
 
   -- ---- the pair in front
 
-  led : flag false (v.before ++ v.left) ≡ true
-  led = sym (ap (λ z. is_led z index) h.is ∙ led_is v o index h.is_site.chain h.number) ∙ (can.alone refl).0
+  led : ends_in_hard_tail false (v.before ++ v.left) ≡ true
+  led = sym (ap (λ z. follows_hard_tail z index) h.is ∙ led_is v o index h.is_site.chain h.number) ∙ (can.alone refl).0
 
   some_left : v.left ≢ []
-  some_left none = absurd (let z = sym led ∙ ap (λ z. flag false (v.before ++ z)) none ∙ ap (flag false) (append-nil v.before) ∙ flag_ends v.before h.is_site.ends in cc)
+  some_left none = absurd (let z = sym led ∙ ap (λ z. ends_in_hard_tail false (v.before ++ z)) none ∙ ap (ends_in_hard_tail false) (append-nil v.before) ∙ flag_ends v.before h.is_site.ends in cc)
 
   front : LastPair v.left
   front = last_pair v.left some_left
@@ -185,29 +185,29 @@ module _ (t : Kept) (index id : ℕ) (can : CanEnd t index id true) where
         (subst (IsDevice t.disk disk (ahead ++ x ∷ o ∷ back)) (sym (grouped (q ∷ []))) (device_dropped t (index - 1) ahead x o back is number (subst (IsAccepted t.disk) is can.accepted) disk c slots_same written));
   }
 
-  goes_on : (disk : Disk) → IsWrittenAs t (index - 1) c disk → IsTaken t.disk (thread_at w (x ∷ o ∷ [])) disk (thread_at w (q ∷ [])) (λ t. t) (λ d. d)
+  goes_on : (disk : Disk) → IsWrittenAs t (index - 1) c disk → IsOnlyStep t.disk (thread_at w (x ∷ o ∷ [])) disk (thread_at w (q ∷ [])) (λ t. t) (λ d. d)
   goes_on disk written = whole_ended t.disk w x o u ending disk q (over_on disk written)
 
   -- the others stay
-  still_there : (z : Pair) → z.content.slots ≡ [] → is_hard z.content.tail ≡ false → Among (λ y. y ≡ z) (ahead ++ x ∷ o ∷ back) → Among (λ y. y ≡ z) (ahead ++ q ∷ back)
+  still_there : (z : Pair) → z.content.slots ≡ [] → is_hard z.content.tail ≡ false → SomeIn (λ y. y ≡ z) (ahead ++ x ∷ o ∷ back) → SomeIn (λ y. y ≡ z) (ahead ++ q ∷ back)
   still_there z none soft among = go (among_parts (λ y. y ≡ z) ahead (x ∷ o ∷ back) among)
     where
-      behind : Among (λ y. y ≡ z) (x ∷ o ∷ back) → Among (λ y. y ≡ z) (q ∷ back)
+      behind : SomeIn (λ y. y ≡ z) (x ∷ o ∷ back) → SomeIn (λ y. y ≡ z) (q ∷ back)
       behind (inl e) = absurd (let k = sym hard ∙ ap (λ (y : Pair). is_hard y.content.tail) e ∙ soft in cc)
       behind (inr (inl e)) = absurd (let k = sym held ∙ ap (λ (y : Pair). y.content.slots) e ∙ none in cc)
       behind (inr (inr a)) = inr a
 
-      go : Among (λ y. y ≡ z) ahead ⊎ Among (λ y. y ≡ z) (x ∷ o ∷ back) → Among (λ y. y ≡ z) (ahead ++ q ∷ back)
+      go : SomeIn (λ y. y ≡ z) ahead ⊎ SomeIn (λ y. y ≡ z) (x ∷ o ∷ back) → SomeIn (λ y. y ≡ z) (ahead ++ q ∷ back)
       go (inl a) = among_left (λ y. y ≡ z) ahead (q ∷ back) a
       go (inr a) = among_right (λ y. y ≡ z) ahead (q ∷ back) (behind a)
 
-  pub has_gone : (new : Kept) → HasDroppedBehind t (index - 1) (sync_in (gstate_of t.pairs)) new → HasEnded t index id true new
+  pub has_gone : (new : Kept) → HasDroppedBehind t (index - 1) (sync_in (gstate_of t.pairs)) new → HasEndedMoveAt t index id true new
   has_gone new d =
       let pairs : new.pairs ≡ thread_at w (q ∷ []) = d.pairs ∙ without_is t (index - 1) ahead x o back is number c ∙ sym (grouped (q ∷ [])) in
       let taken = goes_on new.disk d.written in
       let left : remove t.pairs index ≡ ahead ++ x ∷ back = ap₂ (λ (z : List Pair) (i : ℕ). remove z i) is (sym place) ∙ remove_next ahead x o back in
       record {
-        taken = subst (λ z. IsTaken t.disk z new.disk new.pairs (λ t. t) (λ d. d)) (sym there) (subst (λ z. IsTaken t.disk (thread_at w (x ∷ o ∷ [])) new.disk z (λ t. t) (λ d. d)) (sym pairs) taken);
+        taken = subst (λ z. IsOnlyStep t.disk z new.disk new.pairs (λ t. t) (λ d. d)) (sym there) (subst (λ z. IsOnlyStep t.disk (thread_at w (x ∷ o ∷ [])) new.disk z (λ t. t) (λ d. d)) (sym pairs) taken);
         state = d.gstate;
         alike = subst (λ z. AreAlike z new.pairs) (sym left) (subst (AreAlike (ahead ++ x ∷ back)) (sym (pairs ∙ grouped (q ∷ [])))
             (alike_append ahead (x ∷ back) ahead (q ∷ back) (alike_itself ahead) (refl, slots_same, alike_itself back)));
@@ -219,8 +219,8 @@ module _ (t : Kept) (index id : ℕ) (can : CanEnd t index id true) where
             let k = ap (λ (z : Pair). count b (z.at.0 ∷ z.at.1 ∷ [])) here in
             omega arith;
         shape = d.written.shape;
-        begins = ap (λ z. firsts (directories_in z)) pairs ∙ whole_firsts t.disk w x o u ending new.disk q (over_on new.disk d.written) ∙ ap (λ z. firsts (directories_in z)) (sym there);
-        kept = λ z none soft among. subst (Among (λ y. y ≡ z)) (sym (pairs ∙ grouped (q ∷ []))) (still_there z none soft (subst (Among (λ y. y ≡ z)) is among));
+        begins = ap (λ z. first_addresses (directories_in z)) pairs ∙ whole_firsts t.disk w x o u ending new.disk q (over_on new.disk d.written) ∙ ap (λ z. first_addresses (directories_in z)) (sym there);
+        kept = λ z none soft among. subst (SomeIn (λ y. y ≡ z)) (sym (pairs ∙ grouped (q ∷ []))) (still_there z none soft (subst (SomeIn (λ y. y ≡ z)) is among));
       }
 
   -- ---- at a stop

@@ -5,7 +5,7 @@ use Rattle.std.proofs.lemmas.List.Concat.{flat_map-append}
 use Rattle.std.proofs.lemmas.List.Elements.{recursion_from_All}
 use Rattle.lfs_model.specs.Disk.{Disk}
 use Rattle.lfs_model.specs.Slots.{Slot, Gstate, is_superblock, same_pair}
-use Rattle.lfs_model.specs.Thread.{Pair, blocks_of, gstate_of, starts_with_superblock, unmoved}
+use Rattle.lfs_model.specs.Thread.{Pair, blocks_of, gstate_of, starts_with_superblock, slots_not_moved}
 use Rattle.lfs_model.specs.View.{IsAccepted}
 use Rattle.lfs_model.specs.Profile.{IsWritable}
 use Rattle.lfs_model.specs.Shown.{all_slots, directories_in, used_blocks}
@@ -20,8 +20,8 @@ use Rattle.lfs_model.proofs.Rests.{IsMoveEnd, move_ends, unmoved_elsewhere}
 use Rattle.lfs_model.proofs.Searches.{avoids_behind, avoids_front}
 use Rattle.lfs_model.proofs.Sites.{Site, dirs_at, thread_at, IsSite}
 use Rattle.lfs_model.proofs.Splices.{drop_shape, files_of, slots_in, unmoved_in, IsDevice}
-use Rattle.lfs_model.proofs.StepsTaken.{IsTaken, end_drop_taken}
-use Rattle.lfs_model.proofs.MoveSets.{firsts}
+use Rattle.lfs_model.proofs.StepsTaken.{IsOnlyStep, end_drop_taken}
+use Rattle.lfs_model.proofs.MoveSets.{first_addresses}
 use Rattle.lfs_operations.specs.MoveEnds.{sync_in}
 use Rattle.lfs_operations.proofs.MovFirsts.{end_firsts}
 
@@ -81,14 +81,14 @@ module _ (disk : Disk) (w : Site) (p o : Pair) (u : Slot) (k : IsEndingWhole dis
   far_back : Each Far back
   far_back = flipped back (avoids_behind ((w.chain ++ ahead) ++ p ∷ []) o back g.pair distinct_there (pair_back g.pair o.at k.pair))
 
-  hides : unmoved g o ≡ []
+  hides : slots_not_moved g o ≡ []
   hides = ap₂ (λ k b. cond (nat_eq k 0x4ff && b) (remove o.content.slots g.id) o.content.slots) k.kind k.pair ∙ ap₂ (λ s i. remove s i) k.held k.id
 
-  hidden_none : (ss : List Pair) → Each Far ss → flat_map (unmoved g) ss ≡ slots_in ss
+  hidden_none : (ss : List Pair) → Each Far ss → flat_map (slots_not_moved g) ss ≡ slots_in ss
   hidden_none [] h = refl
   hidden_none (s ∷ ss) h = ap₂ (λ x y. x ++ y) (unmoved_elsewhere g s h.0) (hidden_none ss h.1)
 
-  hidden_two : flat_map (unmoved g) (p ∷ o ∷ []) ≡ p.content.slots ++ []
+  hidden_two : flat_map (slots_not_moved g) (p ∷ o ∷ []) ≡ p.content.slots ++ []
   hidden_two = ap₂ (λ x y. x ++ (y ++ [])) (unmoved_elsewhere g p far_p) hides
 
   module _ (new : Disk) (q : Pair) (x : HasTakenOver disk w p o new q) where
@@ -112,12 +112,12 @@ module _ (disk : Disk) (w : Site) (p o : Pair) (u : Slot) (k : IsEndingWhole dis
       elsewhere = each_append Far w.chain (ahead ++ back) (each_left Far w.chain ahead far_ahead) (each_append Far ahead back (each_right Far w.chain ahead far_ahead) far_back);
     }
 
-    pub whole_ended : IsTaken disk (thread_at w (p ∷ o ∷ [])) new (thread_at w (q ∷ [])) (λ t. t) (λ d. d)
+    pub whole_ended : IsOnlyStep disk (thread_at w (p ∷ o ∷ [])) new (thread_at w (q ∷ [])) (λ t. t) (λ d. d)
     whole_ended = end_drop_taken disk w p o q (record { writable = k.writable; tail = x.tail; slots = x.slots }) new p.content.slots u [] (λ t. t) (λ d. d) whole_step
         (move_ends disk new w p (o ∷ []) q [] p.content.slots u [] whole_step (λ e. k.accepted.reached (sym (ap (λ (z : Gstate). z.sync) x.state) ∙ e)))
 
     -- the directories begin where they did
-    pub whole_firsts : firsts (directories_in (thread_at w (q ∷ []))) ≡ firsts (directories_in (thread_at w (p ∷ o ∷ [])))
+    pub whole_firsts : first_addresses (directories_in (thread_at w (q ∷ []))) ≡ first_addresses (directories_in (thread_at w (p ∷ o ∷ [])))
     whole_firsts = end_firsts disk new w p (o ∷ []) q [] p.content.slots u [] whole_step
 
     -- ---- the blocks that the image uses
@@ -133,8 +133,8 @@ module _ (disk : Disk) (w : Site) (p o : Pair) (u : Slot) (k : IsEndingWhole dis
     visible_same = unmoved_in (gstate_of (thread_at w (q ∷ []))) still_none (thread_at w (q ∷ [])) ∙ slots_three (λ s. s.content.slots) (q ∷ [])
         ∙ ap₂ (λ a z. a ++ (slots_in ahead ++ z)) (sym (hidden_none w.chain (each_left Far w.chain ahead far_ahead)))
         (ap₂ (λ a z. a ++ z) (ap (λ z. z ++ []) x.slots ∙ sym hidden_two) (sym (hidden_none back far_back)))
-        ∙ ap (λ z. flat_map (unmoved g) w.chain ++ (z ++ (flat_map (unmoved g) (p ∷ o ∷ []) ++ flat_map (unmoved g) back))) (sym (hidden_none ahead (each_right Far w.chain ahead far_ahead)))
-        ∙ sym (slots_three (unmoved g) (p ∷ o ∷ []))
+        ∙ ap (λ z. flat_map (slots_not_moved g) w.chain ++ (z ++ (flat_map (slots_not_moved g) (p ∷ o ∷ []) ++ flat_map (slots_not_moved g) back))) (sym (hidden_none ahead (each_right Far w.chain ahead far_ahead)))
+        ∙ sym (slots_three (slots_not_moved g) (p ∷ o ∷ []))
 
     -- those that it used, without the pair's
     pub whole_count : (b : ℕ) → count b (used_blocks new (thread_at w (q ∷ []))) + count b (blocks_of (o ∷ [])) ≡ count b (used_blocks disk (thread_at w (p ∷ o ∷ [])))

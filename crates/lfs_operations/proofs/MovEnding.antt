@@ -24,16 +24,16 @@ use Rattle.lfs_model.proofs.Counts.{Each, each_right, count}
 use Rattle.lfs_model.proofs.Effects.{deletes, does_first, does_nothing, puts_move}
 use Rattle.lfs_model.proofs.Histories.{LeavesOnly-weaker}
 use Rattle.lfs_model.proofs.Indexes.{HasSite, site_of_number}
-use Rattle.lfs_model.proofs.MoveSets.{firsts}
+use Rattle.lfs_model.proofs.MoveSets.{first_addresses}
 use Rattle.lfs_model.proofs.Moves.{remove_here}
-use Rattle.lfs_model.proofs.Sites.{Among, Site, among_left, among_parts, among_right, dirs_at, thread_at}
-use Rattle.lfs_model.proofs.StepsTaken.{IsTaken}
+use Rattle.lfs_model.proofs.Sites.{SomeIn, Site, among_left, among_parts, among_right, dirs_at, thread_at}
+use Rattle.lfs_model.proofs.StepsTaken.{IsOnlyStep}
 use Rattle.lfs_model.proofs.Superblocks.{pairs_behind}
-use Rattle.lfs_model.proofs.Writable.{flag}
+use Rattle.lfs_model.proofs.Writable.{ends_in_hard_tail}
 use Rattle.lfs_thread.specs.Device.{StopsLeave}
 use Rattle.lfs_thread.specs.Kept.{Kept}
-use Rattle.lfs_thread.specs.Steps.{CanChange, IsChanged, IsLeftByChange, IsRefused, SlotsHaveFirst, made_in_thread, no_pair, pair_in, with_pair}
-use Rattle.lfs_operations.specs.MoveEnds.{CanEnd, HasEnded, content_without, end_changes, is_led, move_in, delta_without_move, sync_in}
+use Rattle.lfs_thread.specs.Steps.{CanChange, IsChanged, IsLeftByChange, IsCommitRefused, SlotsHaveFirst, made_in_thread, no_pair, pair_in, with_pair}
+use Rattle.lfs_operations.specs.MoveEnds.{CanEndMoveAt, HasEndedMoveAt, content_without, end_changes, follows_hard_tail, move_in, delta_without_move, sync_in}
 use Rattle.lfs_operations.proofs.Held.{CompletesTo, completes_to}
 use Rattle.lfs_operations.proofs.MovEnd.{IsEnding, ended, ended_count, ended_firsts, ended_state}
 use Rattle.lfs_operations.proofs.MovSet.{HasTurned}
@@ -56,12 +56,12 @@ take_front : (xs ys : List Pair) (n : ℕ) → n ≡ length xs → take n (xs ++
 take_front [] ys n e = ap (λ k. take k ys) e
 take_front (x ∷ xs) ys n e = ap (λ k. take k (x ∷ (xs ++ ys))) e ∙ ap (λ z. x ∷ z) (take_front xs ys (length xs) refl)
 
-pub led_is : (w : Site) (p : Pair) (i : ℕ) → superblocks_before (thread_at w (p ∷ [])) ≡ length w.chain → length (w.chain ++ (w.before ++ w.left)) ≡ i → is_led (thread_at w (p ∷ [])) i ≡ flag false (w.before ++ w.left)
+pub led_is : (w : Site) (p : Pair) (i : ℕ) → superblocks_before (thread_at w (p ∷ [])) ≡ length w.chain → length (w.chain ++ (w.before ++ w.left)) ≡ i → follows_hard_tail (thread_at w (p ∷ [])) i ≡ ends_in_hard_tail false (w.before ++ w.left)
 led_is w p i chain number =
-    ap₂ (λ n z. flag false (take (i - n) z)) chain (pairs_behind w.chain (dirs_at w (p ∷ [])) chain)
-    ∙ ap (flag false) (take_front (w.before ++ w.left) (p ∷ [] ++ (w.right ++ w.after)) (i - length w.chain) (let l = length-append w.chain (w.before ++ w.left) in omega arith))
+    ap₂ (λ n z. ends_in_hard_tail false (take (i - n) z)) chain (pairs_behind w.chain (dirs_at w (p ∷ [])) chain)
+    ∙ ap (ends_in_hard_tail false) (take_front (w.before ++ w.left) (p ∷ [] ++ (w.right ++ w.after)) (i - length w.chain) (let l = length-append w.chain (w.before ++ w.left) in omega arith))
 
-module _ (t : Kept) (pair id : ℕ) (can : CanEnd t pair id false) (address : IsAddress (delta_without_move t pair).pair) where
+module _ (t : Kept) (pair id : ℕ) (can : CanEndMoveAt t pair id false) (address : IsAddress (delta_without_move t pair).pair) where
   abbrev h : HasSite t.pairs pair
   h = site_of_number t.disk t.pairs pair can.accepted can.begins can.below
 
@@ -168,7 +168,7 @@ module _ (t : Kept) (pair id : ℕ) (can : CanEnd t pair id false) (address : Is
       let n = f.count in
       record { size = omega arith; count = omega arith }
 
-  pub end_not_refused : (new : Kept) → IsRefused t pair (end_changes t pair id) new → ⊥
+  pub end_not_refused : (new : Kept) → IsCommitRefused t pair (end_changes t pair id) new → ⊥
   end_not_refused new is = is.too_large (subst (FitsPair t.disk.block_size t.disk.page) (sym (same_Some is.content (content_with p (l ++ r) move) (sym is.made ∙ made))) still_fits)
 
   -- ---- in the image
@@ -187,9 +187,9 @@ module _ (t : Kept) (pair id : ℕ) (can : CanEnd t pair id false) (address : Is
     first = λ e. first_kept l (subst SlotsHaveFirst held (e.kind, e.name));
   }
 
-  filled : flag false (w.before ++ w.left) ≡ true → l ++ r ≢ []
+  filled : ends_in_hard_tail false (w.before ++ w.left) ≡ true → l ++ r ≢ []
   filled hard none =
-      let led = ap (λ z. is_led z pair) h.is ∙ led_is w p pair h.is_site.chain h.number ∙ hard in
+      let led = ap (λ z. follows_hard_tail z pair) h.is ∙ led_is w p pair h.is_site.chain h.number ∙ hard in
       let many = can.stays refl led in
       let e = ap length can.stands.held in
       let i = length-append l (u ∷ r) in
@@ -220,46 +220,46 @@ module _ (t : Kept) (pair id : ℕ) (can : CanEnd t pair id false) (address : Is
   abbrev pub q_of : Pair
   q_of = record { at = p.at; content = content_with p (l ++ r) move }
 
-  pub turned_alone : (disk : Disk) → HasTurned t.disk w p (l ++ r) move disk q_of [] → IsTaken t.disk (thread_at w (p ∷ [])) disk (thread_at w (q_of ∷ [])) (λ t. t) (λ d. d)
+  pub turned_alone : (disk : Disk) → HasTurned t.disk w p (l ++ r) move disk q_of [] → IsOnlyStep t.disk (thread_at w (p ∷ [])) disk (thread_at w (q_of ∷ [])) (λ t. t) (λ d. d)
   turned_alone disk x = ended t.disk w p l u r ending disk q_of (subst (λ m. HasTurned t.disk w p (l ++ r) m disk q_of []) move_is x)
 
   -- the others stay
-  still_there : (z : Pair) → z.content.slots ≡ [] → Among (λ y. y ≡ z) (thread_at w (p ∷ [])) → Among (λ y. y ≡ z) (thread_at w (q_of ∷ []))
+  still_there : (z : Pair) → z.content.slots ≡ [] → SomeIn (λ y. y ≡ z) (thread_at w (p ∷ [])) → SomeIn (λ y. y ≡ z) (thread_at w (q_of ∷ []))
   still_there z none among = past (among_parts (λ y. y ≡ z) w.chain (dirs_at w (p ∷ [])) among)
     where
       has_none : (xs : List Slot) → xs ++ u ∷ r ≡ [] → ⊥
       has_none [] e = absurd (cc)
       has_none (s ∷ xs) e = absurd (cc)
 
-      behind : Among (λ y. y ≡ z) (p ∷ (w.right ++ w.after)) → Among (λ y. y ≡ z) (q_of ∷ (w.right ++ w.after))
+      behind : SomeIn (λ y. y ≡ z) (p ∷ (w.right ++ w.after)) → SomeIn (λ y. y ≡ z) (q_of ∷ (w.right ++ w.after))
       behind (inl is) = absurd (has_none l (sym held ∙ ap (λ (y : Pair). y.content.slots) is ∙ none))
       behind (inr a) = inr a
 
-      within_dirs : Among (λ y. y ≡ z) (w.before ++ w.left) ⊎ Among (λ y. y ≡ z) (p ∷ (w.right ++ w.after)) → Among (λ y. y ≡ z) (thread_at w (q_of ∷ []))
+      within_dirs : SomeIn (λ y. y ≡ z) (w.before ++ w.left) ⊎ SomeIn (λ y. y ≡ z) (p ∷ (w.right ++ w.after)) → SomeIn (λ y. y ≡ z) (thread_at w (q_of ∷ []))
       within_dirs (inl a) = among_right (λ y. y ≡ z) w.chain (dirs_at w (q_of ∷ [])) (among_left (λ y. y ≡ z) (w.before ++ w.left) (q_of ∷ (w.right ++ w.after)) a)
       within_dirs (inr a) = among_right (λ y. y ≡ z) w.chain (dirs_at w (q_of ∷ [])) (among_right (λ y. y ≡ z) (w.before ++ w.left) (q_of ∷ (w.right ++ w.after)) (behind a))
 
-      past : Among (λ y. y ≡ z) w.chain ⊎ Among (λ y. y ≡ z) (dirs_at w (p ∷ [])) → Among (λ y. y ≡ z) (thread_at w (q_of ∷ []))
+      past : SomeIn (λ y. y ≡ z) w.chain ⊎ SomeIn (λ y. y ≡ z) (dirs_at w (p ∷ [])) → SomeIn (λ y. y ≡ z) (thread_at w (q_of ∷ []))
       past (inl a) = among_left (λ y. y ≡ z) w.chain (dirs_at w (q_of ∷ [])) a
       past (inr a) = within_dirs (among_parts (λ y. y ≡ z) (w.before ++ w.left) (p ∷ (w.right ++ w.after)) a)
 
-  pub has_ended : (new : Kept) → IsChanged t pair (end_changes t pair id) new → HasEnded t pair id false new
+  pub has_ended : (new : Kept) → IsChanged t pair (end_changes t pair id) new → HasEndedMoveAt t pair id false new
   has_ended new is = go (changed_one t pair (end_changes t pair id) w p (l ++ r) move turn new is)
     where
-      go : ChangedOne t pair w p (l ++ r) move new → HasEnded t pair id false new
+      go : ChangedOne t pair w p (l ++ r) move new → HasEndedMoveAt t pair id false new
       go x =
           let taken = turned_alone new.disk x.turned in
           let y = subst (λ m. HasTurned t.disk w p (l ++ r) m new.disk q_of []) move_is x.turned in
           record {
-            taken = subst (λ z. IsTaken t.disk z new.disk new.pairs (λ t. t) (λ d. d)) (sym h.is) (subst (λ z. IsTaken t.disk (thread_at w (p ∷ [])) new.disk z (λ t. t) (λ d. d)) (sym x.pairs) taken);
+            taken = subst (λ z. IsOnlyStep t.disk z new.disk new.pairs (λ t. t) (λ d. d)) (sym h.is) (subst (λ z. IsOnlyStep t.disk (thread_at w (p ∷ [])) new.disk z (λ t. t) (λ d. d)) (sym x.pairs) taken);
             state = ap gstate_of x.pairs ∙ ended_state t.disk w p l u r ending new.disk q_of y ∙ ap (λ z. sync_in (gstate_of z)) (sym h.is);
             alike = subst (AreAlike (with_pair t pair (content_without t pair id))) (sym (x.is ∙ ap (λ d. with_pair t pair d) (ap₂ (λ s (z : Pair). record { slots = s; tail = z.content.tail; move = move })
                 (sym slots_now ∙ ap (λ (z : Pair). remove z.content.slots id) (sym here)) (sym here)))) (alike_itself (with_pair t pair (content_without t pair id)));
             map = x.map;
             blocks = λ b. (let e = ap (λ z. count b (used_blocks new.disk z)) x.pairs ∙ ended_count t.disk w p l u r ending new.disk q_of y b ∙ ap (λ z. count b (used_blocks t.disk z)) (sym h.is) in omega arith);
             shape = x.shape;
-            begins = ap (λ z. firsts (directories_in z)) x.pairs ∙ ended_firsts t.disk w p l u r ending new.disk q_of y ∙ ap (λ z. firsts (directories_in z)) (sym h.is);
-            kept = λ z none soft among. subst (Among (λ y. y ≡ z)) (sym x.pairs) (still_there z none (subst (Among (λ y. y ≡ z)) h.is among));
+            begins = ap (λ z. first_addresses (directories_in z)) x.pairs ∙ ended_firsts t.disk w p l u r ending new.disk q_of y ∙ ap (λ z. first_addresses (directories_in z)) (sym h.is);
+            kept = λ z none soft among. subst (SomeIn (λ y. y ≡ z)) (sym x.pairs) (still_there z none (subst (SomeIn (λ y. y ≡ z)) h.is among));
           }
 
   -- ---- at a stop

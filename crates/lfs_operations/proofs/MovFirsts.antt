@@ -2,12 +2,12 @@
 use Rattle.std.proofs.Common.{ℕ, ◌≡◌, List, [], ◌∷◌, ◌++◌, refl, sym, ap, ◌∙◌}
 use Rattle.lfs_model.specs.Disk.{Disk}
 use Rattle.lfs_model.specs.Slots.{Gstate, Slot}
-use Rattle.lfs_model.specs.Thread.{Pair, directories_of, gstate_of, visible}
+use Rattle.lfs_model.specs.Thread.{Pair, directories_of, gstate_of, entries_not_moved}
 use Rattle.lfs_model.specs.Shown.{directories_in}
 use Rattle.lfs_model.proofs.Changes.{chain_now, rearranged_chain}
 use Rattle.lfs_model.proofs.Counts.{each_always}
 use Rattle.lfs_model.proofs.Listings.{IsRun, SameVisible}
-use Rattle.lfs_model.proofs.MoveSets.{IsMoveSet, SameAround, firsts, firsts_same, set_rearranged, site_firsts}
+use Rattle.lfs_model.proofs.MoveSets.{IsMoveSet, SameAround, first_addresses, firsts_same, set_rearranged, site_firsts}
 use Rattle.lfs_model.proofs.Rests.{IsMoveEnd, end_change}
 use Rattle.lfs_model.proofs.Sites.{Site, dirs_at, run_changed, thread_at}
 use Rattle.lfs_model.proofs.Superblocks.{IsChain, pairs_behind}
@@ -26,15 +26,15 @@ module _ (disk new : Disk) (w : Site) (p : Pair) (mid : List Pair) (q : Pair) (m
   run_after = run_changed w.left p (mid ++ w.right) q (more ++ w.right) (step.shape.run w.right) step.site.run
 
   same_under : (k : Gstate) (ss : List Pair) → SameVisible k k ss
-  same_under k ss = each_always (λ s. visible k s ≡ visible k s) (λ s. refl) ss
+  same_under k ss = each_always (λ s. entries_not_moved k s ≡ entries_not_moved k s) (λ s. refl) ss
 
   around : SameAround h h w
   around = record { before = same_under h w.before; left = same_under h w.left; right = same_under h w.right; after = same_under h w.after }
 
-  pub end_firsts : firsts (directories_in (thread_at w (q ∷ more))) ≡ firsts (directories_in (thread_at w (p ∷ mid)))
-  end_firsts = ap (λ z. firsts (directories_of h z)) (pairs_behind w.chain (dirs_at w (q ∷ more)) chain_after)
+  pub end_firsts : first_addresses (directories_in (thread_at w (q ∷ more))) ≡ first_addresses (directories_in (thread_at w (p ∷ mid)))
+  end_firsts = ap (λ z. first_addresses (directories_of h z)) (pairs_behind w.chain (dirs_at w (q ∷ more)) chain_after)
       ∙ site_firsts h h w p mid q more step.site.ends step.site.run run_after step.shape.at around
-      ∙ firsts_same g h (dirs_at w (p ∷ mid)) ∙ ap (λ z. firsts (directories_of g z)) (sym (pairs_behind w.chain (dirs_at w (p ∷ mid)) step.site.chain))
+      ∙ firsts_same g h (dirs_at w (p ∷ mid)) ∙ ap (λ z. first_addresses (directories_of g z)) (sym (pairs_behind w.chain (dirs_at w (p ∷ mid)) step.site.chain))
 
 -- ---- where one is set
 
@@ -53,12 +53,12 @@ module _ (disk new : Disk) (wo : Site) (o : Pair) (lo : List Slot) (u : Slot) (r
   run_set = run_changed w.left p (mid ++ w.right) q (more ++ w.right) (step.shape.run w.right) step.site.run
 
   same_set : (k : Gstate) (ss : List Pair) → SameVisible k k ss
-  same_set k ss = each_always (λ s. visible k s ≡ visible k s) (λ s. refl) ss
+  same_set k ss = each_always (λ s. entries_not_moved k s ≡ entries_not_moved k s) (λ s. refl) ss
 
   around_set : SameAround h2 h2 w
   around_set = record { before = same_set h2 w.before; left = same_set h2 w.left; right = same_set h2 w.right; after = same_set h2 w.after }
 
-  pub set_firsts : firsts (directories_in (thread_at w (q ∷ more))) ≡ firsts (directories_in (thread_at w (p ∷ mid)))
-  set_firsts = ap (λ z. firsts (directories_of h2 z)) (pairs_behind w.chain (dirs_at w (q ∷ more)) chain_set)
+  pub set_firsts : first_addresses (directories_in (thread_at w (q ∷ more))) ≡ first_addresses (directories_in (thread_at w (p ∷ mid)))
+  set_firsts = ap (λ z. first_addresses (directories_of h2 z)) (pairs_behind w.chain (dirs_at w (q ∷ more)) chain_set)
       ∙ site_firsts h2 h2 w p mid q more step.site.ends step.site.run run_set step.shape.at around_set
-      ∙ firsts_same g2 h2 (dirs_at w (p ∷ mid)) ∙ ap (λ z. firsts (directories_of g2 z)) (sym (pairs_behind w.chain (dirs_at w (p ∷ mid)) step.site.chain))
+      ∙ firsts_same g2 h2 (dirs_at w (p ∷ mid)) ∙ ap (λ z. first_addresses (directories_of g2 z)) (sym (pairs_behind w.chain (dirs_at w (p ∷ mid)) step.site.chain))

@@ -20,7 +20,7 @@ use Rattle.lfs_operations.specs.MovingSteps.{EndsAfter, IsPutAndEnded, SurvivesB
 use Rattle.lfs_operations.specs.MovingAcross.{CanRenameAcross, IsRenamedAcross, moving_changes, with_moved}
 use Rattle.lfs_operations.specs.MovingOnto.{CanPutOnto, IsReplacedAcross, onto_changes}
 use Rattle.lfs_operations.specs.Ready.{IsReady}
-use Rattle.lfs_operations.specs.Removing.{goes_whole}
+use Rattle.lfs_operations.specs.Removing.{drops_pair}
 use Rattle.lfs_operations.specs.RenamingSlots.{parts_at}
 use Rattle.lfs_operations.proofs.MovRename.{can_put_across, ends_across, renamed_across, shows_across, survives_across}
 use Rattle.lfs_operations.proofs.MovReplace.{can_put_onto, ends_onto, replaced_across, shows_onto, survives_onto}
@@ -106,8 +106,8 @@ module _ (t mid : Kept) (only : IsOnlyRead t mid) (old_pair old_id first new_pai
   pub can_put_later : CanPut mid new_pair (moving_changes mid old_pair old_id new_pair new_id name)
   can_put_later = subst (λ k. CanPut k new_pair (moving_changes k old_pair old_id new_pair new_id name)) (sym same) (can_put_across later_t old_pair old_id first new_pair new_id name there there_address)
 
-  pub ends_later : (last : Kept) → IsPut mid new_pair (moving_changes mid old_pair old_id new_pair new_id name) last → EndsAfter mid old_pair old_id (goes_whole t old_pair first) new_pair last
-  ends_later = subst (λ k. (last : Kept) → IsPut k new_pair (moving_changes k old_pair old_id new_pair new_id name) last → EndsAfter k old_pair old_id (goes_whole t old_pair first) new_pair last) (sym same)
+  pub ends_later : (last : Kept) → IsPut mid new_pair (moving_changes mid old_pair old_id new_pair new_id name) last → EndsAfter mid old_pair old_id (drops_pair t old_pair first) new_pair last
+  ends_later = subst (λ k. (last : Kept) → IsPut k new_pair (moving_changes k old_pair old_id new_pair new_id name) last → EndsAfter k old_pair old_id (drops_pair t old_pair first) new_pair last) (sym same)
       (ends_across later_t old_pair old_id first new_pair new_id name there there_address)
 
   -- ---- what comes of it
@@ -115,9 +115,9 @@ module _ (t mid : Kept) (only : IsOnlyRead t mid) (old_pair old_id first new_pai
   became_earlier : (new : Kept) → IsRenamedAcross later_t new rename.old.path rename.old.name rename.path name → IsRenamedAcross t new rename.old.path rename.old.name rename.path name
   became_earlier new x = record { now = record { ready = x.now.ready; shows = x.now.shows; flying = x.now.flying; root = x.now.root }; completed = x.completed }
 
-  pub renamed_later : (new : Kept) → IsPutAndEnded mid old_pair old_id (goes_whole t old_pair first) new_pair (moving_changes mid old_pair old_id new_pair new_id name) new → IsRenamedAcross t new rename.old.path rename.old.name rename.path name
+  pub renamed_later : (new : Kept) → IsPutAndEnded mid old_pair old_id (drops_pair t old_pair first) new_pair (moving_changes mid old_pair old_id new_pair new_id name) new → IsRenamedAcross t new rename.old.path rename.old.name rename.path name
   renamed_later new is = became_earlier new (renamed_across later_t old_pair old_id first new_pair new_id name there there_address new
-      (subst (λ k. IsPutAndEnded k old_pair old_id (goes_whole t old_pair first) new_pair (moving_changes k old_pair old_id new_pair new_id name) new) same is))
+      (subst (λ k. IsPutAndEnded k old_pair old_id (drops_pair t old_pair first) new_pair (moving_changes k old_pair old_id new_pair new_id name) new) same is))
 
   pub survives_later : (one : ℕ) (new : Kept) → WritesInTwo mid one new_pair new → SurvivesBoth mid new_pair (moving_changes mid old_pair old_id new_pair new_id name) new
       → Survives t.disk t.history new.history (tree_in t.disk t.pairs) (with_moved t rename.old.path rename.old.name rename.path name)
@@ -152,8 +152,8 @@ module _ (sync : Bool) (t mid : Kept) (only : IsOnlyRead t mid) (old_pair old_id
   pub can_put_onto_later : CanPut mid new_pair (onto_changes sync mid old_pair old_id new_pair new_id name)
   can_put_onto_later = subst (λ k. CanPut k new_pair (onto_changes sync k old_pair old_id new_pair new_id name)) (sym same_u) (can_put_onto sync later_u old_pair old_id first new_pair new_id name onto_there here_address)
 
-  pub ends_onto_later : (last : Kept) → IsPut mid new_pair (onto_changes sync mid old_pair old_id new_pair new_id name) last → EndsAfter mid old_pair old_id (goes_whole t old_pair first) new_pair last
-  ends_onto_later = subst (λ k. (last : Kept) → IsPut k new_pair (onto_changes sync k old_pair old_id new_pair new_id name) last → EndsAfter k old_pair old_id (goes_whole t old_pair first) new_pair last) (sym same_u)
+  pub ends_onto_later : (last : Kept) → IsPut mid new_pair (onto_changes sync mid old_pair old_id new_pair new_id name) last → EndsAfter mid old_pair old_id (drops_pair t old_pair first) new_pair last
+  ends_onto_later = subst (λ k. (last : Kept) → IsPut k new_pair (onto_changes sync k old_pair old_id new_pair new_id name) last → EndsAfter k old_pair old_id (drops_pair t old_pair first) new_pair last) (sym same_u)
       (ends_onto sync later_u old_pair old_id first new_pair new_id name onto_there here_address)
 
   -- ---- what comes of it
@@ -161,9 +161,9 @@ module _ (sync : Bool) (t mid : Kept) (only : IsOnlyRead t mid) (old_pair old_id
   replaced_earlier : (new : Kept) → IsReplacedAcross later_u new rename.old.path rename.old.name rename.path name rename.target.stands.slot.struct → IsReplacedAcross t new rename.old.path rename.old.name rename.path name rename.target.stands.slot.struct
   replaced_earlier new x = record { now = record { ready = x.now.ready; shows = x.now.shows; flying = x.now.flying; root = x.now.root }; once = x.once; completed = x.completed }
 
-  pub replaced_later : sync ≡ false → (new : Kept) → IsPutAndEnded mid old_pair old_id (goes_whole t old_pair first) new_pair (onto_changes sync mid old_pair old_id new_pair new_id name) new → IsReplacedAcross t new rename.old.path rename.old.name rename.path name rename.target.stands.slot.struct
+  pub replaced_later : sync ≡ false → (new : Kept) → IsPutAndEnded mid old_pair old_id (drops_pair t old_pair first) new_pair (onto_changes sync mid old_pair old_id new_pair new_id name) new → IsReplacedAcross t new rename.old.path rename.old.name rename.path name rename.target.stands.slot.struct
   replaced_later plain new is = replaced_earlier new (replaced_across sync later_u old_pair old_id first new_pair new_id name onto_there here_address plain new
-      (subst (λ k. IsPutAndEnded k old_pair old_id (goes_whole t old_pair first) new_pair (onto_changes sync k old_pair old_id new_pair new_id name) new) same_u is))
+      (subst (λ k. IsPutAndEnded k old_pair old_id (drops_pair t old_pair first) new_pair (onto_changes sync k old_pair old_id new_pair new_id name) new) same_u is))
 
   pub survives_onto_later : (one : ℕ) (new : Kept) → WritesInTwo mid one new_pair new → SurvivesBoth mid new_pair (onto_changes sync mid old_pair old_id new_pair new_id name) new
       → Survives t.disk t.history new.history (tree_in t.disk t.pairs) (with_moved t rename.old.path rename.old.name rename.path name)

@@ -5,9 +5,9 @@ use Rattle.lfs_model.specs.declared.order.NameOrder.{NameOrder}
 use Rattle.lfs_model.specs.Disk.{Disk}
 use Rattle.lfs_model.specs.Names.{Name, name_cmp}
 use Rattle.lfs_model.specs.Slots.{Slot, Gstate, is_superblock, same_pair}
-use Rattle.lfs_model.specs.Thread.{Pair, gstate_of, unmoved, visible, directories_of, entries_of}
+use Rattle.lfs_model.specs.Thread.{Pair, gstate_of, slots_not_moved, entries_not_moved, directories_of, entries_of}
 use Rattle.lfs_model.specs.Tree.{Path, Entries}
-use Rattle.lfs_model.specs.Shown.{directories_in, entries_in, Leads}
+use Rattle.lfs_model.specs.Shown.{directories_in, entries_in, PathLeadsTo}
 use Rattle.lfs_model.proofs.Counts.{Each, each_append, each_left, each_right, each_weaker, each_always, each_pieces, each_joined}
 use Rattle.lfs_model.proofs.Global.{unmoved_all}
 use Rattle.lfs_model.proofs.Indexes.{place_between, site_shows}
@@ -70,7 +70,7 @@ each_remove Q slots k h = each_append Q (take k slots) (drop (suc k) slots) (eac
     each_drop (suc k) [] h = tt
     each_drop (suc k) (s ∷ slots) h = each_drop k slots h.1
 
-each_unmoved : (Q : Slot → Type 0) (g : Gstate) (p : Pair) → Each Q p.content.slots → Each Q (unmoved g p)
+each_unmoved : (Q : Slot → Type 0) (g : Gstate) (p : Pair) → Each Q p.content.slots → Each Q (slots_not_moved g p)
 each_unmoved Q g p h = go (nat_eq g.kind 0x4ff && same_pair g.pair p.at)
   where
     go : (b : Bool) → Each Q (cond b (remove p.content.slots g.id) p.content.slots)
@@ -97,9 +97,9 @@ to_entries F (s ∷ ss) h = go (is_superblock s) refl (to_entries F ss h.1)
     go false e rest = (h.0 e, rest)
 
 -- what holds of the entries of pairs holds of those that are visible
-visible_each : (F : Slot → Type 0) (g : Gstate) (ss : List Pair) → Each (IfOther F) (slots_in ss) → Each F (flat_map (visible g) ss)
-visible_each F g ss h = subst (Each F) (sym (hidden_visible g ss)) (to_entries F (flat_map (unmoved g) ss)
-    (each_joined (IfOther F) (unmoved g) ss (each_weaker (λ (s : Pair). Each (IfOther F) s.content.slots) (λ s. Each (IfOther F) (unmoved g s)) (λ s k. each_unmoved (IfOther F) g s k) ss
+visible_each : (F : Slot → Type 0) (g : Gstate) (ss : List Pair) → Each (IfOther F) (slots_in ss) → Each F (flat_map (entries_not_moved g) ss)
+visible_each F g ss h = subst (Each F) (sym (hidden_visible g ss)) (to_entries F (flat_map (slots_not_moved g) ss)
+    (each_joined (IfOther F) (slots_not_moved g) ss (each_weaker (λ (s : Pair). Each (IfOther F) s.content.slots) (λ s. Each (IfOther F) (slots_not_moved g s)) (λ s k. each_unmoved (IfOther F) g s k) ss
     (each_pieces (IfOther F) (λ (s : Pair). s.content.slots) ss h))))
 
 -- ---- a place
@@ -136,8 +136,8 @@ greater_parts (x ∷ xs) ys name h = greater_parts xs ys name (record {
 module _ (disk new : Disk) (wo : Site) (o : Pair) (lo : List Slot) (u : Slot) (ro : List Slot)
     (w : Site) (p : Pair) (q : Pair) (more : List Pair) (extra : List ℕ) (l : List Slot) (v : Slot) (r : List Slot)
     (step : IsMoveSet disk new wo o lo u ro w p [] q more extra l [] v r)
-    (P : Path) (b : ℕ × ℕ) (leads : Leads (thread_at w (p ∷ [])) P b) (same_old : same_pair (begin_of wo (o ∷ [])) b ≡ true)
-    (Q : Path) (a : ℕ × ℕ) (arrives : Leads (thread_at w (p ∷ [])) Q a) (same : same_pair (begin_of w (p ∷ [])) a ≡ true) where
+    (P : Path) (b : ℕ × ℕ) (leads : PathLeadsTo (thread_at w (p ∷ [])) P b) (same_old : same_pair (begin_of wo (o ∷ [])) b ≡ true)
+    (Q : Path) (a : ℕ × ℕ) (arrives : PathLeadsTo (thread_at w (p ∷ [])) Q a) (same : same_pair (begin_of w (p ∷ [])) a ≡ true) where
   abbrev ps : List Pair
   ps = thread_at w (p ∷ [])
 
@@ -163,7 +163,7 @@ module _ (disk new : Disk) (wo : Site) (o : Pair) (lo : List Slot) (u : Slot) (r
   run_now = run_changed w.left p w.right q (more ++ w.right) (step.shape.run w.right) step.site.run
 
   same_under : (k : Gstate) (ss : List Pair) → SameVisible k k ss
-  same_under k ss = each_always (λ s. visible k s ≡ visible k s) (λ s. refl) ss
+  same_under k ss = each_always (λ s. entries_not_moved k s ≡ entries_not_moved k s) (λ s. refl) ss
 
   around_itself : SameAround h h w
   around_itself = record { before = same_under h w.before; left = same_under h w.left; right = same_under h w.right; after = same_under h w.after }
@@ -178,7 +178,7 @@ module _ (disk new : Disk) (wo : Site) (o : Pair) (lo : List Slot) (u : Slot) (r
   far_back = each_right Far (wo.before ++ wo.left) (wo.right ++ wo.after) (each_right Far w.chain ((wo.before ++ wo.left) ++ (wo.right ++ wo.after)) step.elsewhere)
 
   far_same : (ss : List Pair) → Each Far ss → SameVisible g h ss
-  far_same ss k = each_weaker Far (λ s. visible h s ≡ visible g s)
+  far_same ss k = each_weaker Far (λ s. entries_not_moved h s ≡ entries_not_moved g s)
       (λ s e. ap entries_only (unmoved_elsewhere h s e ∙ sym (unmoved_all g step.no_move s))) ss k
 
   around_old : SameAround g h wo
@@ -190,7 +190,7 @@ module _ (disk new : Disk) (wo : Site) (o : Pair) (lo : List Slot) (u : Slot) (r
   }
 
   -- what the move hides
-  hides : unmoved h o ≡ lo ++ ro
+  hides : slots_not_moved h o ≡ lo ++ ro
   hides = ap₂ (λ k b. cond (nat_eq k 0x4ff && b) (remove o.content.slots h.id) o.content.slots) step.kind step.pair
       ∙ ap₂ (λ s i. remove s i) step.was_there step.id ∙ remove_here lo ro u
 
@@ -205,37 +205,37 @@ module _ (disk new : Disk) (wo : Site) (o : Pair) (lo : List Slot) (u : Slot) (r
   abbrev E1 : Entries
   E1 = put E0 b (remove (E0 b) (place_at wo lo))
 
-  hidden_there : flat_map (visible g) wo.left ++ (flat_map (visible h) (o ∷ []) ++ flat_map (visible g) wo.right) ≡ remove (E0 b) (place_at wo lo)
-  hidden_there = ap₂ (λ x y. x ++ (flat_map (visible h) (o ∷ []) ++ y)) (visible_in g step.no_move wo.left) (visible_in g step.no_move wo.right)
-      ∙ ap (λ z. entries_only (slots_in wo.left) ++ (z ++ entries_only (slots_in wo.right))) (append-nil (visible h o) ∙ ap entries_only hides)
+  hidden_there : flat_map (entries_not_moved g) wo.left ++ (flat_map (entries_not_moved h) (o ∷ []) ++ flat_map (entries_not_moved g) wo.right) ≡ remove (E0 b) (place_at wo lo)
+  hidden_there = ap₂ (λ x y. x ++ (flat_map (entries_not_moved h) (o ∷ []) ++ y)) (visible_in g step.no_move wo.left) (visible_in g step.no_move wo.right)
+      ∙ ap (λ z. entries_only (slots_in wo.left) ++ (z ++ entries_only (slots_in wo.right))) (append-nil (entries_not_moved h o) ∙ ap entries_only hides)
       ∙ shown_place wo lo [] ro
       ∙ sym (ap (λ s. remove s (place_at wo lo)) showed ∙ remove_here (shown_before wo lo) (shown_behind wo ro) u)
 
   without : (x : ℕ × ℕ) → entries_of (directories_of h dirs) x ≡ E1 x
-  without x = subst (λ z. entries_of (directories_of h z) x ≡ put (entries_of (directories_of g z)) b (flat_map (visible g) wo.left ++ (flat_map (visible h) (o ∷ []) ++ flat_map (visible g) wo.right)) x) step.there
+  without x = subst (λ z. entries_of (directories_of h z) x ≡ put (entries_of (directories_of g z)) b (flat_map (entries_not_moved g) wo.left ++ (flat_map (entries_not_moved h) (o ∷ []) ++ flat_map (entries_not_moved g) wo.right)) x) step.there
       (site_entries g h wo o [] o [] step.ends step.run step.run refl around_old b same_old (subst (λ z. Apart (directories_of g z)) (sym step.there) (apart_under g)) x)
       ∙ ap₂ (λ ds s. put (entries_of ds) b s x) (sym were) hidden_there
 
   abbrev shown_front : List Slot
-  shown_front = flat_map (visible h) w.left ++ entries_only l
+  shown_front = flat_map (entries_not_moved h) w.left ++ entries_only l
 
   abbrev shown_back : List Slot
-  shown_back = entries_only r ++ flat_map (visible h) w.right
+  shown_back = entries_only r ++ flat_map (entries_not_moved h) w.right
 
-  hidden_none : (ss : List Pair) → Each Far ss → flat_map (unmoved h) ss ≡ slots_in ss
+  hidden_none : (ss : List Pair) → Each Far ss → flat_map (slots_not_moved h) ss ≡ slots_in ss
   hidden_none [] k = refl
   hidden_none (s ∷ ss) k = ap₂ (λ x y. x ++ y) (unmoved_elsewhere h s k.0) (hidden_none ss k.1)
 
   there_before : E1 a ≡ shown_front ++ shown_back
   there_before = sym (without a) ∙ site_own h h w p [] q more step.site.ends step.site.run run_now step.shape.at around_itself a same (apart_under h)
-      ∙ ap (λ z. flat_map (visible h) w.left ++ (z ++ flat_map (visible h) w.right)) (hidden_visible h (p ∷ []) ∙ ap entries_only (hidden_none (p ∷ []) step.apart ∙ step.was))
-      ∙ ap (λ z. flat_map (visible h) w.left ++ (z ++ flat_map (visible h) w.right)) (filter-append (λ (s : Slot). not (is_superblock s)) l r)
-      ∙ ap (λ z. flat_map (visible h) w.left ++ z) (append_assoc (entries_only l) (entries_only r) (flat_map (visible h) w.right))
-      ∙ sym (append_assoc (flat_map (visible h) w.left) (entries_only l) (entries_only r ++ flat_map (visible h) w.right))
+      ∙ ap (λ z. flat_map (entries_not_moved h) w.left ++ (z ++ flat_map (entries_not_moved h) w.right)) (hidden_visible h (p ∷ []) ∙ ap entries_only (hidden_none (p ∷ []) step.apart ∙ step.was))
+      ∙ ap (λ z. flat_map (entries_not_moved h) w.left ++ (z ++ flat_map (entries_not_moved h) w.right)) (filter-append (λ (s : Slot). not (is_superblock s)) l r)
+      ∙ ap (λ z. flat_map (entries_not_moved h) w.left ++ z) (append_assoc (entries_only l) (entries_only r) (flat_map (entries_not_moved h) w.right))
+      ∙ sym (append_assoc (flat_map (entries_not_moved h) w.left) (entries_only l) (entries_only r ++ flat_map (entries_not_moved h) w.right))
 
   -- a name's place is between the same entries
   pub hidden_place : (name : Name) → IsPlace disk.order (entries_in (thread_at w (p ∷ [])) a) (place_at w l) name
-      → IsPlace disk.order (put (entries_in (thread_at w (p ∷ []))) b (remove (entries_in (thread_at w (p ∷ [])) b) (place_at wo lo)) a) (length (flat_map (visible (gstate_of (thread_at w (q ∷ more)))) w.left ++ entries_only l)) name
+      → IsPlace disk.order (put (entries_in (thread_at w (p ∷ []))) b (remove (entries_in (thread_at w (p ∷ [])) b) (place_at wo lo)) a) (length (flat_map (entries_not_moved (gstate_of (thread_at w (q ∷ more)))) w.left ++ entries_only l)) name
   hidden_place name place =
       let shows : entries_in (thread_at w (p ∷ [])) a ≡ shown_before w l ++ shown_behind w r
       = site_shows disk w p l [] r a step.accepted step.site step.no_move same (sym (append-nil p.content.slots) ∙ step.was) in
@@ -245,6 +245,6 @@ module _ (disk new : Disk) (wo : Site) (o : Pair) (lo : List Slot) (u : Slot) (r
       let L : Slot → Type 0 = λ s. name_cmp disk.order s.name name ≡ Less in
       let G : Slot → Type 0 = λ s. name_cmp disk.order name s.name ≡ Less in
       subst (λ z. IsPlace disk.order z (length shown_front) name) (sym there_before) (place_between shown_front shown_back name
-      (each_append L (flat_map (visible h) w.left) (entries_only l) (visible_each L h w.left (each_left (IfOther L) (slots_in w.left) l less)) (to_entries L l (each_right (IfOther L) (slots_in w.left) l less)))
-      (each_append G (entries_only r) (flat_map (visible h) w.right) (to_entries G r (each_left (IfOther G) r (slots_in w.right) more_than))
+      (each_append L (flat_map (entries_not_moved h) w.left) (entries_only l) (visible_each L h w.left (each_left (IfOther L) (slots_in w.left) l less)) (to_entries L l (each_right (IfOther L) (slots_in w.left) l less)))
+      (each_append G (entries_only r) (flat_map (entries_not_moved h) w.right) (to_entries G r (each_left (IfOther G) r (slots_in w.right) more_than))
       (visible_each G h w.right (each_right (IfOther G) r (slots_in w.right) more_than))))

@@ -9,7 +9,7 @@ use Rattle.lfs_model.specs.Content.{RawContent, RawSlot, complete_all, completed
 use Rattle.lfs_model.specs.Cut.{CanBeCut}
 use Rattle.lfs_model.specs.Disk.{Disk}
 use Rattle.lfs_model.specs.History.{Event}
-use Rattle.lfs_model.specs.InDirectory.{BeginsAt, Belongs, IsBehind}
+use Rattle.lfs_model.specs.InDirectory.{BeginsAt, BelongsInDirectory, IsPairOfDirectory}
 use Rattle.lfs_model.specs.LoggedContent.{IsAddress, IsMoveState}
 use Rattle.lfs_model.specs.Names.{Name, is_name}
 use Rattle.lfs_model.specs.PowerLoss.{Survives}
@@ -19,7 +19,7 @@ use Rattle.lfs_model.specs.Tree.{Path}
 use Rattle.lfs_model.specs.TreeEdits.{renamed, rest_after}
 use Rattle.lfs_model.specs.Profile.{FitsEntry, IsWritable}
 use Rattle.lfs_model.specs.View.{IsAccepted, IsEntry}
-use Rattle.lfs_model.specs.Shown.{Leads, entries_in, tree_in}
+use Rattle.lfs_model.specs.Shown.{PathLeadsTo, entries_in, tree_in}
 use Rattle.lfs_model.specs.SlotEdits.{slot_of_path}
 use Rattle.lfs_model.proofs.Changes.{Follows}
 use Rattle.lfs_model.proofs.Committed.{no_move_from}
@@ -34,18 +34,18 @@ use Rattle.lfs_model.proofs.Paths.{last_is}
 use Rattle.lfs_model.proofs.Searches.{is_site, number_is, place_of_belongs, same, site, slot_of_stands, thread_is}
 use Rattle.lfs_model.proofs.Sites.{Site, begin_of, thread_at}
 use Rattle.lfs_model.proofs.StoredChanges.{logged_changed}
-use Rattle.lfs_model.proofs.Writable.{flag}
+use Rattle.lfs_model.proofs.Writable.{ends_in_hard_tail}
 use Rattle.lfs_pair.specs.Commit.{made_at}
 use Rattle.lfs_thread.specs.Device.{StopsLeave}
 use Rattle.lfs_thread.specs.Kept.{Kept}
 use Rattle.lfs_thread.specs.Steps.{SlotsHaveFirst, made_in_thread, pair_in}
-use Rattle.lfs_operations.specs.Changing.{Alters, CanPut, IsLeftByPut, IsPut}
+use Rattle.lfs_operations.specs.Changing.{AltersPair, CanPut, IsLeftByPut, IsPut}
 use Rattle.lfs_operations.specs.Editing.{CanEdit}
-use Rattle.lfs_operations.specs.MoveEnds.{CanEnd, HasEnded, move_of}
+use Rattle.lfs_operations.specs.MoveEnds.{CanEndMoveAt, HasEndedMoveAt, move_of}
 use Rattle.lfs_operations.specs.MovingSteps.{EndsAfter, IsPutAndEnded, place_after}
 use Rattle.lfs_operations.specs.MovingAcross.{CanRenameAcross, IsRenamedAcross, moving_changes, with_moved}
 use Rattle.lfs_operations.specs.Ready.{IsLoggedAt}
-use Rattle.lfs_operations.specs.Removing.{goes_whole}
+use Rattle.lfs_operations.specs.Removing.{drops_pair}
 use Rattle.lfs_operations.specs.RenamingSlots.{HasSlot, Parts, parts_at, parts_of, slot_changes}
 use Rattle.lfs_operations.proofs.AlteredAcross.{moved_alters}
 use Rattle.lfs_operations.proofs.Held.{CompletesTo, IsEntryIfOther, below, each_pair, fits_there, here, other_entries, raw_there}
@@ -66,7 +66,7 @@ record Source (t : Kept) (pair id : ℕ) (u : Slot) : Type 0 where
   of : IsOf raw u
 
 module _ (sync : Bool) (t : Kept) (old_pair old_id new_pair : ℕ) (can : CanEdit t old_pair old_id) (address : IsAddress (pair_in t old_pair).at)
-    (first : ℕ) (p : Pair) (rest : List Pair) (place : IsBehind t.pairs first new_pair p rest) (logged : IsLoggedAt t.disk (pair_in t new_pair).at) where
+    (first : ℕ) (p : Pair) (rest : List Pair) (place : IsPairOfDirectory t.pairs first new_pair p rest) (logged : IsLoggedAt t.disk (pair_in t new_pair).at) where
   abbrev pub o : Pair
   o = can.stands.pair
 
@@ -183,9 +183,9 @@ module _ (t : Kept) (old_pair old_id first new_pair new_id : ℕ) (name : Name) 
   can = rename.old
 
   abbrev goes : Bool
-  goes = goes_whole t old_pair first
+  goes = drops_pair t old_pair first
 
-  abbrev b : Belongs t.disk.order t.pairs rename.to_first name new_pair new_id
+  abbrev b : BelongsInDirectory t.disk.order t.pairs rename.to_first name new_pair new_id
   b = rename.belongs
 
   abbrev p : Pair
@@ -283,20 +283,20 @@ module _ (t : Kept) (old_pair old_id first new_pair new_id : ℕ) (name : Name) 
   same_begin : same_pair (begin_of wo (q ∷ [])) can.at ≡ true
   same_begin = same t.disk t.pairs can.path can.at can.ready.accepted can.leads can.first old_pair q can.stands.rest can.stands.place can.begins
 
-  led_first : old_pair ≡ can.first → flag false (wo.before ++ wo.left) ≡ false
+  led_first : old_pair ≡ can.first → ends_in_hard_tail false (wo.before ++ wo.left) ≡ false
   led_first e =
       let none_before = alone wo.chain wo.before wo.left (wo.right ++ wo.after) q can.at can.first (subst (λ z. IsDistinct nat_eq (blocks_of z)) there_old can.ready.accepted.thread.distinct) same_begin
       (subst (λ z. BeginsAt z can.at can.first) there_old can.begins) (sym e ∙ old_number) in
-      ap (λ z. flag false (wo.before ++ z)) none_before ∙ ap (flag false) (append-nil wo.before) ∙ flag_ends wo.before setting.old_site.ends
+      ap (λ z. ends_in_hard_tail false (wo.before ++ z)) none_before ∙ ap (ends_in_hard_tail false) (append-nil wo.before) ∙ flag_ends wo.before setting.old_site.ends
 
-  stays : goes ≡ false → flag false (wo.before ++ wo.left) ≡ true → 1 < length q.content.slots
+  stays : goes ≡ false → ends_in_hard_tail false (wo.before ++ wo.left) ≡ true → 1 < length q.content.slots
   stays remains hard = go (stays_there t old_pair old_id first can rename.begins_old remains)
     where
       go : (old_pair ≡ can.first) ⊎ (1 < length (pair_in t old_pair).content.slots) → 1 < length q.content.slots
       go (inl e) = absurd (let z = sym hard ∙ led_first e in cc)
       go (inr many) = subst (λ (z : Pair). 1 < length z.content.slots) (here t can.ready can.first old_pair q can.stands.rest can.stands.place) many
 
-  goes_alone : goes ≡ true → (flag false (wo.before ++ wo.left) ≡ true) × (length q.content.slots ≡ 1)
+  goes_alone : goes ≡ true → (ends_in_hard_tail false (wo.before ++ wo.left) ≡ true) × (length q.content.slots ≡ 1)
   goes_alone whole =
       let k = stands_whole t old_pair old_id first can rename.begins_old whole in
       (flag_whole t old_pair old_id first can rename.begins_old whole, ap length k.held)
@@ -313,8 +313,8 @@ module _ (t : Kept) (old_pair old_id first new_pair new_id : ℕ) (name : Name) 
   follows : (disk : Disk) (x : Pair) (more : List Pair) → HasTurned t.disk w p (b.left ++ v ∷ b.right) (gstate_xor (move_of false q.at (length lo)) p.content.move) disk x more
       → Follows t.disk (thread_at w (p ∷ [])) disk (thread_at w (x ∷ more)) (renamed from to) (walk_by from to)
   follows disk x more turned = subst (λ (n : Name). Follows t.disk (thread_at w (p ∷ [])) disk (thread_at w (x ∷ more)) (renamed (can.path ++ n ∷ []) to) (walk_by (can.path ++ n ∷ []) to)) can.stands.stands.named
-      (set_new t.disk wo q lo s ro w p b.left v b.right false disk x more turned can.path can.at (subst (λ z. Leads z can.path can.at) there can.leads) same_begin
-      rename.path rename.at (subst (λ z. Leads z rename.path rename.at) there rename.leads)
+      (set_new t.disk wo q lo s ro w p b.left v b.right false disk x more turned can.path can.at (subst (λ z. PathLeadsTo z can.path can.at) there can.leads) same_begin
+      rename.path rename.at (subst (λ z. PathLeadsTo z rename.path rename.at) there rename.leads)
       (same t.disk t.pairs rename.path rename.at can.ready.accepted rename.leads rename.to_first new_pair p (b.later ++ b.rest) b.place rename.begins)
       setting refl (ap (λ (n : Name). rest_after (can.path ++ n ∷ []) to) can.stands.stands.named ∙ rename.not_beneath)
       (subst (λ z. IsPlace t.disk.order (entries_in z rename.at) (place_at w b.left) name) there place))
@@ -345,7 +345,7 @@ module _ (t : Kept) (old_pair old_id first new_pair new_id : ℕ) (name : Name) 
       record {
         apart = rename.apart;
         grown = grown t false old_pair goes new_pair (moving_changes t old_pair old_id new_pair new_id name) wo q lo s ro w p b.left None v b.right from to name is_first mid x;
-        can = subst (λ i. CanEnd mid (place_after old_pair new_pair (length mid.pairs - length t.pairs)) i goes) can.stands.stands.number
+        can = subst (λ i. CanEndMoveAt mid (place_after old_pair new_pair (length mid.pairs - length t.pairs)) i goes) can.stands.stands.number
             (mid_ends t false old_pair goes new_pair (moving_changes t old_pair old_id new_pair new_id name) wo q lo s ro w p b.left None v b.right from to name is_first mid x);
         at = same_at t false old_pair goes new_pair (moving_changes t old_pair old_id new_pair new_id name) wo q lo s ro w p b.left None v b.right from to name is_first mid x;
       }
@@ -361,7 +361,7 @@ module _ (t : Kept) (old_pair old_id first new_pair new_id : ℕ) (name : Name) 
   pub renamed_across : (new : Kept) → IsPutAndEnded t old_pair old_id goes new_pair (moving_changes t old_pair old_id new_pair new_id name) new → IsRenamedAcross t new can.path can.name rename.path name
   renamed_across new is =
       let x = first_turned t false old_pair goes new_pair (moving_changes t old_pair old_id new_pair new_id name) wo q lo s ro w p b.left None v b.right from to name is_first is.mid is.put in
-      let e = subst (λ i. HasEnded is.mid (place_after old_pair new_pair (length is.mid.pairs - length t.pairs)) i goes new) (sym can.stands.stands.number) is.ended in
+      let e = subst (λ i. HasEndedMoveAt is.mid (place_after old_pair new_pair (length is.mid.pairs - length t.pairs)) i goes new) (sym can.stands.stands.number) is.ended in
       record {
         now = rename_becomes t false old_pair goes new_pair (moving_changes t old_pair old_id new_pair new_id name) wo q lo s ro w p b.left None v b.right from to name is_first is.mid x new e refl;
         completed = λ z given to_given tree given_is to_is.
@@ -370,7 +370,7 @@ module _ (t : Kept) (old_pair old_id first new_pair new_id : ℕ) (name : Name) 
 
   -- ---- what stays
 
-  pub across_alters : (new : Kept) → IsPutAndEnded t old_pair old_id goes new_pair (moving_changes t old_pair old_id new_pair new_id name) new → Alters t new_pair new
+  pub across_alters : (new : Kept) → IsPutAndEnded t old_pair old_id goes new_pair (moving_changes t old_pair old_id new_pair new_id name) new → AltersPair t new_pair new
   across_alters new is = moved_alters t false old_pair goes new_pair (moving_changes t old_pair old_id new_pair new_id name) wo q lo s ro w p b.left v b.right from to name is_first is.mid
       (first_turned t false old_pair goes new_pair (moving_changes t old_pair old_id new_pair new_id name) wo q lo s ro w p b.left None v b.right from to name is_first is.mid is.put) new
-      (subst (λ i. HasEnded is.mid (place_after old_pair new_pair (length is.mid.pairs - length t.pairs)) i goes new) (sym can.stands.stands.number) is.ended)
+      (subst (λ i. HasEndedMoveAt is.mid (place_after old_pair new_pair (length is.mid.pairs - length t.pairs)) i goes new) (sym can.stands.stands.number) is.ended)

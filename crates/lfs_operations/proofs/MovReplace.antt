@@ -5,7 +5,7 @@ use Rattle.lfs_model.specs.Changes.{Delete}
 use Rattle.lfs_model.specs.Content.{complete_all}
 use Rattle.lfs_model.specs.Disk.{Disk}
 use Rattle.lfs_model.specs.History.{Event}
-use Rattle.lfs_model.specs.InDirectory.{BeginsAt, Stands}
+use Rattle.lfs_model.specs.InDirectory.{BeginsAt, HasNameAtPlace}
 use Rattle.lfs_model.specs.LoggedContent.{IsAddress}
 use Rattle.lfs_model.specs.Names.{Name, is_name}
 use Rattle.lfs_model.specs.PowerLoss.{Survives}
@@ -13,7 +13,7 @@ use Rattle.lfs_model.specs.Slots.{Slot, FitsPair, gstate_xor, same_pair}
 use Rattle.lfs_model.specs.Thread.{Pair, blocks_of, gstate_of, superblocks_before}
 use Rattle.lfs_model.specs.Tree.{Path}
 use Rattle.lfs_model.specs.TreeEdits.{renamed, rest_after}
-use Rattle.lfs_model.specs.Shown.{file_blocks, Leads, tree_in, used_blocks}
+use Rattle.lfs_model.specs.Shown.{file_blocks, PathLeadsTo, tree_in, used_blocks}
 use Rattle.lfs_model.specs.View.{IsAccepted, IsEntry}
 use Rattle.lfs_model.specs.Profile.{IsWritable}
 use Rattle.lfs_model.specs.SlotEdits.{slot_of_path}
@@ -24,19 +24,19 @@ use Rattle.lfs_model.proofs.Counts.{Each, each_right, count}
 use Rattle.lfs_model.proofs.Paths.{last_is}
 use Rattle.lfs_model.proofs.Searches.{is_site, number_is, same, site, slot_of_stands, thread_is}
 use Rattle.lfs_model.proofs.Sites.{Site, begin_of, thread_at}
-use Rattle.lfs_model.proofs.Writable.{flag}
+use Rattle.lfs_model.proofs.Writable.{ends_in_hard_tail}
 use Rattle.lfs_thread.specs.Device.{StopsLeave}
 use Rattle.lfs_thread.specs.Kept.{Kept}
 use Rattle.lfs_thread.specs.Steps.{SlotsHaveFirst, pair_in}
 use Rattle.lfs_operations.specs.Changing.{CanPut, IsLeftByPut, IsPut}
 use Rattle.lfs_operations.specs.Editing.{CanEdit}
-use Rattle.lfs_operations.specs.MoveEnds.{CanEnd, HasEnded, move_of}
+use Rattle.lfs_operations.specs.MoveEnds.{CanEndMoveAt, HasEndedMoveAt, move_of}
 use Rattle.lfs_operations.specs.MovingSteps.{EndsAfter, IsPutAndEnded, place_after}
 use Rattle.lfs_operations.specs.MovingAcross.{with_moved}
 use Rattle.lfs_operations.specs.MovingOnto.{CanPutOnto, CanReplaceAcross, CanReplaceDirectory, IsReplacedAcross, onto_changes}
 use Rattle.lfs_operations.specs.Dropping.{HasShrunk}
 use Rattle.lfs_operations.specs.Ready.{IsLoggedAt}
-use Rattle.lfs_operations.specs.Removing.{goes_whole}
+use Rattle.lfs_operations.specs.Removing.{drops_pair}
 use Rattle.lfs_operations.specs.RenamingSlots.{HasSlot}
 use Rattle.lfs_operations.proofs.Held.{IsEntryIfOther, each_pair, fits_there, here, other_entries}
 use Rattle.lfs_operations.proofs.MovSet.{HasTurned, IsSetting, chain_same, set_onto, walk_by}
@@ -90,9 +90,9 @@ module _ (sync : Bool) (t : Kept) (old_pair old_id first new_pair new_id : ℕ) 
   can = rename.old
 
   abbrev goes : Bool
-  goes = goes_whole t old_pair first
+  goes = drops_pair t old_pair first
 
-  abbrev b : Stands t.pairs rename.to_first name new_pair new_id
+  abbrev b : HasNameAtPlace t.pairs rename.to_first name new_pair new_id
   b = rename.target
 
   abbrev p : Pair
@@ -215,20 +215,20 @@ module _ (sync : Bool) (t : Kept) (old_pair old_id first new_pair new_id : ℕ) 
   same_begin : same_pair (begin_of wo (q ∷ [])) can.at ≡ true
   same_begin = same t.disk t.pairs can.path can.at can.ready.accepted can.leads can.first old_pair q can.stands.rest can.stands.place can.begins
 
-  led_first : old_pair ≡ can.first → flag false (wo.before ++ wo.left) ≡ false
+  led_first : old_pair ≡ can.first → ends_in_hard_tail false (wo.before ++ wo.left) ≡ false
   led_first e =
       let none_before = alone wo.chain wo.before wo.left (wo.right ++ wo.after) q can.at can.first (subst (λ z. IsDistinct nat_eq (blocks_of z)) there_old can.ready.accepted.thread.distinct) same_begin
       (subst (λ z. BeginsAt z can.at can.first) there_old can.begins) (sym e ∙ old_number) in
-      ap (λ z. flag false (wo.before ++ z)) none_before ∙ ap (flag false) (append-nil wo.before) ∙ flag_ends wo.before setting.old_site.ends
+      ap (λ z. ends_in_hard_tail false (wo.before ++ z)) none_before ∙ ap (ends_in_hard_tail false) (append-nil wo.before) ∙ flag_ends wo.before setting.old_site.ends
 
-  stays : goes ≡ false → flag false (wo.before ++ wo.left) ≡ true → 1 < length q.content.slots
+  stays : goes ≡ false → ends_in_hard_tail false (wo.before ++ wo.left) ≡ true → 1 < length q.content.slots
   stays remains hard = go (stays_there t old_pair old_id first can rename.begins_old remains)
     where
       go : (old_pair ≡ can.first) ⊎ (1 < length (pair_in t old_pair).content.slots) → 1 < length q.content.slots
       go (inl e) = absurd (let z = sym hard ∙ led_first e in cc)
       go (inr many) = subst (λ (z : Pair). 1 < length z.content.slots) (here t can.ready can.first old_pair q can.stands.rest can.stands.place) many
 
-  goes_alone : goes ≡ true → (flag false (wo.before ++ wo.left) ≡ true) × (length q.content.slots ≡ 1)
+  goes_alone : goes ≡ true → (ends_in_hard_tail false (wo.before ++ wo.left) ≡ true) × (length q.content.slots ≡ 1)
   goes_alone whole =
       let k = stands_whole t old_pair old_id first can rename.begins_old whole in
       (flag_whole t old_pair old_id first can rename.begins_old whole, ap length k.held)
@@ -242,8 +242,8 @@ module _ (sync : Bool) (t : Kept) (old_pair old_id first new_pair new_id : ℕ) 
   follows : (disk : Disk) (x : Pair) (more : List Pair) → HasTurned t.disk w p (l ++ v ∷ r) (gstate_xor (move_of sync q.at (length lo)) p.content.move) disk x more
       → Follows t.disk (thread_at w (p ∷ [])) disk (thread_at w (x ∷ more)) (renamed from to) (walk_by from to)
   follows disk x more turned = subst (λ (n : Name). Follows t.disk (thread_at w (p ∷ [])) disk (thread_at w (x ∷ more)) (renamed (can.path ++ n ∷ []) to) (walk_by (can.path ++ n ∷ []) to)) can.stands.stands.named
-      (set_onto t.disk wo q lo s ro w p l v r sync disk x more turned can.path can.at (subst (λ z. Leads z can.path can.at) there can.leads) same_begin
-      rename.path rename.at (subst (λ z. Leads z rename.path rename.at) there rename.leads)
+      (set_onto t.disk wo q lo s ro w p l v r sync disk x more turned can.path can.at (subst (λ z. PathLeadsTo z can.path can.at) there can.leads) same_begin
+      rename.path rename.at (subst (λ z. PathLeadsTo z rename.path rename.at) there rename.leads)
       (same t.disk t.pairs rename.path rename.at can.ready.accepted rename.leads rename.to_first new_pair p b.rest b.place rename.begins)
       g b.stands.entry setting (ap (λ (n : Name). record s { name = n }) (sym b.stands.named))
       (ap (λ (n : Name). rest_after (can.path ++ n ∷ []) (rename.path ++ g.name ∷ [])) can.stands.stands.named
@@ -276,7 +276,7 @@ module _ (sync : Bool) (t : Kept) (old_pair old_id first new_pair new_id : ℕ) 
       record {
         apart = rename.apart;
         grown = grown t sync old_pair goes new_pair (onto_changes sync t old_pair old_id new_pair new_id name) wo q lo s ro w p l (Some g) v r from to name is_first mid x;
-        can = subst (λ i. CanEnd mid (place_after old_pair new_pair (length mid.pairs - length t.pairs)) i goes) can.stands.stands.number
+        can = subst (λ i. CanEndMoveAt mid (place_after old_pair new_pair (length mid.pairs - length t.pairs)) i goes) can.stands.stands.number
             (mid_ends t sync old_pair goes new_pair (onto_changes sync t old_pair old_id new_pair new_id name) wo q lo s ro w p l (Some g) v r from to name is_first mid x);
         at = same_at t sync old_pair goes new_pair (onto_changes sync t old_pair old_id new_pair new_id name) wo q lo s ro w p l (Some g) v r from to name is_first mid x;
       }
@@ -292,7 +292,7 @@ module _ (sync : Bool) (t : Kept) (old_pair old_id first new_pair new_id : ℕ) 
   pub replaced_across : sync ≡ false → (new : Kept) → IsPutAndEnded t old_pair old_id goes new_pair (onto_changes sync t old_pair old_id new_pair new_id name) new → IsReplacedAcross t new can.path can.name rename.path name g.struct
   replaced_across plain new is =
       let x = first_turned t sync old_pair goes new_pair (onto_changes sync t old_pair old_id new_pair new_id name) wo q lo s ro w p l (Some g) v r from to name is_first is.mid is.put in
-      let e = subst (λ i. HasEnded is.mid (place_after old_pair new_pair (length is.mid.pairs - length t.pairs)) i goes new) (sym can.stands.stands.number) is.ended in
+      let e = subst (λ i. HasEndedMoveAt is.mid (place_after old_pair new_pair (length is.mid.pairs - length t.pairs)) i goes new) (sym can.stands.stands.number) is.ended in
       record {
         now = subst (λ (z : List ℕ). HasShrunk t new (with_moved t can.path can.name rename.path name) z) (append-nil (file_blocks t.disk g.struct))
             (rename_becomes t sync old_pair goes new_pair (onto_changes sync t old_pair old_id new_pair new_id name) wo q lo s ro w p l (Some g) v r from to name is_first is.mid x new e plain);

@@ -15,12 +15,12 @@ use Rattle.lfs_model.specs.Shown.{tree_in}
 use Rattle.lfs_model.proofs.AfterStops.{survives_then}
 use Rattle.lfs_model.proofs.Histories.{LeavesOnly-trans, LeavesOnly-weaker, StayUnprogrammed-trans, StayUnprogrammed-wider}
 use Rattle.lfs_model.proofs.Overwrites.{SameButThese-trans, SameButThese-wider}
-use Rattle.lfs_model.proofs.Writable.{flag}
+use Rattle.lfs_model.proofs.Writable.{ends_in_hard_tail}
 use Rattle.lfs_thread.specs.Device.{StopsLeave, four_of, two_of}
 use Rattle.lfs_thread.specs.Kept.{Kept, State}
 use Rattle.lfs_thread.specs.Steps.{HasShape, IsChanged, Writes, back_pair, front_pair, no_pair, pair_in}
-use Rattle.lfs_operations.specs.Changing.{AreTwoFree, IsCutIn, IsLeftByPut, IsPut, ReportsPut, WritesIn, has_failed}
-use Rattle.lfs_operations.specs.MoveEnds.{end_at, is_led}
+use Rattle.lfs_operations.specs.Changing.{AreTwoFree, IsPairCutInto, IsLeftByPut, IsPut, ReportsPut, WritesIn, has_failed}
+use Rattle.lfs_operations.specs.MoveEnds.{end_at, follows_hard_tail}
 use Rattle.lfs_operations.specs.MovingSteps.{EndsAfter, SurvivesBoth, ReportsInSteps, WritesInTwo, place_after}
 use Rattle.lfs_operations.specs.Removing.{ReportsOfCalls}
 
@@ -184,7 +184,7 @@ module _ (old mid new : Kept) (index other : ℕ) (changes : List Change) (put :
           go true = refl
           go false = omega arith
 
-  cut : (fresh : ℕ × ℕ) → IsCutIn old other fresh changes mid → WritesInTwo old (index - 1) other new
+  cut : (fresh : ℕ × ℕ) → IsPairCutInto old other fresh changes mid → WritesInTwo old (index - 1) other new
   cut fresh is = go (cases_lt index other)
     where
       in_cut : Pair
@@ -242,9 +242,9 @@ module _ (old mid new : Kept) (index other : ℕ) (changes : List Change) (put :
       go (inl is) = changed is
       go (inr (large, (fresh, is))) = cut fresh is
 
-not_first : (ps : List Pair) (n : ℕ) → is_led ps n ≡ true → 0 < n
-not_first ps zero e = absurd (let z : flag false (take (0 - superblocks_before ps) (directory_pairs ps)) ≡ true = e in let k : 0 - superblocks_before ps ≡ 0 = omega arith in
-    let w = sym z ∙ ap (λ (i : ℕ). flag false (take i (directory_pairs ps))) k in cc)
+not_first : (ps : List Pair) (n : ℕ) → follows_hard_tail ps n ≡ true → 0 < n
+not_first ps zero e = absurd (let z : ends_in_hard_tail false (take (0 - superblocks_before ps) (directory_pairs ps)) ≡ true = e in let k : 0 - superblocks_before ps ≡ 0 = omega arith in
+    let w = sym z ∙ ap (λ (i : ℕ). ends_in_hard_tail false (take i (directory_pairs ps))) k in cc)
 not_first ps (suc n) e = omega arith
 
 pub writes_at_end : (old mid new : Kept) (old_pair old_id : ℕ) (goes : Bool) (new_pair : ℕ) (changes : List Change) → IsPut old new_pair changes mid → new_pair < length old.pairs → EndsAfter old old_pair old_id goes new_pair mid

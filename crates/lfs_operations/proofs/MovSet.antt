@@ -7,10 +7,10 @@ use Rattle.std.proofs.lemmas.List.Concat.{flat_map-append}
 use Rattle.lfs_model.specs.Disk.{Disk, block_at}
 use Rattle.lfs_model.specs.Slots.{Slot, Gstate, is_superblock, same_pair, no_gstate, gstate_xor}
 use Rattle.lfs_model.specs.SlotEdits.{with_slots}
-use Rattle.lfs_model.specs.Thread.{Pair, blocks_of, gstate_of, starts_with_superblock, superblocks_before, unmoved}
+use Rattle.lfs_model.specs.Thread.{Pair, blocks_of, gstate_of, starts_with_superblock, superblocks_before, slots_not_moved}
 use Rattle.lfs_model.specs.Tree.{Path, Tree, branch_of}
-use Rattle.lfs_model.specs.TreeEdits.{rest_after, planted, renamed}
-use Rattle.lfs_model.specs.Shown.{entries_in, Leads, used_blocks, file_blocks, all_slots}
+use Rattle.lfs_model.specs.TreeEdits.{rest_after, with_subtree_moved, renamed}
+use Rattle.lfs_model.specs.Shown.{entries_in, PathLeadsTo, used_blocks, file_blocks, all_slots}
 use Rattle.lfs_model.specs.View.{IsEntry, IsMove, IsOtherSlot, IsAccepted}
 use Rattle.lfs_model.specs.Profile.{IsWritable, FitsSlot}
 use Rattle.lfs_model.proofs.Became.{Became, became_front, became_shape}
@@ -28,14 +28,14 @@ use Rattle.lfs_model.proofs.OneCommit.{some_filled}
 use Rattle.lfs_model.proofs.Pairs.{pair_itself}
 use Rattle.lfs_model.proofs.Rests.{site_gstate_moved, unmoved_elsewhere}
 use Rattle.lfs_model.proofs.Searches.{avoids_front, avoids_behind}
-use Rattle.lfs_model.proofs.Sites.{Site, dirs_at, thread_at, IsSite, begin_of, Among, any_from, among_right, among_left}
+use Rattle.lfs_model.proofs.Sites.{Site, dirs_at, thread_at, IsSite, begin_of, SomeIn, any_from, among_right, among_left}
 use Rattle.lfs_model.proofs.Splices.{slots_in, files_of, count_files, unmoved_in, IsDevice, AreFree}
-use Rattle.lfs_model.proofs.StepsTaken.{IsTaken, IsPut, set_taken}
+use Rattle.lfs_model.proofs.StepsTaken.{IsOnlyStep, IsPut, set_taken}
 use Rattle.lfs_operations.specs.MoveEnds.{move_of}
 use Rattle.lfs_operations.proofs.MovPlaces.{SameParts, same_parts, InTurn, ahead, behind, in_turn, hidden_place}
 
 abbrev pub walk_by : Path → Path → Walk → Walk
-walk_by old new d = planted new (λ t. d (old ++ t)) (planted old (λ t. None) d)
+walk_by old new d = with_subtree_moved new (λ t. d (old ++ t)) (with_subtree_moved old (λ t. None) d)
 
 -- The pair has these slots and that delta on the new disk, or that pair and a fresh one behind it have.
 pub record HasTurned (old : Disk) (w : Site) (p : Pair) (slots : List Slot) (move : Gstate) (disk : Disk) (q : Pair) (more : List Pair) : Type 0 where
@@ -145,7 +145,7 @@ module _ (disk : Disk) (wo : Site) (o : Pair) (lo : List Slot) (u : Slot) (ro : 
         (x.delta ∙ ap (gstate_xor (move_of sync o.at (length lo))) (sym (gstate_cons p [] ∙ gstate_right p.content.move)))
         ∙ ap (gstate_xor (move_of sync o.at (length lo))) k.settled ∙ gstate_right (move_of sync o.at (length lo))
 
-    among : Among (λ s. (same_pair o.at s.at ≡ true) × IsOtherSlot (slice_get s.content.slots (length lo))) qs
+    among : SomeIn (λ s. (same_pair o.at s.at ≡ true) × IsOtherSlot (slice_get s.content.slots (length lo))) qs
     among = among_right N w.chain (dirs_at w (q ∷ more)) (go turns)
       where
         N : Pair → Type 0
@@ -154,9 +154,9 @@ module _ (disk : Disk) (wo : Site) (o : Pair) (lo : List Slot) (u : Slot) (ro : 
         here : N o
         here = (pair_itself o.at, subst IsOtherSlot (sym (ap (λ z. slice_get z (length lo)) k.held ∙ get_here lo ro u)) k.other)
 
-        go : InTurn (w.before ++ w.left) p (w.right ++ w.after) front_o o back_o → Among N (dirs_at w (q ∷ more))
-        go (ahead mid e f) = among_left N (w.before ++ w.left) (q ∷ more ++ (w.right ++ w.after)) (subst (Among N) (sym f) (among_right N front_o (o ∷ mid) (inl here)))
-        go (behind mid e f) = among_right N (w.before ++ w.left) (q ∷ more ++ (w.right ++ w.after)) (among_right N (q ∷ more) (w.right ++ w.after) (subst (Among N) (sym e) (among_right N mid (o ∷ back_o) (inl here))))
+        go : InTurn (w.before ++ w.left) p (w.right ++ w.after) front_o o back_o → SomeIn N (dirs_at w (q ∷ more))
+        go (ahead mid e f) = among_left N (w.before ++ w.left) (q ∷ more ++ (w.right ++ w.after)) (subst (SomeIn N) (sym f) (among_right N front_o (o ∷ mid) (inl here)))
+        go (behind mid e f) = among_right N (w.before ++ w.left) (q ∷ more ++ (w.right ++ w.after)) (among_right N (q ∷ more) (w.right ++ w.after) (subst (SomeIn N) (sym e) (among_right N mid (o ∷ back_o) (inl here))))
 
     is_move : IsMove qs (gstate_of qs)
     is_move = subst (IsMove qs) (sym state_is) (inr (refl, any_from (λ s. (same_pair o.at s.at ≡ true) × IsOtherSlot (slice_get s.content.slots (length lo))) qs among))
@@ -212,7 +212,7 @@ module _ (disk : Disk) (wo : Site) (o : Pair) (lo : List Slot) (u : Slot) (ro : 
     all_reached = (recovered_from disk ps k.accepted k.settled).reached
 
     pub taken_by : (change : Tree → Tree) (walk : Walk → Walk) → Follows disk (thread_at w (p ∷ [])) new (thread_at w (q ∷ more)) change walk
-        → IsTaken disk (thread_at w (p ∷ [])) new (thread_at w (q ∷ more)) change walk
+        → IsOnlyStep disk (thread_at w (p ∷ [])) new (thread_at w (q ∷ more)) change walk
     taken_by change walk follows = set_taken disk w p q more l olds (v ∷ []) r set_put new wo o lo u ro (blocks_of more) v change walk set_step follows
 
     -- ---- the blocks that the image uses
@@ -228,10 +228,10 @@ module _ (disk : Disk) (wo : Site) (o : Pair) (lo : List Slot) (u : Slot) (ro : 
     same_files : SameFiles disk new (all_slots ps)
     same_files = recursion_from_All (λ (s : Slot). HasSameFile disk new s.struct) (all_slots ps) x.device.files
 
-    hides : unmoved (move_of sync o.at (length lo)) o ≡ lo ++ ro
+    hides : slots_not_moved (move_of sync o.at (length lo)) o ≡ lo ++ ro
     hides = ap (λ b. cond b (remove o.content.slots (length lo)) o.content.slots) (pair_itself o.at) ∙ ap (λ s. remove s (length lo)) k.held ∙ remove_here lo ro u
 
-    hidden_none : (ss : List Pair) → Each Far ss → flat_map (unmoved (move_of sync o.at (length lo))) ss ≡ slots_in ss
+    hidden_none : (ss : List Pair) → Each Far ss → flat_map (slots_not_moved (move_of sync o.at (length lo))) ss ≡ slots_in ss
     hidden_none [] h = refl
     hidden_none (s ∷ ss) h = ap₂ (λ x y. x ++ y) (unmoved_elsewhere (move_of sync o.at (length lo)) s h.0) (hidden_none ss h.1)
 
@@ -239,14 +239,14 @@ module _ (disk : Disk) (wo : Site) (o : Pair) (lo : List Slot) (u : Slot) (ro : 
     count_slots b xs ys = ap (λ z. count b (files_of new z)) (flat_map-append (λ (s : Pair). s.content.slots) xs ys) ∙ count_files b new (slots_in xs) (slots_in ys)
 
     count_hidden : (b : ℕ) (xs ys : List Pair)
-        → count b (files_of new (flat_map (unmoved (move_of sync o.at (length lo))) (xs ++ ys))) ≡ count b (files_of new (flat_map (unmoved (move_of sync o.at (length lo))) xs)) + count b (files_of new (flat_map (unmoved (move_of sync o.at (length lo))) ys))
-    count_hidden b xs ys = ap (λ z. count b (files_of new z)) (flat_map-append (unmoved (move_of sync o.at (length lo))) xs ys)
-        ∙ count_files b new (flat_map (unmoved (move_of sync o.at (length lo))) xs) (flat_map (unmoved (move_of sync o.at (length lo))) ys)
+        → count b (files_of new (flat_map (slots_not_moved (move_of sync o.at (length lo))) (xs ++ ys))) ≡ count b (files_of new (flat_map (slots_not_moved (move_of sync o.at (length lo))) xs)) + count b (files_of new (flat_map (slots_not_moved (move_of sync o.at (length lo))) ys))
+    count_hidden b xs ys = ap (λ z. count b (files_of new z)) (flat_map-append (slots_not_moved (move_of sync o.at (length lo))) xs ys)
+        ∙ count_files b new (flat_map (slots_not_moved (move_of sync o.at (length lo))) xs) (flat_map (slots_not_moved (move_of sync o.at (length lo))) ys)
 
     pub set_count : (b : ℕ) → count b (used_blocks new qs) + count b (files_of disk olds) ≡ count b (blocks_of more) + count b (used_blocks disk ps)
     set_count b =
         let D : Gstate = move_of sync o.at (length lo) in
-        let hid : List Pair → ℕ = λ z. count b (files_of new (flat_map (unmoved (move_of sync o.at (length lo))) z)) in
+        let hid : List Pair → ℕ = λ z. count b (files_of new (flat_map (slots_not_moved (move_of sync o.at (length lo))) z)) in
         let all : List Pair → ℕ = λ z. count b (files_of new (slots_in z)) in
         let a1 = count_append b (blocks_of qs) (files_of new (all_slots qs)) in
         let a2 = count_append b (blocks_of ps) (files_of disk (all_slots ps)) in
@@ -260,7 +260,7 @@ module _ (disk : Disk) (wo : Site) (o : Pair) (lo : List Slot) (u : Slot) (ro : 
         let at = ap (λ (a : ℕ × ℕ). count b (a.0 ∷ a.1 ∷ [])) x.at in
         let same = ap (count b) (slots_files disk new (all_slots ps) x.device.geometry same_files) in
         let plain = ap (λ z. count b (files_of new z)) (unmoved_in (gstate_of ps) (no_move_from ps k.settled) ps) in
-        let now = ap (λ (g : Gstate). count b (files_of new (flat_map (unmoved g) qs))) state_is in
+        let now = ap (λ (g : Gstate). count b (files_of new (flat_map (slots_not_moved g) qs))) state_is in
         let old_files = ap (count b) (slots_files disk new olds x.device.geometry (each_left (λ (s : Slot). HasSameFile disk new s.struct) olds r
         (each_right (λ (s : Slot). HasSameFile disk new s.struct) l (olds ++ r) (these (λ (s : Slot). HasSameFile disk new s.struct) x.device.files)))) in
         -- under the move, with the new slot and without it
@@ -276,10 +276,10 @@ module _ (disk : Disk) (wo : Site) (o : Pair) (lo : List Slot) (u : Slot) (ro : 
         let p2 = count_files b new l (olds ++ r) in
         let p3 = count_files b new olds r in
         -- the same pairs, around the old slot
-        let t1 = ap (λ z. count b (files_of new (flat_map (unmoved (move_of sync o.at (length lo))) z))) dirs_same in
+        let t1 = ap (λ z. count b (files_of new (flat_map (slots_not_moved (move_of sync o.at (length lo))) z))) dirs_same in
         let t2 = count_hidden b front_o (o ∷ back_o) in
         let t3 = count_hidden b (o ∷ []) back_o in
-        let o1 = ap (λ z. count b (files_of new z)) (append-nil (unmoved (move_of sync o.at (length lo)) o) ∙ hides) in
+        let o1 = ap (λ z. count b (files_of new z)) (append-nil (slots_not_moved (move_of sync o.at (length lo)) o) ∙ hides) in
         let o2 = count_files b new lo ro in
         -- without the move
         let g1 = count_slots b w.chain (dirs_at w (p ∷ [])) in
@@ -299,8 +299,8 @@ module _ (disk : Disk) (wo : Site) (o : Pair) (lo : List Slot) (u : Slot) (ro : 
 
 module _ (disk : Disk) (wo : Site) (o : Pair) (lo : List Slot) (u : Slot) (ro : List Slot) (w : Site) (p : Pair) (l : List Slot) (v : Slot) (r : List Slot)
     (sync : Bool) (new : Disk) (q : Pair) (more : List Pair) (x : HasTurned disk w p (l ++ v ∷ r) (gstate_xor (move_of sync o.at (length lo)) p.content.move) new q more)
-    (P : Path) (b : ℕ × ℕ) (leads : Leads (thread_at w (p ∷ [])) P b) (same_old : same_pair (begin_of wo (o ∷ [])) b ≡ true)
-    (Q : Path) (a : ℕ × ℕ) (arrives : Leads (thread_at w (p ∷ [])) Q a) (same : same_pair (begin_of w (p ∷ [])) a ≡ true) where
+    (P : Path) (b : ℕ × ℕ) (leads : PathLeadsTo (thread_at w (p ∷ [])) P b) (same_old : same_pair (begin_of wo (o ∷ [])) b ≡ true)
+    (Q : Path) (a : ℕ × ℕ) (arrives : PathLeadsTo (thread_at w (p ∷ [])) Q a) (same : same_pair (begin_of w (p ∷ [])) a ≡ true) where
   pub set_new : IsSetting disk wo o lo u ro w p l [] v r → v ≡ record u { name = v.name } → rest_after (P ++ u.name ∷ []) (Q ++ v.name ∷ []) ≡ None
       → IsPlace disk.order (entries_in (thread_at w (p ∷ [])) a) (place_at w l) v.name
       → Follows disk (thread_at w (p ∷ [])) new (thread_at w (q ∷ more)) (renamed (P ++ u.name ∷ []) (Q ++ v.name ∷ [])) (walk_by (P ++ u.name ∷ []) (Q ++ v.name ∷ []))

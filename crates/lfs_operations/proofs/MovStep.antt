@@ -31,21 +31,21 @@ use Rattle.lfs_model.proofs.Committed.{IsCompleted}
 use Rattle.lfs_model.proofs.Counts.{count, count_append, count_here, once_from_distinct}
 use Rattle.lfs_model.proofs.Histories.{LeavesOnly-weaker}
 use Rattle.lfs_model.proofs.Moves.{remove_here}
-use Rattle.lfs_model.proofs.MoveSets.{firsts, set_rearranged}
+use Rattle.lfs_model.proofs.MoveSets.{first_addresses, set_rearranged}
 use Rattle.lfs_model.proofs.Pairs.{pair_itself}
 use Rattle.lfs_model.proofs.RenamedAcross.{IsNoDirectory, target_slots}
-use Rattle.lfs_model.proofs.Sites.{Among, Site, among_left, among_parts, among_right, dirs_at, thread_at}
+use Rattle.lfs_model.proofs.Sites.{SomeIn, Site, among_left, among_parts, among_right, dirs_at, thread_at}
 use Rattle.lfs_model.proofs.Splices.{files_of}
-use Rattle.lfs_model.proofs.StepsTaken.{IsTaken, taken_then}
+use Rattle.lfs_model.proofs.StepsTaken.{IsOnlyStep, taken_then}
 use Rattle.lfs_model.proofs.Superblocks.{IsChain, pairs_behind}
 use Rattle.lfs_model.proofs.TwoPlaces.{OldStays, from_old, two}
-use Rattle.lfs_model.proofs.Writable.{flag}
+use Rattle.lfs_model.proofs.Writable.{ends_in_hard_tail}
 use Rattle.lfs_thread.specs.Device.{StopsLeave, two_of}
 use Rattle.lfs_thread.specs.Kept.{Kept}
 use Rattle.lfs_thread.specs.Steps.{HasShape, no_pair, pair_in, without_pair}
 use Rattle.lfs_operations.specs.Changing.{IsLeftByPut, IsPut}
 use Rattle.lfs_operations.specs.Dropping.{HasShrunk, SameInFlight}
-use Rattle.lfs_operations.specs.MoveEnds.{CanEnd, HasEnded, blocks_ended, content_without, is_led, map_ended, move_of, pairs_ended, sync_in}
+use Rattle.lfs_operations.specs.MoveEnds.{CanEndMoveAt, HasEndedMoveAt, blocks_ended, content_without, follows_hard_tail, map_ended, move_of, pairs_ended, sync_in}
 use Rattle.lfs_operations.specs.MovingSteps.{place_after}
 use Rattle.lfs_operations.specs.Ready.{IsLoggedAt, IsReady, KeepsRoot}
 use Rattle.lfs_operations.proofs.Dropped.{flying_same, length_fewer, used_fewer}
@@ -87,10 +87,10 @@ blocks_alike [] (y ∷ ys) h = absurd h
 blocks_alike (x ∷ xs) [] h = absurd h
 blocks_alike (x ∷ xs) (y ∷ ys) h = ap₂ (λ (at : ℕ × ℕ) (z : List ℕ). at.0 ∷ at.1 ∷ z) h.0 (blocks_alike xs ys h.2)
 
-led_at : (chain pre back : List Pair) (i : ℕ) → IsChain chain (pre ++ back) → i ≡ length chain + length pre → is_led (chain ++ (pre ++ back)) i ≡ flag false pre
+led_at : (chain pre back : List Pair) (i : ℕ) → IsChain chain (pre ++ back) → i ≡ length chain + length pre → follows_hard_tail (chain ++ (pre ++ back)) i ≡ ends_in_hard_tail false pre
 led_at chain pre back i is_chain number =
-    ap₂ (λ n z. flag false (take (i - n) z)) is_chain (pairs_behind chain (pre ++ back) is_chain)
-    ∙ ap (flag false) (take_front pre back (i - length chain) (omega arith))
+    ap₂ (λ n z. ends_in_hard_tail false (take (i - n) z)) is_chain (pairs_behind chain (pre ++ back) is_chain)
+    ∙ ap (ends_in_hard_tail false) (take_front pre back (i - length chain) (omega arith))
 
 -- ---- what is known before
 
@@ -107,8 +107,8 @@ pub record IsFirst (t : Kept) (sync : Bool) (old_pair : ℕ) (goes : Bool) (new_
   pub same_slot : v ≡ record u { name = name }
   pub follows : (disk : Disk) (q : Pair) (more : List Pair) → HasTurned t.disk w p (l ++ v ∷ r) (gstate_xor (move_of sync o.at (length lo)) p.content.move) disk q more
       → Follows t.disk (thread_at w (p ∷ [])) disk (thread_at w (q ∷ more)) (renamed old_path new_path) (walk_by old_path new_path)
-  pub stays : goes ≡ false → flag false (wo.before ++ wo.left) ≡ true → 1 < length o.content.slots
-  pub alone : goes ≡ true → (flag false (wo.before ++ wo.left) ≡ true) × (length o.content.slots ≡ 1)
+  pub stays : goes ≡ false → ends_in_hard_tail false (wo.before ++ wo.left) ≡ true → 1 < length o.content.slots
+  pub alone : goes ≡ true → (ends_in_hard_tail false (wo.before ++ wo.left) ≡ true) × (length o.content.slots ≡ 1)
   pub from_slot : slot_of_path (thread_at w (p ∷ [])) old_path ≡ Some u
   pub to_slot : slot_of_path (thread_at w (p ∷ [])) new_path ≡ target
   pub to_name : last_name new_path ≡ name
@@ -129,7 +129,7 @@ module _ (t : Kept) (sync : Bool) (old_pair : ℕ) (goes : Bool) (new_pair : ℕ
   after = renamed old_path new_path (tree_in t.disk t.pairs)
 
   first_taken : (disk : Disk) (q : Pair) (more : List Pair) → HasTurned t.disk w p slots move disk q more
-      → IsTaken t.disk (thread_at w (p ∷ [])) disk (thread_at w (q ∷ more)) (renamed old_path new_path) (walk_by old_path new_path)
+      → IsOnlyStep t.disk (thread_at w (p ∷ [])) disk (thread_at w (q ∷ more)) (renamed old_path new_path) (walk_by old_path new_path)
   first_taken disk q more x = taken_by t.disk wo o lo u ro w p l (target_slots target) v r k.setting sync disk q more x (renamed old_path new_path) (walk_by old_path new_path) (k.follows disk q more x)
 
   -- ---- at a stop in the first step
@@ -178,7 +178,7 @@ module _ (t : Kept) (sync : Bool) (old_pair : ℕ) (goes : Bool) (new_pair : ℕ
     abbrev pub arr : Arranged t.disk wo o w p x.q x.more
     arr = arrangement t.disk mid.disk mid.disk wo o lo u ro w p l target v r k.setting x.q x.more sync x.turned
 
-    taken : IsTaken t.disk (thread_at w (p ∷ [])) mid.disk (thread_at w (x.q ∷ x.more)) (renamed old_path new_path) (walk_by old_path new_path)
+    taken : IsOnlyStep t.disk (thread_at w (p ∷ [])) mid.disk (thread_at w (x.q ∷ x.more)) (renamed old_path new_path) (walk_by old_path new_path)
     taken = first_taken mid.disk x.q x.more x.turned
 
     pub mid_shows : tree_in mid.disk mid.pairs ≡ renamed old_path new_path (tree_in t.disk t.pairs)
@@ -281,10 +281,10 @@ module _ (t : Kept) (sync : Bool) (old_pair : ℕ) (goes : Bool) (new_pair : ℕ
         (unwritten o.at.0 (let e = count_here o.at.0 (o.at.1 ∷ []) in omega arith))
         (unwritten o.at.1 (let e = count_here o.at.1 [] in let f = count_append o.at.1 (o.at.0 ∷ []) (o.at.1 ∷ []) in omega arith)))
 
-    led_same : is_led mid.pairs index ≡ flag false (wo.before ++ wo.left)
-    led_same = ap (λ z. is_led z index) mid_is ∙ led_at w.chain arr.pre (o ∷ arr.post) index mid_chain index_is ∙ arr.led
+    led_same : follows_hard_tail mid.pairs index ≡ ends_in_hard_tail false (wo.before ++ wo.left)
+    led_same = ap (λ z. follows_hard_tail z index) mid_is ∙ led_at w.chain arr.pre (o ∷ arr.post) index mid_chain index_is ∙ arr.led
 
-    pub mid_ends : CanEnd mid (place_after old_pair new_pair (length mid.pairs - length t.pairs)) (length lo) goes
+    pub mid_ends : CanEndMoveAt mid (place_after old_pair new_pair (length mid.pairs - length t.pairs)) (length lo) goes
     mid_ends = record {
       accepted = subst (IsAccepted mid.disk) (sym x.pairs) taken.follows.accepted;
       writable = subst (IsWritable mid.disk) (sym x.pairs) taken.writable;
@@ -313,7 +313,7 @@ module _ (t : Kept) (sync : Bool) (old_pair : ℕ) (goes : Bool) (new_pair : ℕ
 
     -- ---- after the second step
 
-    module _ (last : Kept) (e : HasEnded mid (place_after old_pair new_pair (length mid.pairs - length t.pairs)) (length lo) goes last) where
+    module _ (last : Kept) (e : HasEndedMoveAt mid (place_after old_pair new_pair (length mid.pairs - length t.pairs)) (length lo) goes last) where
       abbrev o2 : Pair
       o2 = record { at = (pair_in mid index).at; content = content_without mid index (length lo) }
 
@@ -326,7 +326,7 @@ module _ (t : Kept) (sync : Bool) (old_pair : ℕ) (goes : Bool) (new_pair : ℕ
       settled_last : sync ≡ false → gstate_of last.pairs ≡ no_gstate
       settled_last plain = last_state ∙ ap (λ b. record no_gstate { sync = b }) plain
 
-      filled : goes ≡ false → flag false (wo.before ++ wo.left) ≡ true → lo ++ ro ≢ []
+      filled : goes ≡ false → ends_in_hard_tail false (wo.before ++ wo.left) ≡ true → lo ++ ro ≢ []
       filled stays hard none =
           let m = k.stays stays hard in
           let a = ap length k.setting.held in
@@ -363,33 +363,33 @@ module _ (t : Kept) (sync : Bool) (old_pair : ℕ) (goes : Bool) (new_pair : ℕ
                 (subst (λ b. AreAlike (pairs_ended mid index (length lo) b) last.pairs) is e.alike);
           }
 
-      second : IsTaken mid.disk (thread_at w (x.q ∷ x.more)) last.disk last.pairs (λ t. t) (λ d. d)
-      second = subst (λ z. IsTaken mid.disk z last.disk last.pairs (λ t. t) (λ d. d)) x.pairs e.taken
+      second : IsOnlyStep mid.disk (thread_at w (x.q ∷ x.more)) last.disk last.pairs (λ t. t) (λ d. d)
+      second = subst (λ z. IsOnlyStep mid.disk z last.disk last.pairs (λ t. t) (λ d. d)) x.pairs e.taken
 
       -- both steps
-      pub last_taken : IsTaken t.disk t.pairs last.disk last.pairs (renamed old_path new_path) (walk_by old_path new_path)
-      last_taken = subst (λ z. IsTaken t.disk z last.disk last.pairs (renamed old_path new_path) (walk_by old_path new_path)) (sym k.turn.there)
+      pub last_taken : IsOnlyStep t.disk t.pairs last.disk last.pairs (renamed old_path new_path) (walk_by old_path new_path)
+      last_taken = subst (λ z. IsOnlyStep t.disk z last.disk last.pairs (renamed old_path new_path) (walk_by old_path new_path)) (sym k.turn.there)
           (taken_then t.disk mid.disk last.disk (thread_at w (p ∷ [])) (thread_at w (x.q ∷ x.more)) last.pairs (renamed old_path new_path) (λ t. t) (walk_by old_path new_path) (λ d. d) (ends_same (renamed old_path new_path)) taken second)
 
-      pub last_firsts : firsts (directories_in last.pairs) ≡ firsts (directories_in t.pairs)
-      last_firsts = e.begins ∙ ap (λ z. firsts (directories_in z)) x.pairs
+      pub last_firsts : first_addresses (directories_in last.pairs) ≡ first_addresses (directories_in t.pairs)
+      last_firsts = e.begins ∙ ap (λ z. first_addresses (directories_in z)) x.pairs
           ∙ set_firsts t.disk mid.disk wo o lo u ro w p [] x.q x.more (blocks_of x.more) l (target_slots target) v r (set_step t.disk wo o lo u ro w p l (target_slots target) v r k.setting sync mid.disk x.q x.more x.turned)
-          ∙ ap (λ z. firsts (directories_in z)) (sym k.turn.there)
+          ∙ ap (λ z. first_addresses (directories_in z)) (sym k.turn.there)
 
       -- a pair stays that isn't one of the two, has no slots and ends its directory
-      pub last_kept : (z : Pair) → (p ≡ z → ⊥) → z.content.slots ≡ [] → is_hard z.content.tail ≡ false → Among (λ y. y ≡ z) t.pairs → Among (λ y. y ≡ z) last.pairs
-      last_kept z other none soft h = e.kept z none soft (subst (Among (λ y. y ≡ z)) (sym x.pairs)
-          (past (among_parts (λ y. y ≡ z) w.chain ((w.before ++ w.left) ++ (p ∷ (w.right ++ w.after))) (subst (Among (λ y. y ≡ z)) k.turn.there h))))
+      pub last_kept : (z : Pair) → (p ≡ z → ⊥) → z.content.slots ≡ [] → is_hard z.content.tail ≡ false → SomeIn (λ y. y ≡ z) t.pairs → SomeIn (λ y. y ≡ z) last.pairs
+      last_kept z other none soft h = e.kept z none soft (subst (SomeIn (λ y. y ≡ z)) (sym x.pairs)
+          (past (among_parts (λ y. y ≡ z) w.chain ((w.before ++ w.left) ++ (p ∷ (w.right ++ w.after))) (subst (SomeIn (λ y. y ≡ z)) k.turn.there h))))
         where
-          behind : Among (λ y. y ≡ z) (p ∷ (w.right ++ w.after)) → Among (λ y. y ≡ z) (thread_at w (x.q ∷ x.more))
+          behind : SomeIn (λ y. y ≡ z) (p ∷ (w.right ++ w.after)) → SomeIn (λ y. y ≡ z) (thread_at w (x.q ∷ x.more))
           behind (inl is) = absurd (other is)
           behind (inr h) = among_right (λ y. y ≡ z) w.chain (dirs_at w (x.q ∷ x.more)) (among_right (λ y. y ≡ z) (w.before ++ w.left) (x.q ∷ x.more ++ (w.right ++ w.after)) (among_right (λ y. y ≡ z) (x.q ∷ x.more) (w.right ++ w.after) h))
 
-          within : Among (λ y. y ≡ z) (w.before ++ w.left) ⊎ Among (λ y. y ≡ z) (p ∷ (w.right ++ w.after)) → Among (λ y. y ≡ z) (thread_at w (x.q ∷ x.more))
+          within : SomeIn (λ y. y ≡ z) (w.before ++ w.left) ⊎ SomeIn (λ y. y ≡ z) (p ∷ (w.right ++ w.after)) → SomeIn (λ y. y ≡ z) (thread_at w (x.q ∷ x.more))
           within (inl h) = among_right (λ y. y ≡ z) w.chain (dirs_at w (x.q ∷ x.more)) (among_left (λ y. y ≡ z) (w.before ++ w.left) (x.q ∷ x.more ++ (w.right ++ w.after)) h)
           within (inr h) = behind h
 
-          past : Among (λ y. y ≡ z) w.chain ⊎ Among (λ y. y ≡ z) ((w.before ++ w.left) ++ (p ∷ (w.right ++ w.after))) → Among (λ y. y ≡ z) (thread_at w (x.q ∷ x.more))
+          past : SomeIn (λ y. y ≡ z) w.chain ⊎ SomeIn (λ y. y ≡ z) ((w.before ++ w.left) ++ (p ∷ (w.right ++ w.after))) → SomeIn (λ y. y ≡ z) (thread_at w (x.q ∷ x.more))
           past (inl h) = among_left (λ y. y ≡ z) w.chain (dirs_at w (x.q ∷ x.more)) h
           past (inr h) = within (among_parts (λ y. y ≡ z) (w.before ++ w.left) (p ∷ (w.right ++ w.after)) h)
 

@@ -14,7 +14,7 @@ use Rattle.lfs_model.specs.PowerLoss.{with_blocks}
 use Rattle.lfs_model.specs.Slots.{Slot, Content, Gstate, FitsPair, gstate_xor}
 use Rattle.lfs_model.specs.SlotEdits.{with_slots}
 use Rattle.lfs_model.specs.Thread.{Pair, blocks_of, gstate_of}
-use Rattle.lfs_model.specs.View.{BeginsWith, superblock_entry, IsAccepted}
+use Rattle.lfs_model.specs.View.{BeginsWithEntry, superblock_entry, IsAccepted}
 use Rattle.lfs_model.specs.Shown.{used_blocks}
 use Rattle.lfs_model.proofs.Became.{fits_same}
 use Rattle.lfs_model.proofs.Counts.{Each, each_right, count, once_from_distinct, distinct_from_once}
@@ -25,9 +25,9 @@ use Rattle.lfs_model.proofs.Unchanged.{HasFirst}
 use Rattle.lfs_pair.specs.Commit.{OutsideKeeps}
 use Rattle.lfs_pair.specs.Split.{OutsideBothKeeps}
 use Rattle.lfs_thread.specs.Kept.{Kept}
-use Rattle.lfs_thread.specs.Steps.{pair_in, no_pair, made_in_thread, with_pair, with_two, AreHalves, HasShape, IsAsBefore, IsChanged, IsLeftByChange, IsWrittenAs, SlotsHaveFirst, front_pair, back_pair}
-use Rattle.lfs_operations.specs.Changing.{AreTwoFree, IsCutIn, IsLeftByPut, IsPut, IsTooLarge}
-use Rattle.lfs_operations.specs.Ready.{NoneComes, StayTaken}
+use Rattle.lfs_thread.specs.Steps.{pair_in, no_pair, made_in_thread, with_pair, with_two, AreHalves, HasShape, HasOldContent, IsChanged, IsLeftByChange, IsWrittenAs, SlotsHaveFirst, front_pair, back_pair}
+use Rattle.lfs_operations.specs.Changing.{AreTwoFree, IsPairCutInto, IsLeftByPut, IsPut, IsTooLarge}
+use Rattle.lfs_operations.specs.Ready.{NoNewInFlight, StayTaken}
 use Rattle.lfs_operations.proofs.Owning.{length_now, none_comes_now, stay_taken, used_more}
 use Rattle.lfs_operations.proofs.Placing.{IsPlaced, all_apart, device}
 use Rattle.lfs_operations.proofs.Splicing.{AreOn, cut_front, not_used}
@@ -97,7 +97,7 @@ pub record TurnedTo (t : Kept) (w : Site) (p : Pair) (slots : List Slot) (move :
   pub size : length new.map ≡ length t.map
   pub shape : HasShape t.disk new.disk
   pub stays : StayTaken t.map new.map
-  pub none_comes : NoneComes t.map new.map
+  pub none_comes : NoNewInFlight t.map new.map
   pub fresh : (b : ℕ) → 1 ≤ count b (blocks_of more) → IsFree t.map b
 
 -- the pair alone, as what a change of it comes to
@@ -171,15 +171,15 @@ module _ (t : Kept) (index : ℕ) (changes : List Change) (w : Site) (p : Pair) 
     geometry = shape_same is.shape;
     same = same_two disk (subst (λ at. OutsideKeeps at t.disk.blocks disk.blocks) at_is is.others);
     contents = (ap (content_at disk) (sym at_is) ∙ is.holds, tt);
-    first = λ h b. subst (λ at. BeginsWith (holder_at disk at) superblock_entry) at_is (is.first (subst (λ at. BeginsWith (holder_at t.disk at) superblock_entry) (sym at_is) b) (first h));
+    first = λ h b. subst (λ at. BeginsWithEntry (holder_at disk at) superblock_entry) at_is (is.first (subst (λ at. BeginsWithEntry (holder_at t.disk at) superblock_entry) (sym at_is) b) (first h));
   }
 
-  placed_still : (disk : Disk) (fresh : ℕ × ℕ) → HasShape t.disk disk → OutsideBothKeeps (pair_in t index).at fresh t.disk.blocks disk.blocks → IsAsBefore t index disk → IsPlaced t.disk disk p p [] (fresh.0 ∷ fresh.1 ∷ [])
+  placed_still : (disk : Disk) (fresh : ℕ × ℕ) → HasShape t.disk disk → OutsideBothKeeps (pair_in t index).at fresh t.disk.blocks disk.blocks → HasOldContent t index disk → IsPlaced t.disk disk p p [] (fresh.0 ∷ fresh.1 ∷ [])
   placed_still disk fresh shape others is = record {
     geometry = shape_same shape;
     same = same_four disk fresh (subst (λ at. OutsideBothKeeps at fresh t.disk.blocks disk.blocks) at_is others);
     contents = (subst (λ (z : Pair). content_at disk z.at ≡ Some z.content) pair_is is.holds, tt);
-    first = λ h b. subst (λ at. BeginsWith (holder_at disk at) superblock_entry) at_is (is.first (subst (λ at. BeginsWith (holder_at t.disk at) superblock_entry) (sym at_is) b));
+    first = λ h b. subst (λ at. BeginsWithEntry (holder_at disk at) superblock_entry) at_is (is.first (subst (λ at. BeginsWithEntry (holder_at t.disk at) superblock_entry) (sym at_is) b));
   }
 
   placed_two : (disk : Disk) (fresh : ℕ × ℕ) (cut : ℕ) → 0 < cut → AreOn t index c disk fresh cut → IsPlaced t.disk disk p (cut_front p.at c cut fresh) (back_pair c cut fresh ∷ []) (fresh.0 ∷ fresh.1 ∷ [])
@@ -187,8 +187,8 @@ module _ (t : Kept) (index : ℕ) (changes : List Change) (w : Site) (p : Pair) 
     geometry = shape_same is.shape;
     same = same_four disk fresh (subst (λ at. OutsideBothKeeps at fresh t.disk.blocks disk.blocks) at_is is.others);
     contents = (ap (content_at disk) (sym at_is) ∙ is.front, (is.back, tt));
-    first = λ h b. subst (λ at. BeginsWith (holder_at disk at) superblock_entry) at_is
-        (is.parts.first (subst (λ at. BeginsWith (holder_at t.disk at) superblock_entry) (sym at_is) b) (front_has cut some h));
+    first = λ h b. subst (λ at. BeginsWithEntry (holder_at disk at) superblock_entry) at_is
+        (is.parts.first (subst (λ at. BeginsWithEntry (holder_at t.disk at) superblock_entry) (sym at_is) b) (front_has cut some h));
   }
 
   -- ---- free blocks
@@ -275,7 +275,7 @@ module _ (t : Kept) (index : ℕ) (changes : List Change) (w : Site) (p : Pair) 
         fresh = λ b some. absurd (omega arith);
       }
 
-  cut_turned : IsMapped t → (new : Kept) (fresh : ℕ × ℕ) → IsTooLarge t index changes → IsCutIn t index fresh changes new → TurnedTo t w p slots move new
+  cut_turned : IsMapped t → (new : Kept) (fresh : ℕ × ℕ) → IsTooLarge t index changes → IsPairCutInto t index fresh changes new → TurnedTo t w p slots move new
   cut_turned m new fresh large is =
       let same = made_same is.content is.made in
       let there : new.pairs ≡ thread_at w (front_pair t index is.content is.cut fresh ∷ back_pair is.content is.cut fresh ∷ [])
@@ -334,7 +334,7 @@ module _ (t : Kept) (index : ℕ) (changes : List Change) (w : Site) (p : Pair) 
   left_put m left (inl is) = alone_on (with_blocks left t.disk) (left_alone left is)
   left_put m left (inr (large, (fresh, (two, is)))) = go is.content
     where
-      go : IsAsBefore t index (with_blocks left t.disk) ⊎ AreHalves t index changes fresh (with_blocks left t.disk) → Stays (with_blocks left t.disk) ⊎ TurnedOn t w p slots move (with_blocks left t.disk)
+      go : HasOldContent t index (with_blocks left t.disk) ⊎ AreHalves t index changes fresh (with_blocks left t.disk) → Stays (with_blocks left t.disk) ⊎ TurnedOn t w p slots move (with_blocks left t.disk)
       go (inl b) = inl (device t.disk (with_blocks left t.disk) w p p [] (fresh.0 ∷ fresh.1 ∷ []) accepted (all_distinct m fresh two)
           (placed_still (with_blocks left t.disk) fresh (shape_of left is.others.count) is.others b))
       go (inr h) =

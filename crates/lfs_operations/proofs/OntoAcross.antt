@@ -7,8 +7,8 @@ use Rattle.std.proofs.lemmas.Option.{same_Some}
 use Rattle.lfs_model.specs.TreeEdits.{last_name, renamed, rest_after, same_path}
 use Rattle.lfs_model.specs.Blocks.{Blocks}
 use Rattle.lfs_model.specs.Changes.{Change}
-use Rattle.lfs_model.specs.InDirectory.{BeginsAt, Stands}
-use Rattle.lfs_model.specs.Layout.{Fits, Goes, directory_of, removed_directories}
+use Rattle.lfs_model.specs.InDirectory.{BeginsAt, HasNameAtPlace}
+use Rattle.lfs_model.specs.Layout.{FitsOnDisk, RemovesDirectory, directory_of, removed_directories}
 use Rattle.lfs_model.specs.LoggedContent.{IsAddress}
 use Rattle.lfs_model.specs.Names.{Name}
 use Rattle.lfs_model.specs.Operations as ops
@@ -16,11 +16,11 @@ use Rattle.lfs_model.specs.PowerLoss.{IsLeftByStop as IsLeftOf, with_blocks}
 use Rattle.lfs_model.specs.SlotEdits.{slot_of_path, with_slots}
 use Rattle.lfs_model.specs.Slots.{Branch, Ctz, Inline, Slot, Struct, gstate_xor, no_gstate, same_pair}
 use Rattle.lfs_model.specs.Refusals.{as_path}
-use Rattle.lfs_model.specs.Thread.{Begins, ThreadDirectory, Pair, anchor, blocks_of, directory_pairs, first_at, gstate_of, is_hard, root_of, superblocks_before}
+use Rattle.lfs_model.specs.Thread.{IsDirectoryBegin, ThreadDirectory, Pair, anchor, blocks_of, directory_pairs, first_at, gstate_of, is_hard, root_of, superblocks_before}
 use Rattle.lfs_model.specs.Tree.{Path, branch_of, directory_at}
 use Rattle.lfs_model.specs.Profile.{HaveSlots, IsWritable}
 use Rattle.lfs_model.specs.View.{IsAccepted}
-use Rattle.lfs_model.specs.Shown.{IsReached, Leads, directories_in, entries_in, tree_in, used_blocks}
+use Rattle.lfs_model.specs.Shown.{IsReached, PathLeadsTo, directories_in, entries_in, tree_in, used_blocks}
 use Rattle.lfs_model.proofs.Alike.{AreAlike, Stood}
 use Rattle.lfs_model.proofs.Changes.{Follows}
 use Rattle.lfs_model.proofs.Committed.{IsCompleted, no_move_from, recovered_from}
@@ -39,9 +39,9 @@ use Rattle.lfs_model.proofs.Renames.{rename_walk}
 use Rattle.lfs_model.proofs.Replacing.{IsReplaced}
 use Rattle.lfs_model.proofs.Searches.{avoids_behind, avoids_front, is_site, same, site, slot_of_stands, thread_is}
 use Rattle.lfs_model.proofs.Segments.{drafts_of, parts_of}
-use Rattle.lfs_model.proofs.Sites.{Among, IsSite, Site, begin_of, dirs_at, thread_at}
+use Rattle.lfs_model.proofs.Sites.{SomeIn, IsSite, Site, begin_of, dirs_at, thread_at}
 use Rattle.lfs_model.proofs.Splices.{files_of}
-use Rattle.lfs_model.proofs.StepsTaken.{IsTaken}
+use Rattle.lfs_model.proofs.StepsTaken.{IsOnlyStep}
 use Rattle.lfs_model.proofs.Superblocks.{IsChain, pairs_behind}
 use Rattle.lfs_model.proofs.Trees.{not_before}
 use Rattle.lfs_model.proofs.TwoPlaces.{OldStays, fits_fewer, from_old, two}
@@ -49,11 +49,11 @@ use Rattle.lfs_thread.specs.Kept.{Kept}
 use Rattle.lfs_thread.specs.Steps.{no_pair, pair_in}
 use Rattle.lfs_operations.specs.Dropping.{CanDropAt, HasDroppedBehind, IsLeftByDrop}
 use Rattle.lfs_operations.specs.Editing.{CanEdit}
-use Rattle.lfs_operations.specs.MoveEnds.{HasEnded, move_of}
+use Rattle.lfs_operations.specs.MoveEnds.{HasEndedMoveAt, move_of}
 use Rattle.lfs_operations.specs.MovingSteps.{IsPutAndEnded, place_after}
 use Rattle.lfs_operations.specs.MovingAcross.{IsRenamedAcross, with_moved}
 use Rattle.lfs_operations.specs.MovingOnto.{CanReplaceDirectory, IsMovedOnto, onto_changes}
-use Rattle.lfs_operations.specs.Removing.{goes_whole}
+use Rattle.lfs_operations.specs.Removing.{drops_pair}
 use Rattle.lfs_operations.proofs.Held.{below, fits_there}
 use Rattle.lfs_operations.proofs.MovReplace.{is_first, onto_directory}
 use Rattle.lfs_operations.proofs.MovStep.{IsFirst, IsLeftOver, arr, first_turned, last_firsts, last_flying, last_kept, last_root, last_shape, last_size, last_state, last_taken, last_used, left_over}
@@ -68,12 +68,12 @@ use Rattle.lfs_operations.proofs.RmdirPlaces.{HasFront, directory_led, front_of,
 
 -- ---- lists
 
-among_there : (xs : List Pair) (k : ℕ) (o : Pair) → slice_get xs k ≡ Some o → Among (λ y. y ≡ o) xs
+among_there : (xs : List Pair) (k : ℕ) (o : Pair) → slice_get xs k ≡ Some o → SomeIn (λ y. y ≡ o) xs
 among_there [] k o e = absurd (cc)
 among_there (x ∷ xs) zero o e = inl (same_Some x o e)
 among_there (x ∷ xs) (suc k) o e = inr (among_there xs k o e)
 
-somewhere : (xs : List Pair) (o : Pair) → Among (λ y. y ≡ o) xs → (k : ℕ) × (slice_get xs k ≡ Some o)
+somewhere : (xs : List Pair) (o : Pair) → SomeIn (λ y. y ≡ o) xs → (k : ℕ) × (slice_get xs k ≡ Some o)
 somewhere [] o h = absurd h
 somewhere (x ∷ xs) o (inl e) = (0, ap Some e)
 somewhere (x ∷ xs) o (inr h) = let s = somewhere xs o h in (suc s.0, s.1)
@@ -85,11 +85,11 @@ pub new_below : (t : Kept) (old_pair old_id first new_pair new_id : ℕ) (name :
 new_below t old_pair old_id first new_pair new_id name gone rename = below t rename.old.ready rename.to_first new_pair rename.target.pair rename.target.rest rename.target.place
 
 module _ (t : Kept) (old_pair old_id first new_pair new_id : ℕ) (name : Name) (gone : ℕ) (rename : CanReplaceDirectory t old_pair old_id first new_pair new_id name gone) (address : IsAddress (pair_in t old_pair).at)
-    (m : Kept) (is : IsPutAndEnded t old_pair old_id (goes_whole t old_pair first) new_pair (onto_changes true t old_pair old_id new_pair new_id name) m) where
+    (m : Kept) (is : IsPutAndEnded t old_pair old_id (drops_pair t old_pair first) new_pair (onto_changes true t old_pair old_id new_pair new_id name) m) where
   abbrev can : CanEdit t old_pair old_id
   can = rename.old
 
-  abbrev tb : Stands t.pairs rename.to_first name new_pair new_id
+  abbrev tb : HasNameAtPlace t.pairs rename.to_first name new_pair new_id
   tb = rename.target
 
   abbrev p : Pair
@@ -132,7 +132,7 @@ module _ (t : Kept) (old_pair old_id first new_pair new_id : ℕ) (name : Name) 
   to = rename.path ++ name ∷ []
 
   abbrev goes : Bool
-  goes = goes_whole t old_pair first
+  goes = drops_pair t old_pair first
 
   abbrev changes : List Change
   changes = onto_changes true t old_pair old_id new_pair new_id name
@@ -146,8 +146,8 @@ module _ (t : Kept) (old_pair old_id first new_pair new_id : ℕ) (name : Name) 
   x : TurnedTo t w p (l ++ v ∷ r) (gstate_xor (move_of true q0.at (length lo)) p.content.move) is.mid
   x = first_turned t true old_pair goes new_pair changes wo q0 lo s ro w p l (Some g) v r from to name first_step is.mid is.put
 
-  e : HasEnded is.mid (place_after old_pair new_pair (length is.mid.pairs - length t.pairs)) (length lo) goes m
-  e = subst (λ i. HasEnded is.mid (place_after old_pair new_pair (length is.mid.pairs - length t.pairs)) i goes m) (sym can.stands.stands.number) is.ended
+  e : HasEndedMoveAt is.mid (place_after old_pair new_pair (length is.mid.pairs - length t.pairs)) (length lo) goes m
+  e = subst (λ i. HasEndedMoveAt is.mid (place_after old_pair new_pair (length is.mid.pairs - length t.pairs)) i goes m) (sym can.stands.stands.number) is.ended
 
   there : t.pairs ≡ thread_at w (p ∷ [])
   there = thread_is t.disk t.pairs rename.path rename.at can.ready.accepted rename.leads rename.to_first new_pair p tb.rest tb.place rename.begins
@@ -164,8 +164,8 @@ module _ (t : Kept) (old_pair old_id first new_pair new_id : ℕ) (name : Name) 
   settled : gstate_of (thread_at w (p ∷ [])) ≡ no_gstate
   settled = ap gstate_of (sym there) ∙ can.ready.settled
 
-  leads : Leads (thread_at w (p ∷ [])) rename.path rename.at
-  leads = subst (λ z. Leads z rename.path rename.at) there rename.leads
+  leads : PathLeadsTo (thread_at w (p ∷ [])) rename.path rename.at
+  leads = subst (λ z. PathLeadsTo z rename.path rename.at) there rename.leads
 
   -- ---- the directory before
 
@@ -173,7 +173,7 @@ module _ (t : Kept) (old_pair old_id first new_pair new_id : ℕ) (name : Name) 
   entry_there = ap (λ z. slice_get z (place_at w l)) (site_shows t.disk w p l (g ∷ []) r rename.at accepted site_is (no_move_from (thread_at w (p ∷ [])) settled) same_begin tb.stands.held
       ∙ ap (λ z. shown_before w l ++ (z ++ shown_behind w r)) (entry_only g tb.stands.entry)) ∙ get_here (shown_before w l) (shown_behind w r) g
 
-  led : Leads (thread_at w (p ∷ [])) (rename.path ++ g.name ∷ []) rename.to
+  led : PathLeadsTo (thread_at w (p ∷ [])) (rename.path ++ g.name ∷ []) rename.to
   led = directory_led t.disk (thread_at w (p ∷ [])) rename.path rename.at (place_at w l) g rename.to accepted leads entry_there rename.branch
 
   front : HasFront (dirs_at w (p ∷ [])) rename.to
@@ -204,13 +204,13 @@ module _ (t : Kept) (old_pair old_id first new_pair new_id : ℕ) (name : Name) 
 
   -- ---- and after the move
 
-  moved : IsTaken t.disk t.pairs m.disk m.pairs (renamed (can.path ++ can.name ∷ []) (rename.path ++ name ∷ [])) (rename_walk (can.path ++ can.name ∷ []) (rename.path ++ name ∷ []))
+  moved : IsOnlyStep t.disk t.pairs m.disk m.pairs (renamed (can.path ++ can.name ∷ []) (rename.path ++ name ∷ [])) (rename_walk (can.path ++ can.name ∷ []) (rename.path ++ name ∷ []))
   moved = last_taken t true old_pair goes new_pair changes wo q0 lo s ro w p l (Some g) v r from to name first_step is.mid x m e
 
-  led_there : Leads t.pairs (rename.path ++ g.name ∷ []) rename.to
-  led_there = subst (λ z. Leads z (rename.path ++ g.name ∷ []) rename.to) (sym there) led
+  led_there : PathLeadsTo t.pairs (rename.path ++ g.name ∷ []) rename.to
+  led_there = subst (λ z. PathLeadsTo z (rename.path ++ g.name ∷ []) rename.to) (sym there) led
 
-  begun : Begins (directories_in m.pairs) rename.to
+  begun : IsDirectoryBegin (directories_in m.pairs) rename.to
   begun = begins_at_firsts (directories_in t.pairs) (directories_in m.pairs) (last_firsts t true old_pair goes new_pair changes wo q0 lo s ro w p l (Some g) v r from to name first_step is.mid x m e) rename.to (can.ready.accepted.branches (rename.path ++ g.name ∷ []) rename.to led_there)
 
   found : HasDirectory (directory_pairs m.pairs) rename.to
@@ -313,7 +313,7 @@ module _ (t : Kept) (old_pair old_id first new_pair new_id : ℕ) (name : Name) 
       joined false = joined_stays a.front (Gains p (l ++ v ∷ r) x.q x.more ∷ Stays a.mid ∷ Keeps q0 (lo ++ ro) left.os ∷ Stays a.back ∷ [])
           ∙ ap (λ z. a.front ++ ((x.q ∷ x.more) ++ z)) (joined_stays a.mid (Keeps q0 (lo ++ ro) left.os ∷ Stays a.back ∷ []) ∙ ap (λ z. a.mid ++ (left.os ++ z)) last_piece)
 
-      o_fits : Fits t.disk (with_slots (lo ++ ro) q0)
+      o_fits : FitsOnDisk t.disk (with_slots (lo ++ ro) q0)
       o_fits = fits_fewer t.disk q0 lo ro s can.stands.stands.held (fits_there t can.ready can.first old_pair q0 can.stands.rest can.stands.place)
 
       filled : l ++ v ∷ r ≢ []
@@ -401,7 +401,7 @@ module _ (t : Kept) (old_pair old_id first new_pair new_id : ℕ) (name : Name) 
 
       stood : Stood t.disk (GoesAt (λ z. IsReached ps z → ⊥) rename.to) (length w.chain) None (w.chain ++ drafts_of (map segment_of cut.all)) new.pairs
       stood = pieces_stood t.disk (λ z. IsReached ps z → ⊥) rename.to w.chain cut.all new.pairs
-          (subst (λ z. Each (Fits t.disk) (w.chain ++ z)) (sym all_olds) (recursion_from_All (Fits t.disk) ps writable.pairs))
+          (subst (λ z. Each (FitsOnDisk t.disk) (w.chain ++ z)) (sym all_olds) (recursion_from_All (FitsOnDisk t.disk) ps writable.pairs))
           (subst (HaveSlots false) (pairs_behind w.chain (two a.b a.front (q0 ∷ []) a.mid (p ∷ []) a.back) two_chain ∙ sym all_olds) writable.no_empty_pair)
           (subst (NoneGoes (λ z. IsReached ps z → ⊥) None) (sym all_olds) unreached) cut.there alike_after
 
@@ -432,8 +432,8 @@ module _ (t : Kept) (old_pair old_id first new_pair new_id : ℕ) (name : Name) 
             (slot_of_stands t.disk t.pairs can.path can.at can.ready.accepted can.leads can.first old_pair old_id can.name (no_move_from t.pairs can.ready.settled) can.stands can.begins);
         to_slot = ap (slot_of_path ps) to_is ∙ to_slot;
         to_name = ap last_name to_is ∙ last_is rename.path name;
-        stood = subst (λ k. Stood t.disk (Goes ps (ops.Rename given to_given)) k None (w.chain ++ two a.b a.front (with_slots (lo ++ ro) q0 ∷ []) a.mid (with_slots (l ++ v ∷ r) p ∷ []) a.back) new.pairs) (sym two_chain)
-            (subst (λ z. Stood t.disk (Goes ps (ops.Rename given to_given)) (length w.chain) None (w.chain ++ z) new.pairs) (cut.drafts ∙ drafts a.b)
+        stood = subst (λ k. Stood t.disk (RemovesDirectory ps (ops.Rename given to_given)) k None (w.chain ++ two a.b a.front (with_slots (lo ++ ro) q0 ∷ []) a.mid (with_slots (l ++ v ∷ r) p ∷ []) a.back) new.pairs) (sym two_chain)
+            (subst (λ z. Stood t.disk (RemovesDirectory ps (ops.Rename given to_given)) (length w.chain) None (w.chain ++ z) new.pairs) (cut.drafts ∙ drafts a.b)
             (subst (λ ds. Stood t.disk (λ y. (IsReached ps y → ⊥) ⊎ Any (λ at. same_pair y at ≡ true) ds) (length w.chain) None (w.chain ++ drafts_of (map segment_of cut.all)) new.pairs) (sym (removes given to_given given_is to_is)) stood));
       }
 
@@ -450,7 +450,7 @@ module _ (t : Kept) (old_pair old_id first new_pair new_id : ℕ) (name : Name) 
   pub not_nowhere : AllByRecursion (λ z. same_pair z.at o.at ≡ false) m.pairs → ⊥
   not_nowhere none = go m.pairs none (last_kept t true old_pair goes new_pair changes wo q0 lo s ro w p l (Some g) v r from to name first_step is.mid x m e o not_new rename.empty rename.alone (among_there t.pairs gone o o_there))
     where
-      go : (xs : List Pair) → AllByRecursion (λ z. same_pair z.at o.at ≡ false) xs → Among (λ y. y ≡ o) xs → ⊥
+      go : (xs : List Pair) → AllByRecursion (λ z. same_pair z.at o.at ≡ false) xs → SomeIn (λ y. y ≡ o) xs → ⊥
       go [] h k = k
       go (y ∷ ys) h (inl k) = absurd (let z = sym h.0 ∙ ap (λ (z : Pair). same_pair z.at o.at) k ∙ pair_itself o.at in cc)
       go (y ∷ ys) h (inr k) = go ys h.1 k
@@ -484,8 +484,8 @@ module _ (t : Kept) (old_pair old_id first new_pair new_id : ℕ) (name : Name) 
     fits = rename.fits;
   }
 
-  done_later : IsPutAndEnded later old_pair old_id (goes_whole t old_pair first) new_pair (onto_changes true later old_pair old_id new_pair new_id name) m
-  done_later = subst (λ k. IsPutAndEnded k old_pair old_id (goes_whole t old_pair first) new_pair (onto_changes true k old_pair old_id new_pair new_id name) m) (read_is t h.from h.only) h.done
+  done_later : IsPutAndEnded later old_pair old_id (drops_pair t old_pair first) new_pair (onto_changes true later old_pair old_id new_pair new_id name) m
+  done_later = subst (λ k. IsPutAndEnded k old_pair old_id (drops_pair t old_pair first) new_pair (onto_changes true k old_pair old_id new_pair new_id name) m) (read_is t h.from h.only) h.done
 
   address_later : IsAddress (pair_in later old_pair).at
   address_later = subst (λ k. IsAddress (pair_in k old_pair).at) (read_is t h.from h.only) h.address

@@ -14,7 +14,7 @@ use Rattle.lfs_model.specs.Thread.{Pair, blocks_of, gstate_of, is_hard, root_of,
 use Rattle.lfs_model.specs.Tree.{Path, branch_of, directory_at, directory_from, root_slot}
 use Rattle.lfs_model.specs.View.{IsAccepted}
 use Rattle.lfs_model.specs.Profile.{IsWritable}
-use Rattle.lfs_model.specs.Shown.{Leads, all_slots, directories_in, entries_in, tree_in, used_blocks}
+use Rattle.lfs_model.specs.Shown.{PathLeadsTo, all_slots, directories_in, entries_in, tree_in, used_blocks}
 use Rattle.lfs_model.proofs.Alike.{AreAlike, alike_append, alike_itself}
 use Rattle.lfs_model.proofs.Committed.{no_move_from, recovered_from}
 use Rattle.lfs_model.proofs.Counts.{Each, count, count_append, count_here, each_right, once_from_distinct}
@@ -28,7 +28,7 @@ use Rattle.lfs_model.proofs.Replacing.{IsReplaced, replacing_taken}
 use Rattle.lfs_model.proofs.RmdirSteps.{IsGone}
 use Rattle.lfs_model.proofs.Sites.{thread_at}
 use Rattle.lfs_model.proofs.Splices.{IsDevice, files_of}
-use Rattle.lfs_model.proofs.StepsTaken.{IsTaken}
+use Rattle.lfs_model.proofs.StepsTaken.{IsOnlyStep}
 use Rattle.lfs_model.proofs.Superblocks.{IsChain}
 use Rattle.lfs_model.proofs.Uses.{accepted_sound}
 use Rattle.lfs_model.proofs.Walks.{leaf_leads, leads_below}
@@ -46,7 +46,7 @@ use Rattle.lfs_operations.proofs.RootStays.{root_stays}
 -- ---- the directory that is replaced
 
 -- a path leads to it, which ends with its entry, and to nothing beneath it
-pub replaced_by : (disk : Disk) (ps : List Pair) (P : Path) (a : ℕ × ℕ) (k : ℕ) (u : Slot) (d : ℕ × ℕ) (old : Path) → IsAccepted disk ps → Leads ps P a → slice_get (entries_in ps a) k ≡ Some u → u.struct ≡ Branch d
+pub replaced_by : (disk : Disk) (ps : List Pair) (P : Path) (a : ℕ × ℕ) (k : ℕ) (u : Slot) (d : ℕ × ℕ) (old : Path) → IsAccepted disk ps → PathLeadsTo ps P a → slice_get (entries_in ps a) k ≡ Some u → u.struct ≡ Branch d
     → entries_in ps d ≡ [] → rest_after old (P ++ u.name ∷ []) ≡ None → IsReplaced (directory_at (entries_in ps) (root_of ps)) old (P ++ u.name ∷ []) d
 replaced_by disk ps P a k u d old ok leads there branch empty apart = record {
   apart = apart;
@@ -67,7 +67,7 @@ replaced_by disk ps P a k u d old ok leads there branch empty apart = record {
 -- The image shows the tree with the rename, and the sync bit is set: no path leads to the pair o of number n any more, behind x.
 pub record IsReplacing (t m : Kept) (from to : Path) (d : ℕ × ℕ) (o : Pair) (n : ℕ) : Type 1 where
   pub ready : IsReady t
-  pub taken : IsTaken t.disk t.pairs m.disk m.pairs (renamed from to) (rename_walk from to)
+  pub taken : IsOnlyStep t.disk t.pairs m.disk m.pairs (renamed from to) (rename_walk from to)
   pub state : gstate_of m.pairs ≡ sync_delta
   pub chain : List Pair
   pub front : List Pair
@@ -155,9 +155,9 @@ module _ (t m : Kept) (from to : Path) (d : ℕ × ℕ) (o : Pair) (n : ℕ) (k 
   reached : AllReached t.pairs
   reached = (recovered_from t.disk t.pairs k.ready.accepted k.ready.settled).reached
 
-  end_taken : (disk : Disk) → IsWrittenAs m (n - 1) c disk → IsTaken t.disk t.pairs disk (k.chain ++ (k.front ++ y ∷ k.back)) (renamed from to) (rename_walk from to)
+  end_taken : (disk : Disk) → IsWrittenAs m (n - 1) c disk → IsOnlyStep t.disk t.pairs disk (k.chain ++ (k.front ++ y ∷ k.back)) (renamed from to) (rename_walk from to)
   end_taken disk written = replacing_taken t.disk m.disk disk t.pairs from to d k.chain k.front k.x o y k.back
-      (subst (λ z. IsTaken t.disk t.pairs m.disk z (renamed from to) (rename_walk from to)) k.there k.taken)
+      (subst (λ z. IsOnlyStep t.disk t.pairs m.disk z (renamed from to) (rename_walk from to)) k.there k.taken)
       (record {
         accepted = subst (IsAccepted m.disk) k.there k.taken.follows.accepted;
         writable = subst (IsWritable m.disk) k.there k.taken.writable;
@@ -176,8 +176,8 @@ module _ (t m : Kept) (from to : Path) (d : ℕ × ℕ) (o : Pair) (n : ℕ) (k 
         (alike_append k.chain (k.front ++ k.x ∷ k.back) k.chain (k.front ++ y ∷ k.back) (alike_itself k.chain)
         (alike_append k.front (k.x ∷ k.back) k.front (y ∷ k.back) (alike_itself k.front) (refl, c_slots, alike_itself k.back)))
 
-    pub taken_end : IsTaken t.disk t.pairs new.disk new.pairs (renamed from to) (rename_walk from to)
-    taken_end = subst (λ z. IsTaken t.disk t.pairs new.disk z (renamed from to) (rename_walk from to)) (sym pairs_end) (end_taken new.disk g.written)
+    pub taken_end : IsOnlyStep t.disk t.pairs new.disk new.pairs (renamed from to) (rename_walk from to)
+    taken_end = subst (λ z. IsOnlyStep t.disk t.pairs new.disk z (renamed from to) (rename_walk from to)) (sym pairs_end) (end_taken new.disk g.written)
 
     map_end : new.map ≡ without_pair m.map o.at
     map_end = g.map ∙ ap (λ (z : Pair). without_pair m.map z.at) o_there

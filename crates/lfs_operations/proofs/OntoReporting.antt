@@ -17,7 +17,7 @@ use Rattle.lfs_operations.specs.Dropping.{IsLeftByDrop}
 use Rattle.lfs_operations.specs.Changing.{has_failed}
 use Rattle.lfs_operations.specs.MoveEnds.{end_at}
 use Rattle.lfs_operations.specs.MovingSteps.{ReportsInSteps, WritesInTwo, left_at}
-use Rattle.lfs_operations.specs.Removing.{ReportsOfCalls, goes_whole}
+use Rattle.lfs_operations.specs.Removing.{ReportsOfCalls, drops_pair}
 use Rattle.lfs_operations.specs.RenamingOver.{ReportsOver, ReportsOverSteps}
 use Rattle.lfs_operations.proofs.UnlinkedSteps.{at_kept, writes_both}
 
@@ -56,7 +56,7 @@ works_after old new index changes r x h is = go h.failed
     go (inr e) = e.0
 
 pub left_below : (t : Kept) (pair first : ℕ) → pair < length t.pairs → left_at t pair first < length t.pairs
-left_below t pair first l = go (goes_whole t pair first)
+left_below t pair first l = go (drops_pair t pair first)
   where
     go : (b : Bool) → end_at pair b < length t.pairs
     go true = omega arith

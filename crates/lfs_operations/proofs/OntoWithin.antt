@@ -15,7 +15,7 @@ use Rattle.lfs_model.specs.Thread.{Pair, blocks_of, gstate_of, is_hard, root_of,
 use Rattle.lfs_model.specs.Tree.{Path, directory_at}
 use Rattle.lfs_model.specs.View.{IsAccepted}
 use Rattle.lfs_model.specs.Profile.{IsWritable}
-use Rattle.lfs_model.specs.Shown.{Leads, all_slots, directories_in, entries_in, tree_in, used_blocks}
+use Rattle.lfs_model.specs.Shown.{PathLeadsTo, all_slots, directories_in, entries_in, tree_in, used_blocks}
 use Rattle.lfs_model.proofs.Alike.{AreAlike}
 use Rattle.lfs_model.proofs.Became.{fits_same}
 use Rattle.lfs_model.proofs.Changes.{Follows, SameFiles}
@@ -35,7 +35,7 @@ use Rattle.lfs_model.proofs.RmdirSteps.{step_chain}
 use Rattle.lfs_model.proofs.Searches.{avoids_behind, avoids_front, is_site, same, site, slot_of_stands, thread_is}
 use Rattle.lfs_model.proofs.Sites.{IsSite, Site, begin_of, dirs_at, thread_at}
 use Rattle.lfs_model.proofs.Splices.{files_of}
-use Rattle.lfs_model.proofs.StepsTaken.{IsTaken}
+use Rattle.lfs_model.proofs.StepsTaken.{IsOnlyStep}
 use Rattle.lfs_model.proofs.Superblocks.{IsChain}
 use Rattle.lfs_model.proofs.TwoPlaces.{two}
 use Rattle.lfs_thread.specs.Kept.{Kept}
@@ -204,8 +204,8 @@ module _ (t : Kept) (index id place : ℕ) (name : Name) (gone : ℕ) (rename : 
   settled : gstate_of (thread_at w (p ∷ [])) ≡ no_gstate
   settled = ap gstate_of (sym there) ∙ can.ready.settled
 
-  leads : Leads (thread_at w (p ∷ [])) can.path can.at
-  leads = subst (λ z. Leads z can.path can.at) there can.leads
+  leads : PathLeadsTo (thread_at w (p ∷ [])) can.path can.at
+  leads = subst (λ z. PathLeadsTo z can.path can.at) there can.leads
 
   abbrev from : Path
   from = can.path ++ can.name ∷ []
@@ -225,7 +225,7 @@ module _ (t : Kept) (index id place : ℕ) (name : Name) (gone : ℕ) (rename : 
   entry_there = ap (λ s. slice_get s (place_at w l2)) (site_shows t.disk w p l2 (target ∷ []) r2 can.at accepted site_is (no_move_from (thread_at w (p ∷ [])) settled) same_begin held
       ∙ ap (λ s. shown_before w l2 ++ (s ++ shown_behind w r2)) (entry_only target over.target.stands.entry)) ∙ get_here (shown_before w l2) (shown_behind w r2) target
 
-  led : Leads (thread_at w (p ∷ [])) (can.path ++ target.name ∷ []) over.to
+  led : PathLeadsTo (thread_at w (p ∷ [])) (can.path ++ target.name ∷ []) over.to
   led = directory_led t.disk (thread_at w (p ∷ [])) can.path can.at (place_at w l2) target over.to accepted leads entry_there over.branch
 
   front : HasFront (dirs_at w (p ∷ [])) over.to
@@ -269,9 +269,9 @@ module _ (t : Kept) (index id place : ℕ) (name : Name) (gone : ℕ) (rename : 
   stepped : IsStep t.disk m.disk w p [] q [] [] [] h.l h.olds h.news h.r
   stepped = step t index id place name over h m.disk written
 
-  taken_now : IsTaken t.disk t.pairs m.disk m.pairs (renamed (can.path ++ can.name ∷ []) (can.path ++ name ∷ [])) (rename_walk (can.path ++ can.name ∷ []) (can.path ++ name ∷ []))
-  taken_now = subst (λ z. IsTaken t.disk t.pairs m.disk z (renamed from to) (rename_walk from to)) (sym pairs_now)
-      (subst (λ z. IsTaken t.disk z m.disk (thread_at w (q ∷ [])) (renamed from to) (rename_walk from to)) (sym there) (taken t index id place name over h m.disk written))
+  taken_now : IsOnlyStep t.disk t.pairs m.disk m.pairs (renamed (can.path ++ can.name ∷ []) (can.path ++ name ∷ [])) (rename_walk (can.path ++ can.name ∷ []) (can.path ++ name ∷ []))
+  taken_now = subst (λ z. IsOnlyStep t.disk t.pairs m.disk z (renamed from to) (rename_walk from to)) (sym pairs_now)
+      (subst (λ z. IsOnlyStep t.disk z m.disk (thread_at w (q ∷ [])) (renamed from to) (rename_walk from to)) (sym there) (taken t index id place name over h m.disk written))
 
   placed : HasPlaceOver w p q o over.to (length front.front)
   placed = place_over w p q o over.to rename.at accepted.thread.distinct refl front.front front.before (front.run ++ front.after) dirs_are front.soft not_itself
@@ -325,7 +325,7 @@ module _ (t : Kept) (index id place : ℕ) (name : Name) (gone : ℕ) (rename : 
   -- ---- both
 
   module _ (new : Kept) (g : HasDroppedBehind m (gone - 1) no_gstate new) where
-    ended : IsTaken t.disk t.pairs new.disk new.pairs (renamed (can.path ++ can.name ∷ []) (can.path ++ name ∷ [])) (rename_walk (can.path ++ can.name ∷ []) (can.path ++ name ∷ []))
+    ended : IsOnlyStep t.disk t.pairs new.disk new.pairs (renamed (can.path ++ can.name ∷ []) (can.path ++ name ∷ [])) (rename_walk (can.path ++ can.name ∷ []) (can.path ++ name ∷ []))
     ended = taken_end t m from to over.to o gone replacing new g
 
     laid : IsRenameWithinOnto t.disk new.disk new.pairs placed.b w.chain placed.one placed.mid placed.other p o q [] can.stands.stands.left u can.stands.stands.right h.x target h.y over.to

@@ -14,7 +14,7 @@ use Rattle.lfs_thread.specs.Device.{four_of, two_of}
 use Rattle.lfs_thread.specs.Kept.{Kept}
 use Rattle.lfs_thread.specs.Steps.{IsOnlyRead, Writes, back_pair, front_pair, no_pair, pair_in}
 use Rattle.lfs_operations.specs.Changing.{IsPut, WritesInPairs, WritesIn, WritesWithin}
-use Rattle.lfs_operations.specs.MoveEnds.{HasEnded, content_without, end_at, pairs_ended}
+use Rattle.lfs_operations.specs.MoveEnds.{HasEndedMoveAt, content_without, end_at, pairs_ended}
 use Rattle.lfs_operations.specs.MovingSteps.{WritesAmong, WritesInTwo}
 use Rattle.lfs_operations.specs.MovingOnto.{IsMovedOnto}
 use Rattle.lfs_operations.proofs.MovStep.{blocks_alike}
@@ -148,7 +148,7 @@ pub end_below : (n pair : ℕ) (goes : Bool) → pair < n → end_at pair goes <
 end_below n pair true l = omega (arith, l)
 end_below n pair false l = l
 
-pub end_within : (old mid new : Kept) (pair id : ℕ) (goes : Bool) → WritesWithin old mid → pair < length mid.pairs → HasEnded mid pair id goes new → Writes (two_of (pair_in mid (end_at pair goes)).at) mid new → WritesWithin old new
+pub end_within : (old mid new : Kept) (pair id : ℕ) (goes : Bool) → WritesWithin old mid → pair < length mid.pairs → HasEndedMoveAt mid pair id goes new → Writes (two_of (pair_in mid (end_at pair goes)).at) mid new → WritesWithin old new
 unfolding more
 end_within old mid new pair id goes w l ended second = record {
   written = more old mid new (end_at pair goes) w (end_below (length mid.pairs) pair goes l) second;

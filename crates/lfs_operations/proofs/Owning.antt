@@ -18,9 +18,9 @@ use Rattle.lfs_model.proofs.Files.{HasSameFile}
 use Rattle.lfs_model.proofs.Global.{HasNoMove}
 use Rattle.lfs_model.proofs.Sites.{Site, thread_at}
 use Rattle.lfs_model.proofs.Splices.{IsDevice, files_of, slots_in, unmoved_in, count_files}
-use Rattle.lfs_thread.specs.Steps.{settled}
-use Rattle.lfs_operations.specs.Changing.{AreTwoFree, flying}
-use Rattle.lfs_operations.specs.Ready.{NoneComes, StayTaken}
+use Rattle.lfs_thread.specs.Steps.{map_with_used_pair}
+use Rattle.lfs_operations.specs.Changing.{AreTwoFree, map_with_two_in_flight}
+use Rattle.lfs_operations.specs.Ready.{NoNewInFlight, StayTaken}
 use Rattle.lfs_operations.proofs.Placing.{blocks_append}
 use Rattle.lfs_operations.proofs.Taking.{within}
 
@@ -145,32 +145,32 @@ used_same sets us vs same used b = (
 -- two blocks come
 module _ (sets : BlockSets) (fresh : ℕ × ℕ) (two : AreTwoFree sets fresh) where
   abbrev now : BlockSets
-  now = settled (flying sets fresh) fresh
+  now = map_with_used_pair (map_with_two_in_flight sets fresh) fresh
 
   pub elsewhere : (b : ℕ) → b ≢ fresh.0 → b ≢ fresh.1 → slice_get now b ≡ slice_get sets b
   elsewhere b e f =
-      slice_get-set_other (set (flying sets fresh) fresh.0 Used) fresh.1 b Used f
-      ∙ slice_get-set_other (flying sets fresh) fresh.0 b Used e
+      slice_get-set_other (set (map_with_two_in_flight sets fresh) fresh.0 Used) fresh.1 b Used f
+      ∙ slice_get-set_other (map_with_two_in_flight sets fresh) fresh.0 b Used e
       ∙ slice_get-set_other (set sets fresh.0 InFlight) fresh.1 b InFlight f
       ∙ slice_get-set_other sets fresh.0 b InFlight e
 
   pub length_now : length now ≡ length sets
-  length_now = length-set (set (flying sets fresh) fresh.0 Used) fresh.1 Used ∙ length-set (flying sets fresh) fresh.0 Used
+  length_now = length-set (set (map_with_two_in_flight sets fresh) fresh.0 Used) fresh.1 Used ∙ length-set (map_with_two_in_flight sets fresh) fresh.0 Used
       ∙ length-set (set sets fresh.0 InFlight) fresh.1 InFlight ∙ length-set sets fresh.0 InFlight
 
   second_used : slice_get now fresh.1 ≡ Some Used
-  second_used = slice_get-set_same (set (flying sets fresh) fresh.0 Used) fresh.1 Used
-      (let w = within sets fresh.1 Free two.second in let e = length-set (flying sets fresh) fresh.0 Used ∙ length-set (set sets fresh.0 InFlight) fresh.1 InFlight ∙ length-set sets fresh.0 InFlight in omega arith)
+  second_used = slice_get-set_same (set (map_with_two_in_flight sets fresh) fresh.0 Used) fresh.1 Used
+      (let w = within sets fresh.1 Free two.second in let e = length-set (map_with_two_in_flight sets fresh) fresh.0 Used ∙ length-set (set sets fresh.0 InFlight) fresh.1 InFlight ∙ length-set sets fresh.0 InFlight in omega arith)
 
   first_used : slice_get now fresh.0 ≡ Some Used
-  first_used = slice_get-set_other (set (flying sets fresh) fresh.0 Used) fresh.1 fresh.0 Used two.apart
-      ∙ slice_get-set_same (flying sets fresh) fresh.0 Used
+  first_used = slice_get-set_other (set (map_with_two_in_flight sets fresh) fresh.0 Used) fresh.1 fresh.0 Used two.apart
+      ∙ slice_get-set_same (map_with_two_in_flight sets fresh) fresh.0 Used
       (let w = within sets fresh.0 Free two.first in let e = length-set (set sets fresh.0 InFlight) fresh.1 InFlight ∙ length-set sets fresh.0 InFlight in omega arith)
 
   pub stay_taken : StayTaken sets now
   stay_taken b taken = elsewhere b (λ e. taken (subst (IsFree sets) (sym e) two.first)) (λ e. taken (subst (IsFree sets) (sym e) two.second))
 
-  pub none_comes_now : NoneComes sets now
+  pub none_comes_now : NoNewInFlight sets now
   none_comes_now b flies = go (nat_eq b fresh.0) (nat_eq b fresh.1) refl refl
     where
       used_there : slice_get now b ≡ Some Used → ⊥

@@ -9,7 +9,7 @@ use Rattle.lfs_model.specs.Disk.{Disk, block_at, SameGeometry}
 use Rattle.lfs_model.specs.Slots.{Slot}
 use Rattle.lfs_model.specs.Content.{content_at, holder_at}
 use Rattle.lfs_model.specs.Thread.{Pair, blocks_of, first_at, from_slots, has_slots}
-use Rattle.lfs_model.specs.View.{BeginsWith, superblock_entry, IsAccepted, first_name}
+use Rattle.lfs_model.specs.View.{BeginsWithEntry, superblock_entry, IsAccepted, first_name}
 use Rattle.lfs_model.specs.Shown.{all_slots, used_blocks, file_blocks}
 use Rattle.lfs_model.proofs.Counts.{Each, count, count_append, once_from_distinct, each_from_counted}
 use Rattle.lfs_model.proofs.Sites.{Site, thread_at, IsSite}
@@ -33,7 +33,7 @@ pub record IsPlaced (old disk : Disk) (p q : Pair) (more : List Pair) (extra : L
   pub geometry : SameGeometry old disk
   pub same : (b : ℕ) → count b (extra ++ blocks_of (p ∷ [])) ≡ 0 → block_at disk b ≡ block_at old b
   pub contents : Each (λ x. content_at disk x.at ≡ Some x.content) (q ∷ more)
-  pub first : HasFirst p.content.slots → BeginsWith (holder_at old p.at) superblock_entry → BeginsWith (holder_at disk p.at) superblock_entry
+  pub first : HasFirst p.content.slots → BeginsWithEntry (holder_at old p.at) superblock_entry → BeginsWithEntry (holder_at disk p.at) superblock_entry
 
 module _ (old disk : Disk) (w : Site) (p q : Pair) (more : List Pair) (extra : List ℕ) (ok : IsAccepted old (thread_at w (p ∷ [])))
     (free : IsDistinct nat_eq (extra ++ used_blocks old (thread_at w (p ∷ [])))) (is : IsPlaced old disk p q more extra) where
@@ -58,11 +58,11 @@ module _ (old disk : Disk) (w : Site) (p q : Pair) (more : List Pair) (extra : L
       omega arith
 
   abbrev Begins : ℕ × ℕ → Type 0
-  Begins at = BeginsWith (holder_at disk at) superblock_entry
+  Begins at = BeginsWithEntry (holder_at disk at) superblock_entry
 
   -- a pair of the others, whose blocks are none that changed
   other_first : (c : Pair) → first_at (from_slots ps) ≡ c.at → 1 ≤ count c.at.0 (blocks_of front) + count c.at.0 (blocks_of back) → 1 ≤ count c.at.1 (blocks_of front) + count c.at.1 (blocks_of back) → Begins (first_at (from_slots ps))
-  other_first c e f s = subst Begins (sym e) (first_same old disk c.at (still c.at.0 f) (still c.at.1 s) (subst (λ at. BeginsWith (holder_at old at) superblock_entry) e ok.first))
+  other_first c e f s = subst Begins (sym e) (first_same old disk c.at (still c.at.0 f) (still c.at.1 s) (subst (λ at. BeginsWithEntry (holder_at old at) superblock_entry) e ok.first))
     where
       still : (b : ℕ) → 1 ≤ count b (blocks_of front) + count b (blocks_of back) → block_at disk b ≡ block_at old b
       still b some = is.same b (
@@ -83,7 +83,7 @@ module _ (old disk : Disk) (w : Site) (p q : Pair) (more : List Pair) (extra : L
       behind : ((qs : List Pair) → from_slots (front ++ qs) ≡ from_slots qs) → (slots : List Slot) → p.content.slots ≡ slots → FromSlots back → Begins (first_at (from_slots ps))
       behind all (s ∷ slots) e f =
           let here = is_front (p ∷ back) (all (p ∷ back) ∙ ap (λ z. cond (has_slots z) (p ∷ back) (from_slots back)) e) in
-          subst Begins (sym (ap first_at here)) (is.first (accepted_first old ps p back ok here) (subst (λ at. BeginsWith (holder_at old at) superblock_entry) (ap first_at here) ok.first))
+          subst Begins (sym (ap first_at here)) (is.first (accepted_first old ps p back ok here) (subst (λ at. BeginsWithEntry (holder_at old at) superblock_entry) (ap first_at here) ok.first))
       behind all [] e (InFront c rest there more) =
           let here = is_front (c ∷ rest) (all (p ∷ back) ∙ ap (λ z. cond (has_slots z) (p ∷ back) (from_slots back)) e ∙ there) in
           let n = first_counted back c rest there in

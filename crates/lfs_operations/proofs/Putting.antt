@@ -15,15 +15,15 @@ use Rattle.lfs_model.proofs.Histories.{LeavesOnly-weaker, LeavesOnly-trans, Stay
 use Rattle.lfs_thread.specs.Device.{StopsLeave, four_of}
 use Rattle.lfs_thread.specs.Kept.{Kept, State}
 use Rattle.lfs_thread.specs.CachedLog.{read_if_missing}
-use Rattle.lfs_thread.specs.Steps.{pair_in, AreHeld, AreHalves, ArePartsOf, CanBeSplit, IsLeftByChange, HasReported, IsAsBefore, IsLeftBySplit, IsOnlyRead, IsSplit, Writes}
-use Rattle.lfs_operations.specs.Changing.{AreTwoFree, CanPut, IsCut, IsCutIn, IsLeftByPut, IsTooLarge, IsLeftByCut, ReportsSpace, WritesIn, flying, Reports, has_failed}
+use Rattle.lfs_thread.specs.Steps.{pair_in, AreFreshInFlight, AreHalves, ArePartsOf, CanBeSplit, IsLeftByChange, HasReported, HasOldContent, IsLeftBySplit, IsOnlyRead, IsSplit, Writes}
+use Rattle.lfs_operations.specs.Changing.{AreTwoFree, CanPut, IsPairCut, IsPairCutInto, IsLeftByPut, IsTooLarge, IsLeftByCut, ReportsSpace, WritesIn, map_with_two_in_flight, Reports, has_failed}
 use Rattle.lfs_operations.proofs.Taking.{within}
 
 -- with other states of the blocks
 abbrev pub with_map : Kept → BlockSets → Kept
 with_map t sets = record t { map = sets }
 
-pub held : (sets : BlockSets) (fresh : ℕ × ℕ) → AreTwoFree sets fresh → AreHeld (flying sets fresh) fresh
+pub held : (sets : BlockSets) (fresh : ℕ × ℕ) → AreTwoFree sets fresh → AreFreshInFlight (map_with_two_in_flight sets fresh) fresh
 held sets fresh two = record {
   apart = two.apart;
   first = slice_get-set_other first_taken fresh.1 fresh.0 InFlight two.apart ∙ slice_get-set_same sets fresh.0 InFlight (within sets fresh.0 Free two.first);
@@ -34,7 +34,7 @@ held sets fresh two = record {
     first_taken : BlockSets
     first_taken = set sets fresh.0 InFlight
 
-pub can_split : (t : Kept) (index : ℕ) (fresh : ℕ × ℕ) (changes : List Change) → CanPut t index changes → AreTwoFree t.map fresh → CanBeSplit (with_map t (flying t.map fresh)) index fresh changes
+pub can_split : (t : Kept) (index : ℕ) (fresh : ℕ × ℕ) (changes : List Change) → CanPut t index changes → AreTwoFree t.map fresh → CanBeSplit (with_map t (map_with_two_in_flight t.map fresh)) index fresh changes
 can_split t index fresh changes can two = record {
   can = record { below = can.can.below; content = can.can.content; made = can.can.made; next = can.can.next };
   held = held t.map fresh two;
@@ -47,12 +47,12 @@ can_split t index fresh changes can two = record {
 
 module _ (t : Kept) (index : ℕ) (fresh : ℕ × ℕ) (changes : List Change) (two : AreTwoFree t.map fresh) where
   abbrev mid : Kept
-  mid = with_map t (flying t.map fresh)
+  mid = with_map t (map_with_two_in_flight t.map fresh)
 
   parts_same : {content : Content} {cut : ℕ} {disk : Disk} → ArePartsOf mid index content cut fresh disk → ArePartsOf t index content cut fresh disk
   parts_same p = record { front_fits = p.front_fits; back_fits = p.back_fits; inside = p.inside; first = p.first }
 
-  pub cut_in : (new : Kept) → IsSplit mid index fresh changes new → Writes (four_of (pair_in t index).at fresh) mid new → IsCutIn t index fresh changes new
+  pub cut_in : (new : Kept) → IsSplit mid index fresh changes new → Writes (four_of (pair_in t index).at fresh) mid new → IsPairCutInto t index fresh changes new
   cut_in new is writes = record {
     free = two;
     content = is.content;
@@ -70,8 +70,8 @@ module _ (t : Kept) (index : ℕ) (fresh : ℕ × ℕ) (changes : List Change) (
   pub left_by_cut : (left : Blocks) → IsLeftBySplit mid index fresh changes left → IsLeftByCut t index changes left
   left_by_cut left l = (fresh, (two, record { others = l.others; content = go l.content }))
     where
-      go : IsAsBefore mid index (record t.disk { blocks = left }) ⊎ AreHalves mid index changes fresh (record t.disk { blocks = left })
-          → IsAsBefore t index (record t.disk { blocks = left }) ⊎ AreHalves t index changes fresh (record t.disk { blocks = left })
+      go : HasOldContent mid index (record t.disk { blocks = left }) ⊎ AreHalves mid index changes fresh (record t.disk { blocks = left })
+          → HasOldContent t index (record t.disk { blocks = left }) ⊎ AreHalves t index changes fresh (record t.disk { blocks = left })
       go (inl b) = inl (record { holds = b.holds; first = b.first })
       go (inr h) = inr (record { content = h.content; made = h.made; cut = h.cut; front = h.front; back = h.back; parts = parts_same h.parts })
 
@@ -154,7 +154,7 @@ module _ (t : Kept) (h : List Event) (reads : OnlyReads t.disk.blocks t.history 
     at_worst = LeavesOnly-trans (LeavesOnly-reads AtWorst-read reads (record { count = refl; sizes = λ b. refl; others = λ b apart. refl })) w.at_worst;
   }
 
-  pub cut_later : (new : Kept) → IsCut later index changes new → IsCut t index changes new
+  pub cut_later : (new : Kept) → IsPairCut later index changes new → IsPairCut t index changes new
   cut_later new (fresh, is) = (
     fresh,
     record {
@@ -175,8 +175,8 @@ module _ (t : Kept) (h : List Event) (reads : OnlyReads t.disk.blocks t.history 
   pub left_later : (left : Blocks) → IsLeftByCut later index changes left → IsLeftByCut t index changes left
   left_later left (fresh, (two, l)) = (fresh, (two, record { others = l.others; content = go l.content }))
     where
-      go : IsAsBefore later index (record t.disk { blocks = left }) ⊎ AreHalves later index changes fresh (record t.disk { blocks = left })
-          → IsAsBefore t index (record t.disk { blocks = left }) ⊎ AreHalves t index changes fresh (record t.disk { blocks = left })
+      go : HasOldContent later index (record t.disk { blocks = left }) ⊎ AreHalves later index changes fresh (record t.disk { blocks = left })
+          → HasOldContent t index (record t.disk { blocks = left }) ⊎ AreHalves t index changes fresh (record t.disk { blocks = left })
       go (inl b) = inl (record { holds = b.holds; first = b.first })
       go (inr k) = inr (record { content = k.content; made = k.made; cut = k.cut; front = k.front; back = k.back; parts = parts_earlier k.parts })
 

@@ -12,7 +12,7 @@ use Rattle.lfs_model.specs.Log.{LogEntry, log_entries}
 use Rattle.lfs_model.specs.LoggedContent.{IsAddress, IsMoveState, is_null}
 use Rattle.lfs_model.specs.Slots.{Content, FitsPair, Gstate, Tail, gstate_xor, no_gstate}
 use Rattle.lfs_model.specs.Tag.{class_of, kind_of}
-use Rattle.lfs_model.specs.Thread.{Pair, gstate_of, next_of, unmoved}
+use Rattle.lfs_model.specs.Thread.{Pair, gstate_of, next_of, slots_not_moved}
 use Rattle.lfs_model.specs.View.{IsAccepted}
 use Rattle.lfs_model.proofs.Completed.{complete_length, complete_remove, completed_from, completed_parts}
 use Rattle.lfs_model.proofs.Counts.{Each}
@@ -21,9 +21,9 @@ use Rattle.lfs_model.proofs.Global.{gstate_cons}
 use Rattle.lfs_model.proofs.Pairs.{pair_itself}
 use Rattle.lfs_model.proofs.RecoveredImage.{fits_unmoved}
 use Rattle.lfs_thread.specs.Kept.{Kept}
-use Rattle.lfs_thread.specs.Steps.{CanChange, CanDrop, IsRefused, made_in_thread, no_pair, pair_in}
-use Rattle.lfs_operations.specs.Deltas.{CanSetState, CanTakeOver, FitsFields, IsAddressIfSome, goes_on_at, setting, delta_of, takes_delta, taking_over, target_of}
-use Rattle.lfs_operations.specs.EndingMove.{CanTakeSlot, taking}
+use Rattle.lfs_thread.specs.Steps.{CanChange, CanDrop, IsCommitRefused, made_in_thread, no_pair, pair_in}
+use Rattle.lfs_operations.specs.Deltas.{CanSetState, CanTakeOver, FitsFields, IsAddressIfSome, has_tail_at, set_state_changes, delta_of, takes_delta, take_over_changes, target_of}
+use Rattle.lfs_operations.specs.EndingMove.{CanTakeSlot, take_slot_changes}
 use Rattle.lfs_operations.proofs.Held.{completes_to}
 
 -- ---- what a log can come to
@@ -154,18 +154,18 @@ module _ (t : Kept) (index : ℕ) (g : Gstate) (can : CanSetState t index g) (ad
   abbrev p : Pair
   p = pair_in t index
 
-  pub set_made : made_in_thread t index (setting t index g) ≡ Some (set_content t index g)
+  pub set_made : made_in_thread t index (set_state_changes t index g) ≡ Some (set_content t index g)
   set_made =
       let k = completes_to (raw_at t.disk p.at) p.content (holds_at t can.accepted index can.below) in
       let parts = completed_parts k.raw p.content k.complete in
       let now = record k.raw { move = delta_of t index g } in
-      ap (λ o. option_and_then completed (option_and_then (λ (x : RawContent). changed_by x (setting t index g)) o)) k.is
+      ap (λ o. option_and_then completed (option_and_then (λ (x : RawContent). changed_by x (set_state_changes t index g)) o)) k.is
       ∙ ap (λ o. option_and_then completed o) (does_first (PutMove (delta_of t index g)) [] k.raw now now
       (puts_move k.raw (delta_of t index g) (small_state (delta_of t index g) (delta_fits t can.accepted index g can.below can.fields) address)) (does_nothing now))
       ∙ completed_from now p.content.slots parts.slots
       ∙ ap (λ tail. Some (record { slots = p.content.slots; tail = tail; move = delta_of t index g })) (sym parts.tail)
 
-  pub can_set : CanChange t index (setting t index g)
+  pub can_set : CanChange t index (set_state_changes t index g)
   can_set = record { below = can.below; content = set_content t index g; made = set_made; next = refl }
 
   pub set_fits : FitsPair t.disk.block_size t.disk.page (set_content t index g)
@@ -177,7 +177,7 @@ module _ (t : Kept) (index : ℕ) (g : Gstate) (can : CanSetState t index g) (ad
 -- ---- a tail and a delta taken over
 
 abbrev pub over_content : Kept → ℕ → ℕ → Gstate → Content
-over_content t index behind g = with_tail (pair_in t index).content (taken_tail (goes_on_at t index && goes_on_at t behind) (pair_in t behind).content.tail) (takes_delta t index behind g)
+over_content t index behind g = with_tail (pair_in t index).content (taken_tail (has_tail_at t index && has_tail_at t behind) (pair_in t behind).content.tail) (takes_delta t index behind g)
 
 module _ (t : Kept) (index behind : ℕ) (g : Gstate) (can : CanTakeOver t index behind g) (address : IsAddress (takes_delta t index behind g).pair)
     (words : IsAddressIfSome (target_of (pair_in t behind).content.tail)) where
@@ -188,7 +188,7 @@ module _ (t : Kept) (index behind : ℕ) (g : Gstate) (can : CanTakeOver t index
   next = pair_in t behind
 
   abbrev hard : Bool
-  hard = goes_on_at t index && goes_on_at t behind
+  hard = has_tail_at t index && has_tail_at t behind
 
   below_first : index < length t.pairs
   below_first = let l = can.below in let n = can.next in omega arith
@@ -196,18 +196,18 @@ module _ (t : Kept) (index behind : ℕ) (g : Gstate) (can : CanTakeOver t index
   over_fields : FitsFields (takes_delta t index behind g)
   over_fields = xor_fits (delta_of t index g) next.content.move (delta_fits t can.accepted index g below_first can.fields) (fits_at t can.accepted behind can.below)
 
-  pub over_made : made_in_thread t index (taking_over t index behind g) ≡ Some (over_content t index behind g)
+  pub over_made : made_in_thread t index (take_over_changes t index behind g) ≡ Some (over_content t index behind g)
   over_made =
       let k = completes_to (raw_at t.disk first.at) first.content (holds_at t can.accepted index below_first) in
       let parts = completed_parts k.raw first.content k.complete in
       let mid : RawContent = record k.raw { tail = taken_tail hard next.content.tail } in
       let now : RawContent = record k.raw { tail = taken_tail hard next.content.tail; move = takes_delta t index behind g } in
-      ap (λ o. option_and_then completed (option_and_then (λ (x : RawContent). changed_by x (taking_over t index behind g)) o)) k.is
+      ap (λ o. option_and_then completed (option_and_then (λ (x : RawContent). changed_by x (take_over_changes t index behind g)) o)) k.is
       ∙ ap (λ o. option_and_then completed o) (raw_tail k.raw hard next.content.tail (PutMove (takes_delta t index behind g) ∷ []) now (tail_named t can.accepted behind can.below) words
       (does_first (PutMove (takes_delta t index behind g)) [] mid now now (puts_move mid (takes_delta t index behind g) (small_state (takes_delta t index behind g) over_fields address)) (does_nothing now)))
       ∙ completed_from now first.content.slots parts.slots
 
-  pub can_drop : CanDrop t index (taking_over t index behind g)
+  pub can_drop : CanDrop t index (take_over_changes t index behind g)
   can_drop = record {
     below = let l = can.below in let n = can.next in omega arith;
     content = over_content t index behind g;
@@ -227,12 +227,12 @@ module _ (t : Kept) (index behind : ℕ) (g : Gstate) (can : CanTakeOver t index
 
 -- ---- neither is refused
 
-pub set_not_refused : (t : Kept) (index : ℕ) (g : Gstate) → CanSetState t index g → IsAddress (delta_of t index g).pair → (new : Kept) → IsRefused t index (setting t index g) new → ⊥
+pub set_not_refused : (t : Kept) (index : ℕ) (g : Gstate) → CanSetState t index g → IsAddress (delta_of t index g).pair → (new : Kept) → IsCommitRefused t index (set_state_changes t index g) new → ⊥
 set_not_refused t index g can address new is =
     is.too_large (subst (FitsPair t.disk.block_size t.disk.page) (sym (same_Some is.content (set_content t index g) (sym is.made ∙ set_made t index g can address))) (set_fits t index g can address))
 
 pub over_not_refused : (t : Kept) (index behind : ℕ) (g : Gstate) → CanTakeOver t index behind g → IsAddress (takes_delta t index behind g).pair → IsAddressIfSome (target_of (pair_in t behind).content.tail)
-    → (new : Kept) → IsRefused t index (taking_over t index behind g) new → ⊥
+    → (new : Kept) → IsCommitRefused t index (take_over_changes t index behind g) new → ⊥
 over_not_refused t index behind g can address words new is =
     is.too_large (subst (FitsPair t.disk.block_size t.disk.page) (sym (same_Some is.content (over_content t index behind g) (sym is.made ∙ over_made t index behind g can address words)))
     (over_fits t index behind g can address words))
@@ -250,7 +250,7 @@ module _ (t : Kept) (index id : ℕ) (g : Gstate) (take : CanTakeSlot t index id
   pair_fits = each_at (λ x. FitsPair t.disk.block_size t.disk.page x.content) t.pairs index take.can.below
       (recursion_from_All (λ (x : Pair). FitsPair t.disk.block_size t.disk.page x.content) t.pairs take.can.writable.pairs)
 
-  pub take_made : IsAddress (delta_of t index g).pair → made_in_thread t index (taking t index id g) ≡ Some (without_content t index id g)
+  pub take_made : IsAddress (delta_of t index g).pair → made_in_thread t index (take_slot_changes t index id g) ≡ Some (without_content t index id g)
   take_made address =
       let k = completes_to (raw_at t.disk the_pair.at) the_pair.content (holds_at t take.can.accepted index take.can.below) in
       let parts = completed_parts k.raw the_pair.content k.complete in
@@ -259,22 +259,22 @@ module _ (t : Kept) (index id : ℕ) (g : Gstate) (take : CanTakeSlot t index id
       let low = take.below in
       let first : RawContent = record k.raw { slots = remove k.raw.slots id } in
       let now : RawContent = record k.raw { slots = remove k.raw.slots id; move = delta_of t index g } in
-      ap (λ o. option_and_then completed (option_and_then (λ (x : RawContent). changed_by x (taking t index id g)) o)) k.is
+      ap (λ o. option_and_then completed (option_and_then (λ (x : RawContent). changed_by x (take_slot_changes t index id g)) o)) k.is
       ∙ ap (λ o. option_and_then completed o) (does_first (Delete id) (PutMove (delta_of t index g) ∷ []) k.raw first now (deletes k.raw id (omega arith) (omega arith))
       (does_first (PutMove (delta_of t index g)) [] first now now
       (puts_move first (delta_of t index g) (small_state (delta_of t index g) (delta_fits t take.can.accepted index g take.can.below take.can.fields) address)) (does_nothing now)))
       ∙ completed_from now (remove the_pair.content.slots id) (complete_remove k.raw.slots the_pair.content.slots id parts.slots)
       ∙ ap (λ tail. Some (record { slots = remove the_pair.content.slots id; tail = tail; move = delta_of t index g })) (sym parts.tail)
 
-  pub can_take_slot : IsAddress (delta_of t index g).pair → CanChange t index (taking t index id g)
+  pub can_take_slot : IsAddress (delta_of t index g).pair → CanChange t index (take_slot_changes t index id g)
   can_take_slot address = record { below = take.can.below; content = without_content t index id g; made = take_made address; next = refl }
 
   pub take_fits : FitsPair t.disk.block_size t.disk.page (without_content t index id g)
   take_fits =
       let hide : Gstate = record { sync = false; kind = 0x4ff; id = id; pair = the_pair.at } in
       let f = fits_unmoved t.disk hide the_pair pair_fits in
-      let e : unmoved hide the_pair ≡ remove the_pair.content.slots id = ap (λ b. cond (nat_eq 0x4ff 0x4ff && b) (remove the_pair.content.slots id) the_pair.content.slots) (pair_itself the_pair.at) in
+      let e : slots_not_moved hide the_pair ≡ remove the_pair.content.slots id = ap (λ b. cond (nat_eq 0x4ff 0x4ff && b) (remove the_pair.content.slots id) the_pair.content.slots) (pair_itself the_pair.at) in
       subst (λ slots. FitsPair t.disk.block_size t.disk.page (record { slots = slots; tail = the_pair.content.tail; move = delta_of t index g })) e (record { size = f.size; count = f.count })
 
-  pub take_not_refused : IsAddress (delta_of t index g).pair → (new : Kept) → IsRefused t index (taking t index id g) new → ⊥
+  pub take_not_refused : IsAddress (delta_of t index g).pair → (new : Kept) → IsCommitRefused t index (take_slot_changes t index id g) new → ⊥
   take_not_refused address new is = is.too_large (subst (FitsPair t.disk.block_size t.disk.page) (sym (same_Some is.content (without_content t index id g) (sym is.made ∙ take_made address))) take_fits)

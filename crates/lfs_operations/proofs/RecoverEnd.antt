@@ -9,10 +9,10 @@ use Rattle.lfs_model.specs.Disk.{SameGeometry, block_at}
 use Rattle.lfs_model.specs.History.{Event, faults}
 use Rattle.lfs_model.specs.LoggedContent.{IsAddress}
 use Rattle.lfs_model.specs.PowerLoss.{IsLeftByStop as IsLeftOf, Survives, with_blocks}
-use Rattle.lfs_model.specs.Layout.{onward}
+use Rattle.lfs_model.specs.Layout.{directory_after}
 use Rattle.lfs_model.specs.Recovery.{IsRecovered}
 use Rattle.lfs_model.specs.Slots.{Gstate, Slot, no_gstate}
-use Rattle.lfs_model.specs.Thread.{Links, ThreadDirectory, Pair, anchor, blocks_of, directory_pairs, gstate_of, leads_on, meets_superblock, superblocks_before}
+use Rattle.lfs_model.specs.Thread.{LinkByTails, ThreadDirectory, Pair, anchor, blocks_of, directory_pairs, gstate_of, leads_on, meets_superblock, superblocks_before}
 use Rattle.lfs_model.specs.View.{IsAccepted}
 use Rattle.lfs_model.specs.Shown.{IsReached, all_slots, directories_in, file_blocks, tree_in}
 use Rattle.lfs_model.specs.Profile.{IsWritable}
@@ -28,13 +28,13 @@ use Rattle.lfs_model.proofs.Layouts.{NoneGoes, none_where, rest_all}
 use Rattle.lfs_model.proofs.Moves.{AllReached}
 use Rattle.lfs_model.proofs.Recovering.{recovery_ends}
 use Rattle.lfs_model.proofs.Sites.{thread_at}
-use Rattle.lfs_model.proofs.StepsTaken.{IsTaken}
+use Rattle.lfs_model.proofs.StepsTaken.{IsOnlyStep}
 use Rattle.lfs_model.proofs.Superblocks.{pairs_behind}
 use Rattle.lfs_thread.specs.Device.{StopsLeave}
 use Rattle.lfs_thread.specs.Kept.{Kept, State}
 use Rattle.lfs_thread.specs.Steps.{IsChanged, IsLeftByChange, IsWrittenAs, Writes, with_pair}
-use Rattle.lfs_operations.specs.Deltas.{CanSetState, setting, delta_of}
-use Rattle.lfs_operations.specs.Recovering.{AreUnreached, AreUnreachedFrom, CanClearSync, HasRecovered, IsCleared, ReportsOfSteps, list_blocks_at, slots_at}
+use Rattle.lfs_operations.specs.Deltas.{CanSetState, set_state_changes, delta_of}
+use Rattle.lfs_operations.specs.Recovering.{AreUnreached, AreUnreachedFrom, CanClearSync, HasRecovered, IsCleared, ReportsOfRecovery, list_blocks_at, slots_at}
 use Rattle.lfs_operations.specs.Dropping.{SameInFlight}
 use Rattle.lfs_operations.specs.Removing.{ReportsOfCalls}
 use Rattle.lfs_operations.proofs.Removed.{reports_again}
@@ -56,7 +56,7 @@ fewer p (q ∷ ps) = go (meets_superblock (q ∷ ps) && leads_on p) (fewer q ps)
     go true l = omega arith
     go false l = omega arith
 
-some_pairs : (ps : List Pair) → Links (Some anchor) ps → superblocks_before ps < length ps
+some_pairs : (ps : List Pair) → LinkByTails (Some anchor) ps → superblocks_before ps < length ps
 some_pairs [] h = absurd (cc)
 some_pairs (p ∷ ps) h = fewer p ps
 
@@ -94,20 +94,20 @@ module _ (t : Kept) (can : CanClearSync t) where
     pub can_set_last : CanSetState t index no_gstate
     can_set_last = record { accepted = can.accepted; writable = can.writable; below = omega arith; fields = none_fits }
 
-    pub cleared : (new : Kept) → IsAddress (delta_of t index no_gstate).pair → IsChanged t index (setting t index no_gstate) new → IsCleared t new
+    pub cleared : (new : Kept) → IsAddress (delta_of t index no_gstate).pair → IsChanged t index (set_state_changes t index no_gstate) new → IsCleared t new
     cleared new address c =
         let same = same_Some c.content (set_content t index no_gstate) (sym c.made ∙ set_made t index no_gstate can_set_last address) in
         let written = subst (λ x. IsWrittenAs t index x new.disk) same c.written in
         let pairs : new.pairs ≡ thread_at (h t index can_clear).site (y t index can_clear ∷ []) = c.pairs ∙ ap (with_pair t index) same ∙ clear_pairs t index can_clear in
         record {
-          taken = subst₂ (λ a b. IsTaken t.disk a new.disk b (λ t. t) (λ d. d)) (sym (h t index can_clear).is) (sym pairs) (clear_taken t index can_clear new.disk written);
+          taken = subst₂ (λ a b. IsOnlyStep t.disk a new.disk b (λ t. t) (λ d. d)) (sym (h t index can_clear).is) (sym pairs) (clear_taken t index can_clear new.disk written);
           alike = subst (AreAlike t.pairs) (sym pairs) (clear_alike t index can_clear);
           settled = ap gstate_of pairs ∙ clear_state t index can_clear;
           map = c.map;
           files = subst (λ z. All (λ s. HasSameFile t.disk new.disk s.struct) (all_slots z)) (sym (h t index can_clear).is) (device_on t index can_clear new.disk written).files;
         }
 
-    pub clear_survives : (new : List Event) → IsAddress (delta_of t index no_gstate).pair → StopsLeave t.history new (IsLeftByChange t index (setting t index no_gstate))
+    pub clear_survives : (new : List Event) → IsAddress (delta_of t index no_gstate).pair → StopsLeave t.history new (IsLeftByChange t index (set_state_changes t index no_gstate))
         → Survives t.disk t.history new (tree_in t.disk t.pairs) (tree_in t.disk t.pairs)
     clear_survives new address stops clean = LeavesOnly-weaker (λ left x. clear_left t index can_clear can_set_last address left x) (stops clean)
 
@@ -170,7 +170,7 @@ module _ (old now : Kept) (dropped : ℕ) (u : IsUnderWay old now dropped []) wh
         ∙ ap superblocks_before e.way.there ∙ e.way.is.ready.is_chain ∙ sym (ap superblocks_before (chain_of_thread old.pairs).0 ∙ (chain_of_thread old.pairs).1);
     shows = c.taken.follows.shows ∙ shows_now;
     completed = λ s tree. recovery_ends old.disk old.pairs now.disk C e.seen e.parts e.kept new.disk new.pairs (λ d. d) s e.way.is fits
-        (subst (λ z. IsTaken now.disk z new.disk new.pairs (λ t. t) (λ d. d)) e.way.there c.taken)
+        (subst (λ z. IsOnlyStep now.disk z new.disk new.pairs (λ t. t) (λ d. d)) e.way.there c.taken)
         (subst (λ z. AreAlike z new.pairs) (e.way.there ∙ ap (λ z. C ++ z) (append-nil e.kept)) c.alike) c.settled tree;
   }
     where
@@ -203,7 +203,7 @@ module _ (old now : Kept) (dropped : ℕ) (u : IsUnderWay old now dropped []) wh
 -- ---- what the steps tell
 
 pub reports_steps : {X Y : Type 0} (old mid new : State) (e : Error) (result : Result X Error) (given : Result Y Error) → faults mid.kept.history ≡ faults old.kept.history → result ≡ Err e → given ≡ Err e → ReportsOfCalls mid new result
-    → ReportsOfSteps old new given
+    → ReportsOfRecovery old new given
 reports_steps old mid new e result given quiet is same t =
     let k = reports_again mid new e result given is same t.failed t.reported in
     record {
@@ -217,7 +217,7 @@ reports_steps old mid new e result given quiet is same t =
 
 reported_none : (R : ℕ × ℕ → Type 0) (n : ℕ) (from : Option (ℕ × ℕ)) (xs : List Pair) (numbers : List ℕ) → NoneGoes (λ a. R a → ⊥) from xs → AreUnreachedFrom R n from xs numbers → numbers ≡ []
 reported_none R n from [] numbers h reported = reported
-reported_none R n from (x ∷ xs) numbers h (inl reported) = reported_none R (suc n) (onward from x) xs numbers h.1 reported.1
+reported_none R n from (x ∷ xs) numbers h (inl reported) = reported_none R (suc n) (directory_after from x) xs numbers h.1 reported.1
 reported_none R n from (x ∷ xs) numbers h (inr reported) = absurd (h.0 reported.1.1.0)
 
 pub none_reported : (ps : List Pair) (numbers : List ℕ) → IsRecovered ps → AreUnreached ps numbers → numbers ≡ []

@@ -12,12 +12,12 @@ use Rattle.lfs_model.specs.Shown.{tree_in, used_blocks}
 use Rattle.lfs_model.proofs.Counts.{count, once_from_distinct}
 use Rattle.lfs_model.proofs.Global.{HasNoMove}
 use Rattle.lfs_model.proofs.Histories.{LeavesOnly-weaker}
-use Rattle.lfs_model.proofs.StepsTaken.{IsTaken}
+use Rattle.lfs_model.proofs.StepsTaken.{IsOnlyStep}
 use Rattle.lfs_thread.specs.Device.{StopsLeave}
 use Rattle.lfs_thread.specs.Kept.{Kept}
 use Rattle.lfs_thread.specs.Steps.{IsChanged, IsDropped, IsLeftByChange, IsWrittenAs, pair_in, with_pair, without_pair}
-use Rattle.lfs_operations.specs.Deltas.{CanTakeOver, IsAddressIfSome, delta_of, takes_delta, taking_over, target_of}
-use Rattle.lfs_operations.specs.EndingMove.{CanEndMove, CanTakeSlot, HasEndedMove, IsMovedAt, is_alone_at, taking, unset}
+use Rattle.lfs_operations.specs.Deltas.{CanTakeOver, IsAddressIfSome, delta_of, takes_delta, take_over_changes, target_of}
+use Rattle.lfs_operations.specs.EndingMove.{CanEndMove, CanTakeSlot, HasEndedMove, IsMovedAt, is_alone_at, take_slot_changes, gstate_without_move}
 use Rattle.lfs_operations.proofs.Owning.{used_same}
 use Rattle.lfs_operations.specs.Dropping.{SameInFlight}
 use Rattle.lfs_operations.proofs.RecoverBefore.{AreKin, go_alike, laid_out_gap, laid_out_kin}
@@ -28,7 +28,7 @@ use Rattle.lfs_operations.proofs.RecoverStays.{h, stays_chain, stays_kin, stays_
 
 module _ (t : Kept) (can : CanEndMove t) (index : ℕ) (m : IsMovedAt t index) where
   abbrev g : Gstate
-  g = unset (gstate_of t.pairs)
+  g = gstate_without_move (gstate_of t.pairs)
 
   pub can_take : CanTakeSlot t index (gstate_of t.pairs).id g
   can_take = record {
@@ -36,12 +36,12 @@ module _ (t : Kept) (can : CanEndMove t) (index : ℕ) (m : IsMovedAt t index) w
     below = let a = ap length m.held in let b = length-append m.left (m.slot ∷ m.right) in let n = m.number in omega arith;
   }
 
-  pub ended_stays : is_alone_at t index ≡ false → IsAddress (delta_of t index g).pair → (new : Kept) → IsChanged t index (taking t index (gstate_of t.pairs).id g) new → HasEndedMove t new
+  pub ended_stays : is_alone_at t index ≡ false → IsAddress (delta_of t index g).pair → (new : Kept) → IsChanged t index (take_slot_changes t index (gstate_of t.pairs).id g) new → HasEndedMove t new
   ended_stays alone address new is =
       let same = same_Some is.content (without_content t index (gstate_of t.pairs).id g) (sym is.made ∙ take_made t index (gstate_of t.pairs).id g can_take address) in
       let written = subst (λ c. IsWrittenAs t index c new.disk) same is.written in
       let pairs = is.pairs ∙ ap (with_pair t index) same ∙ stays_pairs t can index m in
-      let taken = subst₂ (λ a b. IsTaken t.disk a new.disk b (λ t. t) (λ d. d)) (sym (h t can index m).is) (sym pairs) (stays_taken t can index m can_take alone new.disk written) in
+      let taken = subst₂ (λ a b. IsOnlyStep t.disk a new.disk b (λ t. t) (λ d. d)) (sym (h t can index m).is) (sym pairs) (stays_taken t can index m can_take alone new.disk written) in
       let root = ap superblocks_before pairs ∙ stays_chain t can index m new.disk written in
       let none = subst HasNoMove (sym (ap gstate_of pairs ∙ stays_state t can index m)) (unset_is (gstate_of t.pairs)) in
       record {
@@ -57,7 +57,7 @@ module _ (t : Kept) (can : CanEndMove t) (index : ℕ) (m : IsMovedAt t index) w
             (subst (AreKin (without_moved t.pairs)) (sym pairs) (stays_kin t can index m));
       }
 
-  pub survives_stays : is_alone_at t index ≡ false → IsAddress (delta_of t index g).pair → (new : List Event) → StopsLeave t.history new (IsLeftByChange t index (taking t index (gstate_of t.pairs).id g))
+  pub survives_stays : is_alone_at t index ≡ false → IsAddress (delta_of t index g).pair → (new : List Event) → StopsLeave t.history new (IsLeftByChange t index (take_slot_changes t index (gstate_of t.pairs).id g))
       → Survives t.disk t.history new (tree_in t.disk t.pairs) (tree_in t.disk t.pairs)
   survives_stays alone address new stops clean = LeavesOnly-weaker (λ left x. stays_left t can index m can_take alone address left x) (stops clean)
 
@@ -74,7 +74,7 @@ module _ (t : Kept) (can : CanEndMove t) (index : ℕ) (m : IsMovedAt t index) w
       size = can.size;
     }
 
-    pub ended_goes : IsAddress (takes_delta t (index - 1) index g).pair → IsAddressIfSome (target_of (pair_in t index).content.tail) → (new : Kept) → IsDropped t (index - 1) (taking_over t (index - 1) index g) new → HasEndedMove t new
+    pub ended_goes : IsAddress (takes_delta t (index - 1) index g).pair → IsAddressIfSome (target_of (pair_in t index).content.tail) → (new : Kept) → IsDropped t (index - 1) (take_over_changes t (index - 1) index g) new → HasEndedMove t new
     ended_goes address words new is =
         let same = same_Some is.content (over_content t (index - 1) index g) (sym is.made ∙ over_made t (index - 1) index g can_over address words) in
         let written = subst (λ c. IsWrittenAs t (index - 1) c new.disk) same is.written in
@@ -82,7 +82,7 @@ module _ (t : Kept) (can : CanEndMove t) (index : ℕ) (m : IsMovedAt t index) w
         let map_is : new.map ≡ without_pair t.map (gone t can index m alone).at = is.map ∙ ap (without_pair t.map) (gone_is t can index m alone) in
         let owned = map_frees t new (gone t can index m alone) []
         (λ b. let e = ap (λ z. count b (used_blocks new.disk z)) pairs in let u = goes_used t can index m alone new.disk written b in omega arith) [] map_is is.written.shape.count start in
-        let taken = subst₂ (λ a b. IsTaken t.disk a new.disk b (λ t. t) (λ d. d)) (sym (goes_is t can index m alone)) (sym pairs) (goes_taken t can index m alone new.disk written) in
+        let taken = subst₂ (λ a b. IsOnlyStep t.disk a new.disk b (λ t. t) (λ d. d)) (sym (goes_is t can index m alone)) (sym pairs) (goes_taken t can index m alone new.disk written) in
         let root = ap superblocks_before pairs ∙ goes_chain t can index m alone new.disk written in
         let none = subst HasNoMove (sym (ap gstate_of pairs ∙ goes_state t can index m alone)) (unset_is (gstate_of t.pairs)) in
         let used : (b : ℕ) → count b (used_blocks new.disk new.pairs) + (count b (blocks_of ((gone t can index m alone) ∷ [])) + count b []) ≡ count b (used_blocks t.disk t.pairs)
@@ -101,5 +101,5 @@ module _ (t : Kept) (can : CanEndMove t) (index : ℕ) (m : IsMovedAt t index) w
         }
 
     pub survives_goes : IsAddress (takes_delta t (index - 1) index g).pair → IsAddressIfSome (target_of (pair_in t index).content.tail) → (new : List Event)
-        → StopsLeave t.history new (IsLeftByChange t (index - 1) (taking_over t (index - 1) index g)) → Survives t.disk t.history new (tree_in t.disk t.pairs) (tree_in t.disk t.pairs)
+        → StopsLeave t.history new (IsLeftByChange t (index - 1) (take_over_changes t (index - 1) index g)) → Survives t.disk t.history new (tree_in t.disk t.pairs) (tree_in t.disk t.pairs)
     survives_goes address words new stops clean = LeavesOnly-weaker (λ left x. goes_left t can index m alone can_over address words left x) (stops clean)

@@ -12,7 +12,7 @@ use Rattle.lfs_model.specs.LoggedContent.{IsAddress}
 use Rattle.lfs_model.specs.PowerLoss.{IsLeftByStop as IsLeftOf, with_blocks}
 use Rattle.lfs_model.specs.Slots.{FitsPair, Gstate, Slot, Tail, same_pair}
 use Rattle.lfs_model.specs.SlotEdits.{with_slots, without_moved}
-use Rattle.lfs_model.specs.Thread.{Pair, blocks_of, gstate_of, is_hard, superblocks_before, unmoved}
+use Rattle.lfs_model.specs.Thread.{Pair, blocks_of, gstate_of, is_hard, superblocks_before, slots_not_moved}
 use Rattle.lfs_model.specs.View.{MayHaveSuperblock, IsAccepted}
 use Rattle.lfs_model.specs.Profile.{IsWritable}
 use Rattle.lfs_model.specs.Shown.{all_slots, file_blocks, tree_in, used_blocks}
@@ -29,12 +29,12 @@ use Rattle.lfs_model.proofs.Rests.{IsMoveEnd, end_change, move_ends, unmoved_els
 use Rattle.lfs_model.proofs.Searches.{avoids_behind, avoids_front}
 use Rattle.lfs_model.proofs.Sites.{IsSite, Site, thread_at}
 use Rattle.lfs_model.proofs.Splices.{IsDevice, drop_shape, files_of, slots_in}
-use Rattle.lfs_model.proofs.StepsTaken.{IsTaken, end_drop_taken, taken_before}
+use Rattle.lfs_model.proofs.StepsTaken.{IsOnlyStep, end_drop_taken, taken_before}
 use Rattle.lfs_model.proofs.Superblocks.{IsChain}
 use Rattle.lfs_thread.specs.Kept.{Kept}
 use Rattle.lfs_thread.specs.Steps.{IsLeftByChange, IsWrittenAs, made_in_thread, pair_in, with_pair}
-use Rattle.lfs_operations.specs.Deltas.{CanTakeOver, IsAddressIfSome, goes_on_at, takes_delta, taking_over, target_of}
-use Rattle.lfs_operations.specs.EndingMove.{CanEndMove, IsMovedAt, is_alone_at, unset}
+use Rattle.lfs_operations.specs.Deltas.{CanTakeOver, IsAddressIfSome, has_tail_at, takes_delta, take_over_changes, target_of}
+use Rattle.lfs_operations.specs.EndingMove.{CanEndMove, IsMovedAt, is_alone_at, gstate_without_move}
 use Rattle.lfs_operations.proofs.Placing.{blocks_append}
 use Rattle.lfs_operations.proofs.RecoverBefore.{AreKin, IsGap, hidden, hidden_append, hidden_far, hidden_length}
 use Rattle.lfs_operations.proofs.RecoverMap.{count_used}
@@ -78,8 +78,8 @@ module _ (t : Kept) (can : CanEndMove t) (behind : ℕ) (m : IsMovedAt t behind)
   abbrev pub G : Gstate
   G = gstate_of t.pairs
 
-  parts : AreAll (nat_lt 0 behind) (length (pair_in t behind).content.slots == 1) (goes_on_at t (behind - 1))
-  parts = all_true (nat_lt 0 behind) (length (pair_in t behind).content.slots == 1) (goes_on_at t (behind - 1)) alone
+  parts : AreAll (nat_lt 0 behind) (length (pair_in t behind).content.slots == 1) (has_tail_at t (behind - 1))
+  parts = all_true (nat_lt 0 behind) (length (pair_in t behind).content.slots == 1) (has_tail_at t (behind - 1)) alone
 
   pub some : 0 < behind
   some = positive behind parts.first
@@ -147,16 +147,16 @@ module _ (t : Kept) (can : CanEndMove t) (behind : ℕ) (m : IsMovedAt t behind)
   o_slots = ap (λ (z : Pair). z.content.slots) (sym there) ∙ slots_are
 
   abbrev pub z : Pair
-  z = record { at = h.pair.at; content = with_tail h.pair.content on.next.content.tail (takes_delta t (behind - 1) behind (unset (gstate_of t.pairs))) }
+  z = record { at = h.pair.at; content = with_tail h.pair.content on.next.content.tail (takes_delta t (behind - 1) behind (gstate_without_move (gstate_of t.pairs))) }
 
   same_tail : (tail : Option Tail) → taken_tail (is_hard tail) tail ≡ tail
   same_tail None = refl
   same_tail (Some x) = refl
 
-  content_is : over_content t (behind - 1) behind (unset (gstate_of t.pairs)) ≡ z.content
-  content_is = ap₂ (λ (a b : Pair). with_tail a.content (taken_tail (is_hard a.content.tail && is_hard b.content.tail) b.content.tail) (takes_delta t (behind - 1) behind (unset (gstate_of t.pairs)))) here there
-      ∙ ap (λ c. with_tail h.pair.content (taken_tail (c && is_hard on.next.content.tail) on.next.content.tail) (takes_delta t (behind - 1) behind (unset (gstate_of t.pairs)))) hard
-      ∙ ap (λ tail. with_tail h.pair.content tail (takes_delta t (behind - 1) behind (unset (gstate_of t.pairs)))) (same_tail on.next.content.tail)
+  content_is : over_content t (behind - 1) behind (gstate_without_move (gstate_of t.pairs)) ≡ z.content
+  content_is = ap₂ (λ (a b : Pair). with_tail a.content (taken_tail (is_hard a.content.tail && is_hard b.content.tail) b.content.tail) (takes_delta t (behind - 1) behind (gstate_without_move (gstate_of t.pairs)))) here there
+      ∙ ap (λ c. with_tail h.pair.content (taken_tail (c && is_hard on.next.content.tail) on.next.content.tail) (takes_delta t (behind - 1) behind (gstate_without_move (gstate_of t.pairs)))) hard
+      ∙ ap (λ tail. with_tail h.pair.content tail (takes_delta t (behind - 1) behind (gstate_without_move (gstate_of t.pairs)))) (same_tail on.next.content.tail)
 
   accepted : IsAccepted t.disk (thread_at w (h.pair ∷ on.next ∷ []))
   accepted = subst (IsAccepted t.disk) old_is can.accepted
@@ -171,13 +171,13 @@ module _ (t : Kept) (can : CanEndMove t) (behind : ℕ) (m : IsMovedAt t behind)
     run = subst (λ r. IsRun (h.site.left ++ h.pair ∷ r)) on.is h.is_site.run;
   }
 
-  pub goes_device : (disk : Disk) → IsWrittenAs t (behind - 1) (over_content t (behind - 1) behind (unset (gstate_of t.pairs))) disk → IsDevice t.disk disk (thread_at w (h.pair ∷ on.next ∷ [])) (thread_at w (z ∷ []))
+  pub goes_device : (disk : Disk) → IsWrittenAs t (behind - 1) (over_content t (behind - 1) behind (gstate_without_move (gstate_of t.pairs))) disk → IsDevice t.disk disk (thread_at w (h.pair ∷ on.next ∷ [])) (thread_at w (z ∷ []))
   goes_device disk is = dropped_device t h.site.chain front h.pair on.next back (behind - 1) place disk z.content refl accepted (subst (λ c. IsWrittenAs t (behind - 1) c disk) content_is is)
 
-  pub goes_state : gstate_of (thread_at w (z ∷ [])) ≡ unset (gstate_of t.pairs)
-  goes_state = dropped_state t h.site.chain front h.pair on.next back (behind - 1) place (unset (gstate_of t.pairs)) z (ap (λ (i : ℕ). takes_delta t (behind - 1) i (unset (gstate_of t.pairs))) next)
+  pub goes_state : gstate_of (thread_at w (z ∷ [])) ≡ gstate_without_move (gstate_of t.pairs)
+  goes_state = dropped_state t h.site.chain front h.pair on.next back (behind - 1) place (gstate_without_move (gstate_of t.pairs)) z (ap (λ (i : ℕ). takes_delta t (behind - 1) i (gstate_without_move (gstate_of t.pairs))) next)
 
-  pub goes_pairs : remove (with_pair t (behind - 1) (over_content t (behind - 1) behind (unset (gstate_of t.pairs)))) (behind - 1 + 1) ≡ thread_at w (z ∷ [])
+  pub goes_pairs : remove (with_pair t (behind - 1) (over_content t (behind - 1) behind (gstate_without_move (gstate_of t.pairs)))) (behind - 1 + 1) ≡ thread_at w (z ∷ [])
   goes_pairs = ap (λ c. remove (with_pair t (behind - 1) c) (behind - 1 + 1)) content_is ∙ without_is t h.site.chain front h.pair on.next back (behind - 1) place z.content
 
   same_is : same_pair on.next.at G.pair ≡ true
@@ -210,14 +210,14 @@ module _ (t : Kept) (can : CanEndMove t) (behind : ℕ) (m : IsMovedAt t behind)
   elsewhere : Each Far (h.site.chain ++ (front ++ back))
   elsewhere = each_append Far h.site.chain (front ++ back) (each_left Far h.site.chain front far_front) (each_append Far front back (each_right Far h.site.chain front far_front) far_back)
 
-  hides : unmoved G on.next ≡ []
+  hides : slots_not_moved G on.next ≡ []
   hides = ap₂ (λ k b. cond (nat_eq k 0x4ff && b) (remove on.next.content.slots G.id) on.next.content.slots) m.kind (pair_back on.next.at G.pair same_is)
       ∙ ap₂ (λ (s : List Slot) (i : ℕ). remove s i) o_slots (sym m.number ∙ ap length sides.0)
 
-  shown : flat_map (unmoved G) (h.pair ∷ on.next ∷ []) ≡ h.pair.content.slots ++ []
+  shown : flat_map (slots_not_moved G) (h.pair ∷ on.next ∷ []) ≡ h.pair.content.slots ++ []
   shown = ap₂ (λ a b. a ++ (b ++ [])) (unmoved_elsewhere G h.pair far_pair) hides
 
-  step : (disk : Disk) → IsWrittenAs t (behind - 1) (over_content t (behind - 1) behind (unset (gstate_of t.pairs))) disk → IsMoveEnd t.disk disk w h.pair (on.next ∷ []) z [] h.pair.content.slots m.slot []
+  step : (disk : Disk) → IsWrittenAs t (behind - 1) (over_content t (behind - 1) behind (gstate_without_move (gstate_of t.pairs))) disk → IsMoveEnd t.disk disk w h.pair (on.next ∷ []) z [] h.pair.content.slots m.slot []
   step disk is = record {
     accepted = accepted;
     site = is_site;
@@ -227,12 +227,12 @@ module _ (t : Kept) (can : CanEndMove t) (behind : ℕ) (m : IsMovedAt t behind)
     was = ap (λ x. h.pair.content.slots ++ x) (append-nil on.next.content.slots ∙ o_slots);
     is = refl;
     other = m.other;
-    hidden = subst (λ x. flat_map (unmoved (gstate_of x)) (h.pair ∷ on.next ∷ []) ≡ h.pair.content.slots ++ []) old_is shown;
+    hidden = subst (λ x. flat_map (slots_not_moved (gstate_of x)) (h.pair ∷ on.next ∷ []) ≡ h.pair.content.slots ++ []) old_is shown;
     elsewhere = subst (λ x. Each (λ s. same_pair (gstate_of x).pair s.at ≡ false) (h.site.chain ++ (front ++ back))) old_is elsewhere;
   }
 
-  pub goes_taken : (disk : Disk) → IsWrittenAs t (behind - 1) (over_content t (behind - 1) behind (unset (gstate_of t.pairs))) disk
-      → IsTaken t.disk (thread_at w (h.pair ∷ on.next ∷ [])) disk (thread_at w (z ∷ [])) (λ t. t) (λ d. d)
+  pub goes_taken : (disk : Disk) → IsWrittenAs t (behind - 1) (over_content t (behind - 1) behind (gstate_without_move (gstate_of t.pairs))) disk
+      → IsOnlyStep t.disk (thread_at w (h.pair ∷ on.next ∷ [])) disk (thread_at w (z ∷ [])) (λ t. t) (λ d. d)
   goes_taken disk is = end_drop_taken t.disk w h.pair on.next z (record { writable = writable; tail = refl; slots = refl }) disk h.pair.content.slots m.slot [] (λ t. t) (λ d. d) (step disk is)
       (move_ends t.disk disk w h.pair (on.next ∷ []) z [] h.pair.content.slots m.slot [] (step disk is)
       (λ off. subst AllReached old_is (can.accepted.reached (ap (λ (x : Gstate). x.sync) (sym goes_state) ∙ off))))
@@ -241,14 +241,14 @@ module _ (t : Kept) (can : CanEndMove t) (behind : ℕ) (m : IsMovedAt t behind)
   goes_is = old_is
 
   -- a stop leaves the tree
-  pub goes_left : CanTakeOver t (behind - 1) behind (unset (gstate_of t.pairs)) → IsAddress (takes_delta t (behind - 1) behind (unset (gstate_of t.pairs))).pair → IsAddressIfSome (target_of (pair_in t behind).content.tail)
-      → (left : Blocks) → IsLeftByChange t (behind - 1) (taking_over t (behind - 1) behind (unset (gstate_of t.pairs))) left → IsLeftOf (with_blocks left t.disk) (tree_in t.disk t.pairs) (tree_in t.disk t.pairs)
+  pub goes_left : CanTakeOver t (behind - 1) behind (gstate_without_move (gstate_of t.pairs)) → IsAddress (takes_delta t (behind - 1) behind (gstate_without_move (gstate_of t.pairs))).pair → IsAddressIfSome (target_of (pair_in t behind).content.tail)
+      → (left : Blocks) → IsLeftByChange t (behind - 1) (take_over_changes t (behind - 1) behind (gstate_without_move (gstate_of t.pairs))) left → IsLeftOf (with_blocks left t.disk) (tree_in t.disk t.pairs) (tree_in t.disk t.pairs)
   goes_left over address words left is = subst (λ x. IsLeftOf (with_blocks left t.disk) (tree_in t.disk x) (tree_in t.disk x)) (sym old_is) (go is.is)
     where
       old : List Pair
       old = thread_at w (h.pair ∷ on.next ∷ [])
 
-      go : (is.content ≡ (pair_in t (behind - 1)).content) ⊎ ((made_in_thread t (behind - 1) (taking_over t (behind - 1) behind (unset (gstate_of t.pairs))) ≡ Some is.content) × FitsPair t.disk.block_size t.disk.page is.content)
+      go : (is.content ≡ (pair_in t (behind - 1)).content) ⊎ ((made_in_thread t (behind - 1) (take_over_changes t (behind - 1) behind (gstate_without_move (gstate_of t.pairs))) ≡ Some is.content) × FitsPair t.disk.block_size t.disk.page is.content)
           → IsLeftOf (with_blocks left t.disk) (tree_in t.disk old) (tree_in t.disk old)
       go (inl e) =
           let same : is.content ≡ h.pair.content = e ∙ ap (λ (x : Pair). x.content) here in
@@ -256,13 +256,13 @@ module _ (t : Kept) (can : CanEndMove t) (behind : ℕ) (m : IsMovedAt t behind)
           taken_before t.disk old (with_blocks left t.disk) old (λ d. d) (tree_in t.disk old)
           (nothing_taken t.disk (with_blocks left t.disk) h.site.chain front h.pair (on.next ∷ back) is_site.chain accepted writable still)
       go (inr k) =
-          let same = same_Some is.content (over_content t (behind - 1) behind (unset (gstate_of t.pairs))) (sym k.0 ∙ over_made t (behind - 1) behind (unset (gstate_of t.pairs)) over address words) in
+          let same = same_Some is.content (over_content t (behind - 1) behind (gstate_without_move (gstate_of t.pairs))) (sym k.0 ∙ over_made t (behind - 1) behind (gstate_without_move (gstate_of t.pairs)) over address words) in
           taken_before t.disk old (with_blocks left t.disk) (thread_at w (z ∷ [])) (λ d. d) (tree_in t.disk old)
           (goes_taken (with_blocks left t.disk) (subst (λ c. IsWrittenAs t (behind - 1) c (with_blocks left t.disk)) same is.written))
 
   -- ---- where slots stand
 
-  pub goes_hidden : without_moved t.pairs ≡ hidden G (h.site.chain ++ front) ++ with_slots (unmoved G h.pair) h.pair ∷ with_slots (unmoved G on.next) on.next ∷ hidden G back
+  pub goes_hidden : without_moved t.pairs ≡ hidden G (h.site.chain ++ front) ++ with_slots (slots_not_moved G h.pair) h.pair ∷ with_slots (slots_not_moved G on.next) on.next ∷ hidden G back
   goes_hidden = ap (λ x. hidden (gstate_of t.pairs) x) (old_is ∙ sym (append_assoc h.site.chain front (h.pair ∷ on.next ∷ back))) ∙ hidden_append G (h.site.chain ++ front) (h.pair ∷ on.next ∷ back)
 
   pub goes_low : superblocks_before t.pairs ≤ length (hidden G (h.site.chain ++ front))
@@ -274,13 +274,13 @@ module _ (t : Kept) (can : CanEndMove t) (behind : ℕ) (m : IsMovedAt t behind)
   pub goes_behind : AreKin (hidden G back) back
   goes_behind = hidden_far G back far_back
 
-  pub goes_gap : IsGap (with_slots (unmoved G h.pair) h.pair) (with_slots (unmoved G on.next) on.next) z
+  pub goes_gap : IsGap (with_slots (slots_not_moved G h.pair) h.pair) (with_slots (slots_not_moved G on.next) on.next) z
   goes_gap = record { at = refl; slots = sym (unmoved_elsewhere G h.pair far_pair); led = hard; tail = refl; none = hides }
 
   pub goes_split : thread_at w (z ∷ []) ≡ (h.site.chain ++ front) ++ z ∷ back
   goes_split = sym (append_assoc h.site.chain front (z ∷ back))
 
-  pub goes_chain : (disk : Disk) → IsWrittenAs t (behind - 1) (over_content t (behind - 1) behind (unset (gstate_of t.pairs))) disk → superblocks_before (thread_at w (z ∷ [])) ≡ superblocks_before t.pairs
+  pub goes_chain : (disk : Disk) → IsWrittenAs t (behind - 1) (over_content t (behind - 1) behind (gstate_without_move (gstate_of t.pairs))) disk → superblocks_before (thread_at w (z ∷ [])) ≡ superblocks_before t.pairs
   goes_chain disk is = chain_now t.disk disk w.chain (w.before ++ w.left) h.pair (on.next ∷ []) z [] (w.right ++ w.after) [] is_site.chain accepted
       (end_change t.disk disk w h.pair (on.next ∷ []) z [] h.pair.content.slots m.slot [] (step disk is))
       ∙ sym (ap superblocks_before old_is ∙ is_site.chain)
@@ -288,9 +288,9 @@ module _ (t : Kept) (can : CanEndMove t) (behind : ℕ) (m : IsMovedAt t behind)
   -- ---- the blocks
 
   all_were : all_slots t.pairs ≡ slots_in h.site.chain ++ (slots_in front ++ (h.pair.content.slots ++ slots_in back))
-  all_were = ap (flat_map (unmoved G)) old_is ∙ flat_map-append (unmoved G) h.site.chain (front ++ h.pair ∷ on.next ∷ back)
+  all_were = ap (flat_map (slots_not_moved G)) old_is ∙ flat_map-append (slots_not_moved G) h.site.chain (front ++ h.pair ∷ on.next ∷ back)
       ∙ ap₂ (λ a b. a ++ b) (hidden_none G h.site.chain (each_left Far h.site.chain front far_front))
-      (flat_map-append (unmoved G) front (h.pair ∷ on.next ∷ back) ∙ ap₂ (λ a b. a ++ b) (hidden_none G front (each_right Far h.site.chain front far_front))
+      (flat_map-append (slots_not_moved G) front (h.pair ∷ on.next ∷ back) ∙ ap₂ (λ a b. a ++ b) (hidden_none G front (each_right Far h.site.chain front far_front))
       (ap₂ (λ a b. a ++ b) (unmoved_elsewhere G h.pair far_pair) (ap₂ (λ a b. a ++ b) hides (hidden_none G back far_back))))
 
   all_are : slots_in (thread_at w (z ∷ [])) ≡ slots_in h.site.chain ++ (slots_in front ++ (h.pair.content.slots ++ slots_in back))
@@ -309,7 +309,7 @@ module _ (t : Kept) (can : CanEndMove t) (behind : ℕ) (m : IsMovedAt t behind)
       omega arith
 
   -- the image uses the same blocks but the pair's
-  pub goes_used : (disk : Disk) → IsWrittenAs t (behind - 1) (over_content t (behind - 1) behind (unset (gstate_of t.pairs))) disk
+  pub goes_used : (disk : Disk) → IsWrittenAs t (behind - 1) (over_content t (behind - 1) behind (gstate_without_move (gstate_of t.pairs))) disk
       → (b : ℕ) → count b (used_blocks disk (thread_at w (z ∷ []))) + (count b (blocks_of (gone ∷ [])) + count b []) ≡ count b (used_blocks t.disk t.pairs)
   goes_used disk is b =
       let dev = goes_device disk is in

@@ -4,7 +4,7 @@ use Rattle.std.specs.Prelude.{slice_index_or}
 use Rattle.std.proofs.lemmas.List.Concat.{flat_map-append}
 use Rattle.std.proofs.lemmas.List.Elements.{All-from_recursion}
 use Rattle.lfs_model.specs.Disk.{SameGeometry, block_at}
-use Rattle.lfs_model.specs.Layout.{onward}
+use Rattle.lfs_model.specs.Layout.{directory_after}
 use Rattle.lfs_model.specs.Slots.{Slot}
 use Rattle.lfs_model.specs.Thread.{Pair, blocks_of, gstate_of}
 use Rattle.lfs_model.specs.View.{IsAccepted}
@@ -25,10 +25,10 @@ use Rattle.lfs_operations.proofs.RecoverWrites.{none_there}
 -- the same pairs have the same numbers
 pub reported_once : (R : ℕ × ℕ → Type 0) (n : ℕ) (from : Option (ℕ × ℕ)) (xs : List Pair) (us vs : List ℕ) → AreUnreachedFrom R n from xs us → AreUnreachedFrom R n from xs vs → us ≡ vs
 reported_once R n from [] us vs h k = h ∙ sym k
-reported_once R n from (x ∷ xs) us vs (inl h) (inl k) = reported_once R (suc n) (onward from x) xs us vs h.1 k.1
+reported_once R n from (x ∷ xs) us vs (inl h) (inl k) = reported_once R (suc n) (directory_after from x) xs us vs h.1 k.1
 reported_once R n from (x ∷ xs) us vs (inl h) (inr k) = absurd (k.1.1.0 h.0)
 reported_once R n from (x ∷ xs) us vs (inr h) (inl k) = absurd (h.1.1.0 k.0)
-reported_once R n from (x ∷ xs) us vs (inr h) (inr k) = h.1.0 ∙ ap (λ z. n ∷ z) (reported_once R (suc n) (onward from x) xs h.0 k.0 h.1.1.1 k.1.1.1) ∙ sym k.1.0
+reported_once R n from (x ∷ xs) us vs (inr h) (inr k) = h.1.0 ∙ ap (λ z. n ∷ z) (reported_once R (suc n) (directory_after from x) xs h.0 k.0 h.1.1.1 k.1.1.1) ∙ sym k.1.0
 
 there : (xs : List Pair) (x : Pair) (ys : List Pair) → slice_index_or (xs ++ x ∷ ys) (length xs) no_pair ≡ x
 there [] x ys = refl

@@ -4,12 +4,12 @@ use Rattle.std.specs.Prelude.{All, is_some}
 use Rattle.std.proofs.lemmas.Option.{same_Some}
 use Rattle.std.proofs.lemmas.List.Elements.{All-from_recursion, recursion_from_All}
 use Rattle.lfs_model.specs.Disk.{Disk}
-use Rattle.lfs_model.specs.Layout.{begin_from, onward}
+use Rattle.lfs_model.specs.Layout.{directory_begin, directory_after}
 use Rattle.lfs_model.specs.Slots.{Gstate, Slot, Tail, same_pair}
-use Rattle.lfs_model.specs.Thread.{Links, ThreadDirectory, Pair, anchor, directories_of, directory_pairs, gstate_of, is_hard, joined, next_of, visible}
+use Rattle.lfs_model.specs.Thread.{LinkByTails, ThreadDirectory, Pair, anchor, directories_of, directory_pairs, gstate_of, is_hard, directories_with_pair, next_of, entries_not_moved}
 use Rattle.lfs_model.specs.Tree.{Path}
 use Rattle.lfs_model.specs.Profile.{HaveSlots}
-use Rattle.lfs_model.specs.Shown.{IsReached, Leads, directories_in}
+use Rattle.lfs_model.specs.Shown.{IsReached, PathLeadsTo, directories_in}
 use Rattle.lfs_model.proofs.Counts.{Each, each_weaker}
 use Rattle.lfs_model.proofs.Drops.{softened}
 use Rattle.lfs_model.proofs.Global.{HasNoMove, unmoved_all}
@@ -26,53 +26,53 @@ use Rattle.lfs_operations.specs.Recovering.{AreUnreachedFrom}
 
 abbrev pub EachBegins : (ℕ × ℕ → Type 0) → Option (ℕ × ℕ) → List Pair → Type 0
 EachBegins R from [] = Unit {0}
-EachBegins R from (x ∷ xs) = R (begin_from from x) × EachBegins R (onward from x) xs
+EachBegins R from (x ∷ xs) = R (directory_begin from x) × EachBegins R (directory_after from x) xs
 
 -- no path leads to a pair that a hard tail leads to
 abbrev pub FirstsOnly : (ℕ × ℕ → Type 0) → Option (ℕ × ℕ) → List Pair → Type 0
 FirstsOnly R from [] = Unit {0}
-FirstsOnly R from (x ∷ xs) = (is_some from ≡ true → R x.at → ⊥) × FirstsOnly R (onward from x) xs
+FirstsOnly R from (x ∷ xs) = (is_some from ≡ true → R x.at → ⊥) × FirstsOnly R (directory_after from x) xs
 
-end_on : (from : Option (ℕ × ℕ)) (xs : List Pair) (p : Pair) → onward_all from (xs ++ p ∷ []) ≡ onward (onward_all from xs) p
+end_on : (from : Option (ℕ × ℕ)) (xs : List Pair) (p : Pair) → onward_all from (xs ++ p ∷ []) ≡ directory_after (onward_all from xs) p
 end_on from [] p = refl
-end_on from (x ∷ xs) p = end_on (onward from x) xs p
+end_on from (x ∷ xs) p = end_on (directory_after from x) xs p
 
 begins_append : (R : ℕ × ℕ → Type 0) (from : Option (ℕ × ℕ)) (xs ys : List Pair) → EachBegins R from xs → EachBegins R (onward_all from xs) ys → EachBegins R from (xs ++ ys)
 begins_append R from [] ys h k = k
-begins_append R from (x ∷ xs) ys h k = (h.0, begins_append R (onward from x) xs ys h.1 k)
+begins_append R from (x ∷ xs) ys h k = (h.0, begins_append R (directory_after from x) xs ys h.1 k)
 
 begins_front : (R : ℕ × ℕ → Type 0) (from : Option (ℕ × ℕ)) (xs ys : List Pair) → EachBegins R from (xs ++ ys) → EachBegins R from xs
 begins_front R from [] ys h = tt
-begins_front R from (x ∷ xs) ys h = (h.0, begins_front R (onward from x) xs ys h.1)
+begins_front R from (x ∷ xs) ys h = (h.0, begins_front R (directory_after from x) xs ys h.1)
 
 begins_behind : (R : ℕ × ℕ → Type 0) (from : Option (ℕ × ℕ)) (xs ys : List Pair) → EachBegins R from (xs ++ ys) → EachBegins R (onward_all from xs) ys
 begins_behind R from [] ys h = h
-begins_behind R from (x ∷ xs) ys h = begins_behind R (onward from x) xs ys h.1
+begins_behind R from (x ∷ xs) ys h = begins_behind R (directory_after from x) xs ys h.1
 
 pub begins_weaker : (R Q : ℕ × ℕ → Type 0) → ((a : ℕ × ℕ) → R a → Q a) → (from : Option (ℕ × ℕ)) (xs : List Pair) → EachBegins R from xs → EachBegins Q from xs
 begins_weaker R Q f from [] h = tt
-begins_weaker R Q f from (x ∷ xs) h = (f (begin_from from x) h.0, begins_weaker R Q f (onward from x) xs h.1)
+begins_weaker R Q f from (x ∷ xs) h = (f (directory_begin from x) h.0, begins_weaker R Q f (directory_after from x) xs h.1)
 
-begin_same : (from : Option (ℕ × ℕ)) (p q : Pair) → q.at ≡ p.at → begin_from from q ≡ begin_from from p
+begin_same : (from : Option (ℕ × ℕ)) (p q : Pair) → q.at ≡ p.at → directory_begin from q ≡ directory_begin from p
 begin_same None p q e = e
 begin_same (Some a) p q e = refl
 
 -- a soft tail begins another directory
-soft_onward : (from : Option (ℕ × ℕ)) (p : Pair) → is_hard p.content.tail ≡ false → onward from p ≡ None
-soft_onward from p e = ap (λ b. cond b (Some (begin_from from p)) None) e
+soft_onward : (from : Option (ℕ × ℕ)) (p : Pair) → is_hard p.content.tail ≡ false → directory_after from p ≡ None
+soft_onward from p e = ap (λ b. cond b (Some (directory_begin from p)) None) e
 
-hard_onward : (from : Option (ℕ × ℕ)) (p : Pair) → is_hard p.content.tail ≡ true → onward from p ≡ Some (begin_from from p)
-hard_onward from p e = ap (λ b. cond b (Some (begin_from from p)) None) e
+hard_onward : (from : Option (ℕ × ℕ)) (p : Pair) → is_hard p.content.tail ≡ true → directory_after from p ≡ Some (directory_begin from p)
+hard_onward from p e = ap (λ b. cond b (Some (directory_begin from p)) None) e
 
 -- ---- what holds of where each pair's directory begins holds of each directory
 
-joined_each : (Q : ℕ × ℕ → Type 0) (at : ℕ × ℕ) (b : Bool) (slots : List Slot) (ds : List ThreadDirectory) → Q at → Each (λ (d : ThreadDirectory). Q d.at) (rest_of b ds) → Each (λ (d : ThreadDirectory). Q d.at) (joined at b slots ds)
+joined_each : (Q : ℕ × ℕ → Type 0) (at : ℕ × ℕ) (b : Bool) (slots : List Slot) (ds : List ThreadDirectory) → Q at → Each (λ (d : ThreadDirectory). Q d.at) (rest_of b ds) → Each (λ (d : ThreadDirectory). Q d.at) (directories_with_pair at b slots ds)
 joined_each Q at true slots [] h k = (h, tt)
 joined_each Q at false slots [] h k = (h, tt)
 joined_each Q at true slots (d ∷ ds) h k = (h, k)
 joined_each Q at false slots (d ∷ ds) h k = (h, k)
 
-joined_rest : (Q : ℕ × ℕ → Type 0) (at : ℕ × ℕ) (b : Bool) (slots : List Slot) (ds : List ThreadDirectory) → Each (λ (d : ThreadDirectory). Q d.at) (rest_of b ds) → Each (λ (d : ThreadDirectory). Q d.at) (rest_of true (joined at b slots ds))
+joined_rest : (Q : ℕ × ℕ → Type 0) (at : ℕ × ℕ) (b : Bool) (slots : List Slot) (ds : List ThreadDirectory) → Each (λ (d : ThreadDirectory). Q d.at) (rest_of b ds) → Each (λ (d : ThreadDirectory). Q d.at) (rest_of true (directories_with_pair at b slots ds))
 joined_rest Q at true slots [] k = tt
 joined_rest Q at false slots [] k = tt
 joined_rest Q at true slots (d ∷ ds) k = k
@@ -84,14 +84,14 @@ all_where Q g from [] h = none (is_some from)
     none : (b : Bool) → Each (λ (d : ThreadDirectory). Q d.at) (rest_of b [])
     none true = tt
     none false = tt
-all_where Q g from (p ∷ ps) h = go from h.0 (subst (λ b. Each (λ (d : ThreadDirectory). Q d.at) (rest_of b (directories_of g ps))) (onward_some from p) (all_where Q g (onward from p) ps h.1))
+all_where Q g from (p ∷ ps) h = go from h.0 (subst (λ b. Each (λ (d : ThreadDirectory). Q d.at) (rest_of b (directories_of g ps))) (onward_some from p) (all_where Q g (directory_after from p) ps h.1))
   where
-    go : (from : Option (ℕ × ℕ)) → Q (begin_from from p) → Each (λ (d : ThreadDirectory). Q d.at) (rest_of (is_hard p.content.tail) (directories_of g ps)) → Each (λ (d : ThreadDirectory). Q d.at) (rest_of (is_some from) (directories_of g (p ∷ ps)))
-    go None k behind = subst (Each (λ (d : ThreadDirectory). Q d.at)) (sym (rest_all (directories_of g (p ∷ ps)))) (joined_each Q p.at (is_hard p.content.tail) (visible g p) (directories_of g ps) k behind)
-    go (Some a) k behind = joined_rest Q p.at (is_hard p.content.tail) (visible g p) (directories_of g ps) behind
+    go : (from : Option (ℕ × ℕ)) → Q (directory_begin from p) → Each (λ (d : ThreadDirectory). Q d.at) (rest_of (is_hard p.content.tail) (directories_of g ps)) → Each (λ (d : ThreadDirectory). Q d.at) (rest_of (is_some from) (directories_of g (p ∷ ps)))
+    go None k behind = subst (Each (λ (d : ThreadDirectory). Q d.at)) (sym (rest_all (directories_of g (p ∷ ps)))) (joined_each Q p.at (is_hard p.content.tail) (entries_not_moved g p) (directories_of g ps) k behind)
+    go (Some a) k behind = joined_rest Q p.at (is_hard p.content.tail) (entries_not_moved g p) (directories_of g ps) behind
 
 -- the thread's last pair has no tail
-last_soft : (from : Option (ℕ × ℕ)) (xs : List Pair) (p : Pair) → Links from (xs ++ p ∷ []) → is_hard p.content.tail ≡ false
+last_soft : (from : Option (ℕ × ℕ)) (xs : List Pair) (p : Pair) → LinkByTails from (xs ++ p ∷ []) → is_hard p.content.tail ≡ false
 last_soft from [] p h = go p.content.tail h.1
   where
     go : (t : Option Tail) → next_of t ≡ None → is_hard t ≡ false
@@ -112,7 +112,7 @@ pub record IsOnWay (disk : Disk) (ps : List Pair) (t : Kept) (dropped : ℕ) (ch
   pub filled : HaveSlots (is_some (onward_all None seen)) todo
   pub begins : EachBegins (IsReached ps) None kept
   pub goes_on : (onward_all None kept ≡ onward_all None seen) ⊎ ((onward_all None kept ≡ None) × ((a : ℕ × ℕ) → onward_all None seen ≡ Some a → IsReached ps a → ⊥))
-  pub root : kept ≡ [] → (x : Pair) (xs : List Pair) → todo ≡ x ∷ xs → IsReached ps (begin_from (onward_all None seen) x)
+  pub root : kept ≡ [] → (x : Pair) (xs : List Pair) → todo ≡ x ∷ xs → IsReached ps (directory_begin (onward_all None seen) x)
 
 some_behind : (xs : List Pair) (p : Pair) → xs ++ p ∷ [] ≡ [] → ⊥
 some_behind xs p e = absurd (let l = ap length e in let k = length-append xs (p ∷ []) in omega arith)
@@ -122,7 +122,7 @@ module _ (disk : Disk) (ps : List Pair) (t : Kept) (dropped : ℕ) (chain seen :
   abbrev f : Option (ℕ × ℕ)
   f = onward_all None seen
 
-  e : onward_all None (seen ++ x ∷ []) ≡ onward (onward_all None seen) x
+  e : onward_all None (seen ++ x ∷ []) ≡ directory_after (onward_all None seen) x
   e = end_on None seen x
 
   now_filled : HaveSlots (is_some (onward_all None (seen ++ x ∷ []))) todo
@@ -132,10 +132,10 @@ module _ (disk : Disk) (ps : List Pair) (t : Kept) (dropped : ℕ) (chain seen :
   now_firsts = subst (λ z. FirstsOnly (IsReached ps) z todo) (sym e) w.firsts.1
 
   -- where its directory is reached, what is kept goes on as it did
-  same_from : IsReached ps (begin_from f x) → onward_all None kept ≡ f
+  same_from : IsReached ps (directory_begin f x) → onward_all None kept ≡ f
   same_from reached = go w.goes_on
     where
-      none : (g : Option (ℕ × ℕ)) → ((a : ℕ × ℕ) → g ≡ Some a → IsReached ps a → ⊥) → IsReached ps (begin_from g x) → g ≡ None
+      none : (g : Option (ℕ × ℕ)) → ((a : ℕ × ℕ) → g ≡ Some a → IsReached ps a → ⊥) → IsReached ps (directory_begin g x) → g ≡ None
       none None h r = refl
       none (Some a) h r = absurd (h a refl r)
 
@@ -143,7 +143,7 @@ module _ (disk : Disk) (ps : List Pair) (t : Kept) (dropped : ℕ) (chain seen :
       go (inl k) = k
       go (inr k) = k.0 ∙ sym (none f k.1 reached)
 
-  pub keeps : IsReached ps (begin_from f x) → AreUnreachedFrom (IsReached ps) (suc (length chain + length kept + dropped)) (onward f x) todo numbers
+  pub keeps : IsReached ps (directory_begin f x) → AreUnreachedFrom (IsReached ps) (suc (length chain + length kept + dropped)) (directory_after f x) todo numbers
       → IsOnWay disk ps t dropped chain (seen ++ x ∷ []) todo (parts ++ (x ∷ []) ∷ []) (kept ++ x ∷ []) numbers
   keeps reached more = record {
     is = recovery_keeps disk ps t.disk chain seen x todo parts (singles todo) kept x w.is reached (λ s n. w.filled.0 s (sym (unmoved_all (gstate_of ps) w.no_move x) ∙ n));
@@ -153,14 +153,14 @@ module _ (disk : Disk) (ps : List Pair) (t : Kept) (dropped : ℕ) (chain seen :
     reported = subst₂ (λ n z. AreUnreachedFrom (IsReached ps) n z todo numbers) (let l = length-append kept (x ∷ []) in omega arith) (sym e) more;
     firsts = now_firsts;
     filled = now_filled;
-    begins = begins_append (IsReached ps) None kept (x ∷ []) w.begins (subst (λ z. IsReached ps (begin_from z x)) (sym (same_from reached)) reached, tt);
-    goes_on = inl (end_on None kept x ∙ ap (λ z. onward z x) (same_from reached) ∙ sym e);
+    begins = begins_append (IsReached ps) None kept (x ∷ []) w.begins (subst (λ z. IsReached ps (directory_begin z x)) (sym (same_from reached)) reached, tt);
+    goes_on = inl (end_on None kept x ∙ ap (λ z. directory_after z x) (same_from reached) ∙ sym e);
     root = λ n y ys is. absurd (some_behind kept x n);
   }
 
   -- ---- the pair goes
 
-  module _ (unreached : IsReached ps (begin_from f x) → ⊥) (front : List Pair) (before : Pair) (split : kept ≡ front ++ before ∷ []) where
+  module _ (unreached : IsReached ps (directory_begin f x) → ⊥) (front : List Pair) (before : Pair) (split : kept ≡ front ++ before ∷ []) where
     begins_last : EachBegins (IsReached ps) None (front ++ before ∷ [])
     begins_last = subst (EachBegins (IsReached ps) None) split w.begins
 
@@ -170,21 +170,21 @@ module _ (disk : Disk) (ps : List Pair) (t : Kept) (dropped : ℕ) (chain seen :
         from : Option (ℕ × ℕ)
         from = onward_all None front
 
-        on : onward_all None kept ≡ onward (onward_all None front) before
+        on : onward_all None kept ≡ directory_after (onward_all None front) before
         on = ap (onward_all None) split ∙ end_on None front before
 
-        reached : IsReached ps (begin_from (onward_all None front) before)
+        reached : IsReached ps (directory_begin (onward_all None front) before)
         reached = (begins_behind (IsReached ps) None front (before ∷ []) begins_last).0
 
         go : (b : Bool) → is_hard before.content.tail ≡ b → b ≡ false
         go false h = refl
         go true h = absurd (by w.goes_on)
           where
-            some : onward_all None kept ≡ Some (begin_from (onward_all None front) before)
+            some : onward_all None kept ≡ Some (directory_begin (onward_all None front) before)
             some = on ∙ hard_onward (onward_all None front) before h
 
             by : (onward_all None kept ≡ f) ⊎ ((onward_all None kept ≡ None) × ((a : ℕ × ℕ) → f ≡ Some a → IsReached ps a → ⊥)) → ⊥
-            by (inl k) = unreached (subst (λ z. IsReached ps (begin_from z x)) (sym some ∙ k) reached)
+            by (inl k) = unreached (subst (λ z. IsReached ps (directory_begin z x)) (sym some ∙ k) reached)
             by (inr k) = absurd (let z = sym k.0 ∙ some in cc)
 
     pub none_on : onward_all None kept ≡ None
@@ -195,14 +195,14 @@ module _ (disk : Disk) (ps : List Pair) (t : Kept) (dropped : ℕ) (chain seen :
     stands = w.there ∙ ap (λ z. chain ++ (z ++ x ∷ todo)) split ∙ ap (λ z. chain ++ z) (append_assoc front (before ∷ []) (x ∷ todo))
 
     -- what is led to now was led to
-    led : (path : Path) (a : ℕ × ℕ) → Leads t.pairs path a → Leads ps path a
-    led path a l = ap (λ z. z path) (sym w.is.taken.follows.leads) ∙ subst (λ z. Leads z path a) parts_are l
+    led : (path : Path) (a : ℕ × ℕ) → PathLeadsTo t.pairs path a → PathLeadsTo ps path a
+    led path a l = ap (λ z. z path) (sym w.is.taken.follows.leads) ∙ subst (λ z. PathLeadsTo z path a) parts_are l
       where
         parts_are : t.pairs ≡ chain ++ (kept ++ joined_parts (singles (x ∷ todo)))
         parts_are = w.there ∙ ap (λ z. chain ++ (kept ++ z)) (sym (joined_singles (x ∷ todo)))
 
-    pub leads_on : (path : Path) (a : ℕ × ℕ) → Leads ps path a → Leads t.pairs path a
-    leads_on path a l = subst (λ z. Leads z path a) (sym parts_are) (ap (λ z. z path) w.is.taken.follows.leads ∙ l)
+    pub leads_on : (path : Path) (a : ℕ × ℕ) → PathLeadsTo ps path a → PathLeadsTo t.pairs path a
+    leads_on path a l = subst (λ z. PathLeadsTo z path a) (sym parts_are) (ap (λ z. z path) w.is.taken.follows.leads ∙ l)
       where
         parts_are : t.pairs ≡ chain ++ (kept ++ joined_parts (singles (x ∷ todo)))
         parts_are = w.there ∙ ap (λ z. chain ++ (kept ++ z)) (sym (joined_singles (x ∷ todo)))
@@ -211,10 +211,10 @@ module _ (disk : Disk) (ps : List Pair) (t : Kept) (dropped : ℕ) (chain seen :
     not_there r = go f refl
       where
         go : (g : Option (ℕ × ℕ)) → f ≡ g → ⊥
-        go None k = unreached (subst (λ z. IsReached ps (begin_from z x)) (sym k) r)
+        go None k = unreached (subst (λ z. IsReached ps (directory_begin z x)) (sym k) r)
         go (Some a) k = w.firsts.0 (ap is_some k) r
 
-    pub unled : (path : Path) (a : ℕ × ℕ) → Leads t.pairs path a → same_pair x.at a ≡ true → ⊥
+    pub unled : (path : Path) (a : ℕ × ℕ) → PathLeadsTo t.pairs path a → same_pair x.at a ≡ true → ⊥
     unled path a l s = not_there (path, a, (led path a l, s))
 
     -- ---- which directories are reached then
@@ -225,7 +225,7 @@ module _ (disk : Disk) (ps : List Pair) (t : Kept) (dropped : ℕ) (chain seen :
     -- it isn't, so the sync bit is set
     pub sync_set : (gstate_of t.pairs).sync ≡ false → ⊥
     sync_set off = (none_goes_right Goes None kept (x ∷ todo) (subst (NoneGoes Goes None) (pairs_behind chain (kept ++ x ∷ todo) ready.is_chain) none)).0
-        (subst (λ z. IsReached cur (begin_from z x) → ⊥) (sym none_on) (λ r. unled r.0 r.1 (subst (λ z. Leads z r.0 r.1) (sym w.there) r.2.0) r.2.1))
+        (subst (λ z. IsReached cur (directory_begin z x) → ⊥) (sym none_on) (λ r. unled r.0 r.1 (subst (λ z. PathLeadsTo z r.0 r.1) (sym w.there) r.2.0) r.2.1))
       where
         cur : List Pair
         cur = chain ++ (kept ++ x ∷ todo)
@@ -243,7 +243,7 @@ module _ (disk : Disk) (ps : List Pair) (t : Kept) (dropped : ℕ) (chain seen :
             (recursion_from_All (λ (d : ThreadDirectory). IsReached (chain ++ (kept ++ x ∷ todo)) d.at) (directories_in cur) all)))
 
     -- where it is the last one, every other directory is reached
-    pub all_but : AreUnreachedFrom (IsReached ps) (suc (length chain + length kept + dropped)) (onward f x) todo [] → (is_hard x.content.tail ≡ false) × AllReachedBut t.pairs x.at
+    pub all_but : AreUnreachedFrom (IsReached ps) (suc (length chain + length kept + dropped)) (directory_after f x) todo [] → (is_hard x.content.tail ≡ false) × AllReachedBut t.pairs x.at
     all_but more = (alone, subst (λ z. AllReachedBut z x.at) (sym w.there) every)
       where
         cur : List Pair
@@ -253,35 +253,35 @@ module _ (disk : Disk) (ps : List Pair) (t : Kept) (dropped : ℕ) (chain seen :
         Q a = IsReached (chain ++ (kept ++ x ∷ todo)) a ⊎ (same_pair a x.at ≡ true)
 
         still : (a : ℕ × ℕ) → IsReached ps a → Q a
-        still a (path, at, (l, s)) = inl (path, at, (subst (λ z. Leads z path at) w.there (leads_on path at l), s))
+        still a (path, at, (l, s)) = inl (path, at, (subst (λ z. PathLeadsTo z path at) w.there (leads_on path at l), s))
 
         all_reached : (from : Option (ℕ × ℕ)) (n : ℕ) (xs : List Pair) → AreUnreachedFrom (IsReached ps) n from xs [] → EachBegins (IsReached ps) from xs
         all_reached from n [] h = tt
-        all_reached from n (y ∷ ys) (inl h) = (h.0, all_reached (onward from y) (suc n) ys h.1)
+        all_reached from n (y ∷ ys) (inl h) = (h.0, all_reached (directory_after from y) (suc n) ys h.1)
         all_reached from n (y ∷ ys) (inr (rest, (h, k))) = absurd (let l = ap length h in omega arith)
 
-        others : EachBegins (IsReached ps) (onward f x) todo
-        others = all_reached (onward f x) (suc (length chain + length kept + dropped)) todo more
+        others : EachBegins (IsReached ps) (directory_after f x) todo
+        others = all_reached (directory_after f x) (suc (length chain + length kept + dropped)) todo more
 
-        links : (from : Option (ℕ × ℕ)) (xs ys : List Pair) → Links from (xs ++ ys) → (z : Option (ℕ × ℕ)) × Links z ys
+        links : (from : Option (ℕ × ℕ)) (xs ys : List Pair) → LinkByTails from (xs ++ ys) → (z : Option (ℕ × ℕ)) × LinkByTails z ys
         links from [] ys h = (from, h)
         links from (y ∷ xs) ys h = links (next_of y.content.tail) xs ys h.1
 
-        behind : (z : Option (ℕ × ℕ)) × Links z (kept ++ x ∷ todo)
+        behind : (z : Option (ℕ × ℕ)) × LinkByTails z (kept ++ x ∷ todo)
         behind = links (Some anchor) chain (kept ++ x ∷ todo) ready.accepted.thread.links
 
         alone : is_hard x.content.tail ≡ false
         alone = go (is_hard x.content.tail) refl todo others behind.1
           where
-            go : (b : Bool) → is_hard x.content.tail ≡ b → (ys : List Pair) → EachBegins (IsReached ps) (onward f x) ys → Links behind.0 (kept ++ x ∷ ys) → is_hard x.content.tail ≡ false
+            go : (b : Bool) → is_hard x.content.tail ≡ b → (ys : List Pair) → EachBegins (IsReached ps) (directory_after f x) ys → LinkByTails behind.0 (kept ++ x ∷ ys) → is_hard x.content.tail ≡ false
             go false h ys k l = h
             go true h [] k l = last_soft behind.0 kept x l
-            go true h (y ∷ ys) k l = absurd (unreached (subst (λ z. IsReached ps (begin_from z y)) (hard_onward f x h) k.0))
+            go true h (y ∷ ys) k l = absurd (unreached (subst (λ z. IsReached ps (directory_begin z y)) (hard_onward f x h) k.0))
 
         begun : EachBegins Q None (kept ++ x ∷ todo)
         begun = begins_append Q None kept (x ∷ todo) (begins_weaker (IsReached ps) Q still None kept w.begins) (
-          subst (λ z. Q (begin_from z x)) (sym none_on) (inr (pair_itself x.at)),
-          begins_weaker (IsReached ps) Q still (onward (onward_all None kept) x) todo
+          subst (λ z. Q (directory_begin z x)) (sym none_on) (inr (pair_itself x.at)),
+          begins_weaker (IsReached ps) Q still (directory_after (onward_all None kept) x) todo
               (subst (λ z. EachBegins (IsReached ps) z todo) (soft_onward f x alone ∙ sym (soft_onward (onward_all None kept) x alone)) others),
         )
 
@@ -291,7 +291,7 @@ module _ (disk : Disk) (ps : List Pair) (t : Kept) (dropped : ℕ) (chain seen :
             (all_where Q (gstate_of cur) None (directory_pairs cur) (subst (EachBegins Q None) (sym (pairs_behind chain (kept ++ x ∷ todo) ready.is_chain)) begun)))
 
     -- the step that drops it
-    module _ (new : Kept) (q : Pair) (rest : List ℕ) (more : AreUnreachedFrom (IsReached ps) (suc (length chain + length kept + dropped)) (onward f x) todo rest)
+    module _ (new : Kept) (q : Pair) (rest : List ℕ) (more : AreUnreachedFrom (IsReached ps) (suc (length chain + length kept + dropped)) (directory_after f x) todo rest)
         (c : IsUnthreaded t.disk new.disk chain front before x q (joined_parts (singles todo))) (now : new.pairs ≡ chain ++ (front ++ q ∷ todo)) where
       soft_now : is_hard q.content.tail ≡ false
       soft_now = ap is_hard c.tail ∙ go x.content.tail
@@ -323,7 +323,7 @@ module _ (disk : Disk) (ps : List Pair) (t : Kept) (dropped : ℕ) (chain seen :
             where
               go : (b : Bool) → is_hard x.content.tail ≡ b → ⊥
               go false h = absurd (let z = sym (soft_onward f x h) ∙ sym e ∙ k in cc)
-              go true h = unreached (subst (IsReached ps) (same_Some a (begin_from f x) (sym k ∙ e ∙ hard_onward f x h)) r)
+              go true h = unreached (subst (IsReached ps) (same_Some a (directory_begin f x) (sym k ∙ e ∙ hard_onward f x h)) r)
 
 -- ---- the next one that goes
 
@@ -336,8 +336,8 @@ pub record IsAtDrop (disk : Disk) (ps : List Pair) (t : Kept) (dropped : ℕ) (c
   pub way : IsOnWay disk ps t dropped chain seen (x ∷ todo) parts kept numbers
   pub rest : List ℕ
   pub is : numbers ≡ (length chain + length kept + dropped) ∷ rest
-  pub unreached : IsReached ps (begin_from (onward_all None seen) x) → ⊥
-  pub more : AreUnreachedFrom (IsReached ps) (suc (length chain + length kept + dropped)) (onward (onward_all None seen) x) todo rest
+  pub unreached : IsReached ps (directory_begin (onward_all None seen) x) → ⊥
+  pub more : AreUnreachedFrom (IsReached ps) (suc (length chain + length kept + dropped)) (directory_after (onward_all None seen) x) todo rest
 
 pub record IsAtEnd (disk : Disk) (ps : List Pair) (t : Kept) (dropped : ℕ) (chain : List Pair) (numbers : List ℕ) : Type 0 where
   pub seen : List Pair

@@ -13,7 +13,7 @@ use Rattle.lfs_model.proofs.Counts.{Each}
 use Rattle.lfs_model.proofs.Global.{HasNoMove}
 use Rattle.lfs_model.proofs.Pairs.{pair_back, pair_on}
 use Rattle.lfs_model.proofs.Searches.{same_number}
-use Rattle.lfs_model.proofs.Sites.{Among, among_from}
+use Rattle.lfs_model.proofs.Sites.{SomeIn, among_from}
 use Rattle.lfs_thread.specs.Kept.{Kept}
 use Rattle.lfs_thread.specs.Steps.{no_pair, pair_in}
 use Rattle.lfs_operations.specs.EndingMove.{IsMovedAt}
@@ -31,7 +31,7 @@ record IsSomewhere (ps : List Pair) (a : ℕ × ℕ) (id : ℕ) : Type 0 where
   same : same_pair a pair.at ≡ true
   slot : IsOtherSlot (slice_get pair.content.slots id)
 
-somewhere : (ps : List Pair) (a : ℕ × ℕ) (id : ℕ) → Among (λ p. (same_pair a p.at ≡ true) × IsOtherSlot (slice_get p.content.slots id)) ps → IsSomewhere ps a id
+somewhere : (ps : List Pair) (a : ℕ × ℕ) (id : ℕ) → SomeIn (λ p. (same_pair a p.at ≡ true) × IsOtherSlot (slice_get p.content.slots id)) ps → IsSomewhere ps a id
 somewhere [] a id h = absurd h
 somewhere (p ∷ ps) a id (inl h) = record { number = 0; pair = p; there = refl; same = h.0; slot = h.1 }
 somewhere (p ∷ ps) a id (inr h) = let s = somewhere ps a id h in record { number = suc s.number; pair = s.pair; there = s.there; same = s.same; slot = s.slot }
@@ -83,7 +83,7 @@ not_nowhere t ok kind none = go t.pairs none (among_from (λ (p : Pair). (same_p
     g : Gstate
     g = gstate_of t.pairs
 
-    go : (ps : List Pair) → AllByRecursion (λ p. same_pair p.at (gstate_of t.pairs).pair ≡ false) ps → Among (λ p. (same_pair (gstate_of t.pairs).pair p.at ≡ true) × IsOtherSlot (slice_get p.content.slots (gstate_of t.pairs).id)) ps → ⊥
+    go : (ps : List Pair) → AllByRecursion (λ p. same_pair p.at (gstate_of t.pairs).pair ≡ false) ps → SomeIn (λ p. (same_pair (gstate_of t.pairs).pair p.at ≡ true) × IsOtherSlot (slice_get p.content.slots (gstate_of t.pairs).id)) ps → ⊥
     go [] h a = a
     go (p ∷ ps) h (inl a) = absurd (let k = sym h.0 ∙ pair_back (gstate_of t.pairs).pair p.at a.0 in cc)
     go (p ∷ ps) h (inr a) = go ps h.1 a

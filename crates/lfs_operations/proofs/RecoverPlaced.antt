@@ -6,14 +6,14 @@ use Rattle.lfs_model.specs.Disk.{Disk}
 use Rattle.lfs_model.specs.Content.{content_at, holder_at}
 use Rattle.lfs_model.specs.Slots.{Content, FitsPair, Gstate, gstate_xor}
 use Rattle.lfs_model.specs.Thread.{Pair, gstate_of}
-use Rattle.lfs_model.specs.View.{BeginsWith, IsAccepted, superblock_entry}
+use Rattle.lfs_model.specs.View.{BeginsWithEntry, IsAccepted, superblock_entry}
 use Rattle.lfs_model.specs.Profile.{FitsSlot, IsWritable}
 use Rattle.lfs_model.proofs.Changes.{Follows}
 use Rattle.lfs_model.proofs.Counts.{each_append, each_left, each_right}
 use Rattle.lfs_model.proofs.Global.{gstate_assoc, gstate_cons, gstate_moved, gstate_right, gstate_self}
 use Rattle.lfs_model.proofs.Sites.{Site}
 use Rattle.lfs_model.proofs.Splices.{IsDevice}
-use Rattle.lfs_model.proofs.StepsTaken.{IsTaken}
+use Rattle.lfs_model.proofs.StepsTaken.{IsOnlyStep}
 use Rattle.lfs_model.proofs.Superblocks.{IsChain}
 use Rattle.lfs_model.proofs.Unchanged.{HasFirst, same_follows}
 use Rattle.lfs_pair.specs.Commit.{OutsideKeeps}
@@ -74,8 +74,8 @@ module _ (t : Kept) (chain front : List Pair) (p : Pair) (back : List Pair) (ind
     geometry = record { block_size = is.shape.block_size; page = is.shape.page; order = is.shape.order; count = is.shape.count };
     same = λ b none. (subst (λ at. OutsideKeeps at t.disk.blocks disk.blocks) at_is is.others).others b (all_apart (p.at.0 ∷ p.at.1 ∷ []) b none);
     contents = (ap (content_at disk) (sym at_is) ∙ is.holds, tt);
-    first = λ h b. subst (λ at. BeginsWith (holder_at disk at) superblock_entry) at_is
-        (is.first (subst (λ at. BeginsWith (holder_at t.disk at) superblock_entry) (sym at_is) b) (keeps h));
+    first = λ h b. subst (λ at. BeginsWithEntry (holder_at disk at) superblock_entry) at_is
+        (is.first (subst (λ at. BeginsWithEntry (holder_at t.disk at) superblock_entry) (sym at_is) b) (keeps h));
   })
     where
       at_is : (pair_in t index).at ≡ p.at
@@ -95,7 +95,7 @@ writable_still disk new ps e f h = record {
 }
 
 pub nothing_taken : (disk new : Disk) (chain front : List Pair) (p : Pair) (back : List Pair) → IsChain chain (front ++ p ∷ back) → IsAccepted disk (chain ++ (front ++ p ∷ back)) → IsWritable disk (chain ++ (front ++ p ∷ back))
-    → IsDevice disk new (chain ++ (front ++ p ∷ back)) (chain ++ (front ++ p ∷ back)) → IsTaken disk (chain ++ (front ++ p ∷ back)) new (chain ++ (front ++ p ∷ back)) (λ t. t) (λ d. d)
+    → IsDevice disk new (chain ++ (front ++ p ∷ back)) (chain ++ (front ++ p ∷ back)) → IsOnlyStep disk (chain ++ (front ++ p ∷ back)) new (chain ++ (front ++ p ∷ back)) (λ t. t) (λ d. d)
 nothing_taken disk new chain front p back is_chain ok fits on = record {
   follows = go (front ++ p ∷ back) refl;
   writable = writable_still disk new (chain ++ (front ++ p ∷ back)) on.geometry.block_size on.geometry.page fits;

@@ -10,7 +10,7 @@ use Rattle.lfs_model.specs.Thread.{Pair, gstate_of, is_hard, superblocks_before}
 use Rattle.lfs_model.specs.Tree.{Path}
 use Rattle.lfs_model.specs.View.{IsAccepted}
 use Rattle.lfs_model.specs.Profile.{IsWritable}
-use Rattle.lfs_model.specs.Shown.{Leads, tree_in}
+use Rattle.lfs_model.specs.Shown.{PathLeadsTo, tree_in}
 use Rattle.lfs_model.proofs.Alike.{AreAlike, alike_append, alike_itself}
 use Rattle.lfs_model.proofs.Drops.{softened}
 use Rattle.lfs_model.proofs.Global.{HasNoMove}
@@ -20,11 +20,11 @@ use Rattle.lfs_model.proofs.Profiles.{step_writable}
 use Rattle.lfs_model.proofs.Rests.{slots_stay}
 use Rattle.lfs_model.proofs.Sites.{Site, thread_at}
 use Rattle.lfs_model.proofs.Splices.{IsDevice, stays_shape}
-use Rattle.lfs_model.proofs.StepsTaken.{IsTaken, taken_before, within_at, within_same}
+use Rattle.lfs_model.proofs.StepsTaken.{IsOnlyStep, taken_before, within_at, within_same}
 use Rattle.lfs_model.proofs.Unthreaded.{IsReady, IsUnthreaded, Unthreads, unthread}
 use Rattle.lfs_thread.specs.Kept.{Kept}
 use Rattle.lfs_thread.specs.Steps.{IsLeftByChange, IsWrittenAs, made_in_thread, pair_in, with_pair}
-use Rattle.lfs_operations.specs.Deltas.{CanSetState, CanTakeOver, IsAddressIfSome, setting, delta_of, takes_delta, taking_over, target_of}
+use Rattle.lfs_operations.specs.Deltas.{CanSetState, CanTakeOver, IsAddressIfSome, set_state_changes, delta_of, takes_delta, take_over_changes, target_of}
 use Rattle.lfs_operations.proofs.RecoverPlaced.{IsAt, dropped_device, dropped_state, here_is, next_is, nothing_taken, placed_device, set_state_is, with_is}
 use Rattle.lfs_operations.proofs.RecoverDeltas.{over_content, over_made, set_content, set_made, taken_tail, with_move}
 
@@ -34,7 +34,7 @@ use Rattle.lfs_operations.proofs.RecoverDeltas.{over_content, over_made, set_con
 pub record IsUnled (t : Kept) (g : Gstate) (before x : Pair) : Type 0 where
   pub none : HasNoMove g
   pub soft : is_hard before.content.tail ≡ false
-  pub unled : (path : Path) (a : ℕ × ℕ) → Leads t.pairs path a → same_pair x.at a ≡ true → ⊥
+  pub unled : (path : Path) (a : ℕ × ℕ) → PathLeadsTo t.pairs path a → same_pair x.at a ≡ true → ⊥
   pub reached : g.sync ≡ false → (is_hard x.content.tail ≡ false) × AllReachedBut t.pairs x.at
 
 module _ (t : Kept) (chain front : List Pair) (before x : Pair) (todo : List Pair) (index behind : ℕ) (g : Gstate)
@@ -64,7 +64,7 @@ module _ (t : Kept) (chain front : List Pair) (before x : Pair) (todo : List Pai
     slots = ap (λ (z : Pair). z.content.slots) first_is;
     tail = ap₂ (λ (a b : Pair). taken_tail (is_hard a.content.tail && is_hard b.content.tail) b.content.tail) first_is behind_is
         ∙ ap (λ h. taken_tail (h && is_hard x.content.tail) x.content.tail) u.soft ∙ soft_tail (is_hard x.content.tail) x.content.tail;
-    unled = λ path a l s. u.unled path a (subst (λ z. Leads z path a) (sym k.there) l) s;
+    unled = λ path a l s. u.unled path a (subst (λ z. PathLeadsTo z path a) (sym k.there) l) s;
     reached = λ off. let r = u.reached (ap (λ (z : Gstate). z.sync) (sym state_now) ∙ off) in (r.0, subst (λ z. AllReachedBut z x.at) k.there r.1);
   }
 
@@ -73,13 +73,13 @@ module _ (t : Kept) (chain front : List Pair) (before x : Pair) (todo : List Pai
 
   -- a stop leaves the tree
   pub over_left : CanTakeOver t index behind g → IsAddress (takes_delta t index behind g).pair → IsAddressIfSome (target_of (pair_in t behind).content.tail)
-      → (left : Blocks) → IsLeftByChange t index (taking_over t index behind g) left → IsLeftOf (with_blocks left t.disk) (tree_in t.disk t.pairs) (tree_in t.disk t.pairs)
+      → (left : Blocks) → IsLeftByChange t index (take_over_changes t index behind g) left → IsLeftOf (with_blocks left t.disk) (tree_in t.disk t.pairs) (tree_in t.disk t.pairs)
   over_left can address words left is = subst (λ z. IsLeftOf (with_blocks left t.disk) (tree_in t.disk z) (tree_in t.disk z)) (sym k.there) (go is.is)
     where
       old : List Pair
       old = chain ++ (front ++ before ∷ x ∷ todo)
 
-      go : (is.content ≡ (pair_in t index).content) ⊎ ((made_in_thread t index (taking_over t index behind g) ≡ Some is.content) × FitsPair t.disk.block_size t.disk.page is.content)
+      go : (is.content ≡ (pair_in t index).content) ⊎ ((made_in_thread t index (take_over_changes t index behind g) ≡ Some is.content) × FitsPair t.disk.block_size t.disk.page is.content)
           → IsLeftOf (with_blocks left t.disk) (tree_in t.disk old) (tree_in t.disk old)
       go (inl e) =
           let same : is.content ≡ before.content = e ∙ ap (λ (z : Pair). z.content) first_is in
@@ -157,7 +157,7 @@ module _ (t : Kept) (index : ℕ) (can : CanClear t index) where
     splice = record { front = λ e. refl; entries = tt; lists = tt; blocks = λ b. omega arith };
   }
 
-  pub clear_taken : (disk : Disk) → IsWrittenAs t index (set_content t index no_gstate) disk → IsTaken t.disk (thread_at h.site (h.pair ∷ [])) disk (thread_at h.site (y ∷ [])) (λ t. t) (λ d. d)
+  pub clear_taken : (disk : Disk) → IsWrittenAs t index (set_content t index no_gstate) disk → IsOnlyStep t.disk (thread_at h.site (h.pair ∷ [])) disk (thread_at h.site (y ∷ [])) (λ t. t) (λ d. d)
   clear_taken disk is = record {
     follows = slots_stay t.disk disk h.site h.pair [] y [] [] h.pair.content.slots [] (step disk is) (λ off. subst AllReached h.is can.reached);
     writable = step_writable t.disk disk h.site h.pair [] y [] [] [] h.pair.content.slots [] [] [] (step disk is) fits (within_same t.disk h.pair y refl (within_at t.disk h.site h.pair [] fits), tt) (λ x. x);
@@ -165,13 +165,13 @@ module _ (t : Kept) (index : ℕ) (can : CanClear t index) where
 
   -- a stop leaves the tree
   pub clear_left : CanSetState t index no_gstate → IsAddress (delta_of t index no_gstate).pair
-      → (left : Blocks) → IsLeftByChange t index (setting t index no_gstate) left → IsLeftOf (with_blocks left t.disk) (tree_in t.disk t.pairs) (tree_in t.disk t.pairs)
+      → (left : Blocks) → IsLeftByChange t index (set_state_changes t index no_gstate) left → IsLeftOf (with_blocks left t.disk) (tree_in t.disk t.pairs) (tree_in t.disk t.pairs)
   clear_left set address left is = subst (λ z. IsLeftOf (with_blocks left t.disk) (tree_in t.disk z) (tree_in t.disk z)) (sym h.is) (go is.is)
     where
       old : List Pair
       old = thread_at h.site (h.pair ∷ [])
 
-      go : (is.content ≡ (pair_in t index).content) ⊎ ((made_in_thread t index (setting t index no_gstate) ≡ Some is.content) × FitsPair t.disk.block_size t.disk.page is.content)
+      go : (is.content ≡ (pair_in t index).content) ⊎ ((made_in_thread t index (set_state_changes t index no_gstate) ≡ Some is.content) × FitsPair t.disk.block_size t.disk.page is.content)
           → IsLeftOf (with_blocks left t.disk) (tree_in t.disk old) (tree_in t.disk old)
       go (inl e) =
           let same : is.content ≡ h.pair.content = e ∙ ap (λ (z : Pair). z.content) (here_is t h.site.chain (h.site.before ++ h.site.left) h.pair (h.site.right ++ h.site.after) index place) in

@@ -6,7 +6,7 @@ use Rattle.std.proofs.lemmas.Option.{same_Some}
 use Rattle.std.proofs.lemmas.List.Elements.{recursion_from_All}
 use Rattle.lfs_model.specs.Blocks.{Blocks}
 use Rattle.lfs_model.specs.Disk.{Disk}
-use Rattle.lfs_model.specs.Layout.{begin_from, onward}
+use Rattle.lfs_model.specs.Layout.{directory_begin, directory_after}
 use Rattle.lfs_model.specs.History.{EachSince}
 use Rattle.lfs_model.specs.LoggedContent.{IsAddress}
 use Rattle.lfs_model.specs.PowerLoss.{IsLeftByStop as IsLeftOf, Survives, with_blocks}
@@ -32,7 +32,7 @@ use Rattle.lfs_model.proofs.Unthreaded.{IsReady, IsUnthreaded, same_parts}
 use Rattle.lfs_thread.specs.Device.{StopsLeave, two_of}
 use Rattle.lfs_thread.specs.Kept.{Kept}
 use Rattle.lfs_thread.specs.Steps.{HasShape, IsDropped, IsLeftByChange, IsWrittenAs, Writes, no_pair, pair_in, with_pair, without_pair}
-use Rattle.lfs_operations.specs.Deltas.{CanTakeOver, FitsFields, IsAddressIfSome, takes_delta, taking_over, target_of}
+use Rattle.lfs_operations.specs.Deltas.{CanTakeOver, FitsFields, IsAddressIfSome, takes_delta, take_over_changes, target_of}
 use Rattle.lfs_operations.specs.Recovering.{AreUnreached, AreUnreachedFrom, CanDropUnreached, list_blocks_at, state_with}
 use Rattle.lfs_operations.specs.Dropping.{SameInFlight}
 use Rattle.lfs_operations.proofs.RecoverLists.{lists_kept, lists_more, numbered}
@@ -70,8 +70,8 @@ get_behind [] p ys = refl
 get_behind (x ∷ xs) p ys = get_behind xs p ys
 
 ends_on : (from : Option (ℕ × ℕ)) (p : Pair) (ps : List Pair) → Ends (p ∷ ps) → onward_all from (p ∷ ps) ≡ None
-ends_on from p [] h = ap (λ b. cond b (Some (begin_from from p)) None) h
-ends_on from p (q ∷ ps) h = ends_on (onward from p) q ps h
+ends_on from p [] h = ap (λ b. cond b (Some (directory_begin from p)) None) h
+ends_on from p (q ∷ ps) h = ends_on (directory_after from p) q ps h
 
 ends_none : (before : List Pair) → Ends before → onward_all None before ≡ None
 ends_none [] h = refl
@@ -103,9 +103,9 @@ module _ (disk : Disk) (ps : List Pair) (ok : IsAccepted disk ps) where
     subst (λ z. FirstsOnly (IsReached ps) z ys) (end_at None xs) (firsts_from (xs ++ y ∷ []) ys (parts ∙ sym (append_assoc xs (y ∷ []) ys))),
   )
     where
-      end_at : (from : Option (ℕ × ℕ)) (xs : List Pair) → onward_all from (xs ++ y ∷ []) ≡ onward (onward_all from xs) y
+      end_at : (from : Option (ℕ × ℕ)) (xs : List Pair) → onward_all from (xs ++ y ∷ []) ≡ directory_after (onward_all from xs) y
       end_at from [] = refl
-      end_at from (x ∷ xs) = end_at (onward from x) xs
+      end_at from (x ∷ xs) = end_at (directory_after from x) xs
 
   root_reached : (x : Pair) (xs : List Pair) → directory_pairs ps ≡ x ∷ xs → IsReached ps x.at
   root_reached x xs e = ([], first_at (directory_pairs ps), (refl, subst (λ z. same_pair x.at (first_at z) ≡ true) (sym e) (pair_itself x.at)))
@@ -189,8 +189,8 @@ pub record IsNext (old now : Kept) (dropped number : ℕ) (rest : List ℕ) : Ty
   pub parts : List (List Pair)
   pub kept : List Pair
   pub way : IsOnWay old.disk old.pairs now dropped (take (superblocks_before old.pairs) old.pairs) seen (x ∷ todo) parts kept numbers
-  pub unreached : IsReached old.pairs (begin_from (onward_all None seen) x) → ⊥
-  pub more : AreUnreachedFrom (IsReached old.pairs) (suc (length (take (superblocks_before old.pairs) old.pairs) + length kept + dropped)) (onward (onward_all None seen) x) todo rest
+  pub unreached : IsReached old.pairs (directory_begin (onward_all None seen) x) → ⊥
+  pub more : AreUnreachedFrom (IsReached old.pairs) (suc (length (take (superblocks_before old.pairs) old.pairs) + length kept + dropped)) (directory_after (onward_all None seen) x) todo rest
   pub front : List Pair
   pub before : Pair
   pub split : kept ≡ front ++ before ∷ []
@@ -235,7 +235,7 @@ next_goes old now dropped number rest u = go (goes_to old.disk old.pairs now dro
               kept = d.kept;
               way = d.way;
               unreached = d.unreached;
-              more = subst (λ z. AreUnreachedFrom (IsReached old.pairs) (suc (length C + length d.kept + dropped)) (onward (onward_all None d.seen) d.x) d.todo z) (tail d.is) d.more;
+              more = subst (λ z. AreUnreachedFrom (IsReached old.pairs) (suc (length C + length d.kept + dropped)) (directory_after (onward_all None d.seen) d.x) d.todo z) (tail d.is) d.more;
               front = l.front;
               before = l.last;
               split = e ∙ l.is;
@@ -282,7 +282,7 @@ module _ (old now : Kept) (dropped number : ℕ) (rest : List ℕ) (n : IsNext o
     soft = soft old.disk old.pairs now dropped C n.seen n.x n.todo n.parts n.kept n.numbers n.way n.unreached n.front n.before n.split;
     unled = unled old.disk old.pairs now dropped C n.seen n.x n.todo n.parts n.kept n.numbers n.way n.unreached n.front n.before n.split;
     reached = λ off. all_but old.disk old.pairs now dropped C n.seen n.x n.todo n.parts n.kept n.numbers n.way n.unreached n.front n.before n.split
-        (subst (λ z. AreUnreachedFrom (IsReached old.pairs) (suc (length C + length n.kept + dropped)) (onward (onward_all None n.seen) n.x) n.todo z) (cases.1 off) n.more);
+        (subst (λ z. AreUnreachedFrom (IsReached old.pairs) (suc (length C + length n.kept + dropped)) (directory_after (onward_all None n.seen) n.x) n.todo z) (cases.1 off) n.more);
   }
 
   fields : FitsFields g
@@ -316,7 +316,7 @@ module _ (old now : Kept) (dropped number : ℕ) (rest : List ℕ) (n : IsNext o
         (let k = n.number_is in let c = n.way.counted in let a = ap length n.split in let b = length-append n.front (n.before ∷ []) in omega arith)
 
     pub survives_on : (new : Kept) → IsUnderWay old now dropped (number ∷ rest) → IsAddress (takes_delta now index behind g).pair → IsAddressIfSome (target_of (pair_in now behind).content.tail)
-        → StaysOn now new → StopsLeave now.history new.history (IsLeftByChange now index (taking_over now index behind g))
+        → StaysOn now new → StopsLeave now.history new.history (IsLeftByChange now index (take_over_changes now index behind g))
         → Survives old.disk old.history new.history (tree_in old.disk old.pairs) (tree_in old.disk old.pairs)
     survives_on new u address words on stops =
         survives_then old.disk old.history now.history new.history (tree_in old.disk old.pairs) (tree_in old.disk old.pairs) u.device.calls on.calls u.survives
@@ -331,7 +331,7 @@ module _ (old now : Kept) (dropped number : ℕ) (rest : List ℕ) (n : IsNext o
         writes_trans u.writes (writes_fewer _ (blocks_of old.pairs) (λ b. let f = u.fewer b in let l = two_fewer now.pairs index low b in omega arith) writes)
 
     pub moves_on : (new : Kept) → IsUnderWay old now dropped (number ∷ rest) → IsAddress (takes_delta now index behind g).pair → IsAddressIfSome (target_of (pair_in now behind).content.tail)
-        → IsDropped now index (taking_over now index behind g) new → Writes (two_of (pair_in now index).at) now new → StopsLeave now.history new.history (IsLeftByChange now index (taking_over now index behind g))
+        → IsDropped now index (take_over_changes now index behind g) new → Writes (two_of (pair_in now index).at) now new → StopsLeave now.history new.history (IsLeftByChange now index (take_over_changes now index behind g))
         → IsUnderWay old new (suc dropped) rest
     moves_on new u address words is writes stops =
         let on = stays_by _ now new writes in

@@ -7,7 +7,7 @@ use Rattle.std.specs.Option.{option_and_then}
 use Rattle.std.proofs.lemmas.Bool.{eqb-false}
 use Rattle.std.proofs.lemmas.Option.{same_Some}
 use Rattle.std.proofs.lemmas.List.Sums.{sum_by-append, sum_by-cons}
-use Rattle.lfs_model.specs.TreeEdits.{removed}
+use Rattle.lfs_model.specs.TreeEdits.{tree_without}
 use Rattle.lfs_model.specs.BlockSets.BlockState.{Free, InFlight}
 use Rattle.lfs_model.specs.Changes.{Delete, changed_by}
 use Rattle.lfs_model.specs.Content.{RawContent, completed, raw_at}
@@ -18,7 +18,7 @@ use Rattle.lfs_model.specs.PowerLoss.{Survives}
 use Rattle.lfs_model.specs.Slots.{Content, FitsPair, Slot, same_pair, slot_size}
 use Rattle.lfs_model.specs.Thread.{Pair, blocks_of, first_at, next_of}
 use Rattle.lfs_model.specs.Tree.{Tree}
-use Rattle.lfs_model.specs.Shown.{Leads, file_blocks, tree_in}
+use Rattle.lfs_model.specs.Shown.{PathLeadsTo, file_blocks, tree_in}
 use Rattle.lfs_model.specs.Names.{Name}
 use Rattle.lfs_model.proofs.Changes.{Follows}
 use Rattle.lfs_model.proofs.Committed.{IsCompleted, commit_step, recovered_from}
@@ -34,20 +34,20 @@ use Rattle.lfs_model.proofs.Pairs.{pair_back, pair_on}
 use Rattle.lfs_model.specs.InDirectory.{BeginsAt}
 use Rattle.std.specs.List.{IsDistinct}
 use Rattle.lfs_model.proofs.Sites.{Site, begin_of, thread_at}
-use Rattle.lfs_model.proofs.Writable.{flag}
+use Rattle.lfs_model.proofs.Writable.{ends_in_hard_tail}
 use Rattle.lfs_thread.specs.Device.{StopsLeave}
 use Rattle.lfs_thread.specs.Kept.{Kept, State}
-use Rattle.lfs_thread.specs.Steps.{CanChange, HasReported, IsChanged, IsLeftByChange, IsRefused, made_in_thread, pair_in}
+use Rattle.lfs_thread.specs.Steps.{CanChange, HasReported, IsChanged, IsLeftByChange, IsCommitRefused, made_in_thread, pair_in}
 use Rattle.lfs_operations.specs.Editing.{CanEdit, slot_at}
 use Rattle.lfs_operations.specs.Dropping.{HasShrunk}
 use Rattle.lfs_operations.specs.Ready.{HasBecomeBut}
-use Rattle.lfs_operations.specs.Removing.{CanRemove, IsRemoved, ReportsOfCalls, goes_whole, without_file}
+use Rattle.lfs_operations.specs.Removing.{CanRemove, IsRemoved, ReportsOfCalls, drops_pair, without_file}
 use Rattle.lfs_operations.proofs.Held.{CompletesTo, below, fits_there, here, raw_there}
 use Rattle.lfs_operations.proofs.Splicing.{Commits, IsSplicing}
 use Rattle.lfs_operations.proofs.Stepped.{HasStep, becomes, put_step, survives}
 
 -- no hard tail leads to the first pair of a directory
-pub flag_ends : (before : List Pair) → Ends before → flag false before ≡ false
+pub flag_ends : (before : List Pair) → Ends before → ends_in_hard_tail false before ≡ false
 flag_ends [] h = refl
 flag_ends (p ∷ []) h = h
 flag_ends (p ∷ q ∷ ps) h = flag_ends (q ∷ ps) h
@@ -80,7 +80,7 @@ shrunk_from t new tree gone h = record {
 }
 
 -- a pair that doesn't go with its slot is the first of its directory, or has another one
-pub stays_there : (t : Kept) (index id first : ℕ) (can : CanEdit t index id) → can.first ≡ first → goes_whole t index first ≡ false → (index ≡ can.first) ⊎ (1 < length (pair_in t index).content.slots)
+pub stays_there : (t : Kept) (index id first : ℕ) (can : CanEdit t index id) → can.first ≡ first → drops_pair t index first ≡ false → (index ≡ can.first) ⊎ (1 < length (pair_in t index).content.slots)
 stays_there t index id first can begins goes = by (nat_eq index first) (nat_eq (length (pair_in t index).content.slots) 1) refl refl goes
   where
     by : (x y : Bool) → nat_eq index first ≡ x → nat_eq (length (pair_in t index).content.slots) 1 ≡ y → not x && y ≡ false → (index ≡ can.first) ⊎ (1 < length (pair_in t index).content.slots)
@@ -93,7 +93,7 @@ stays_there t index id first can begins goes = by (nat_eq index first) (nat_eq (
         let p = ap (λ (z : Pair). length z.content.slots) (here t can.ready can.first index can.stands.pair can.stands.rest can.stands.place) in
         omega arith)
 
-module _ (t : Kept) (index id first : ℕ) (take : CanRemove t index id first) (goes : goes_whole t index first ≡ false) where
+module _ (t : Kept) (index id first : ℕ) (take : CanRemove t index id first) (goes : drops_pair t index first ≡ false) where
   abbrev can : CanEdit t index id
   can = take.can
 
@@ -169,7 +169,7 @@ module _ (t : Kept) (index id first : ℕ) (take : CanRemove t index id first) (
       let n = f.count in
       record { size = omega arith; count = omega arith }
 
-  pub not_refused : (new : Kept) → IsRefused t index (Delete id ∷ []) new → ⊥
+  pub not_refused : (new : Kept) → IsCommitRefused t index (Delete id ∷ []) new → ⊥
   not_refused new is = is.too_large (subst (FitsPair t.disk.block_size t.disk.page) (sym (same_Some is.content now (sym is.made ∙ made))) still_fits)
 
   -- ---- in the image
@@ -198,14 +198,14 @@ module _ (t : Kept) (index id first : ℕ) (take : CanRemove t index id first) (
     blocks = λ disk geometry files come b. let e = count_append b (file_blocks t.disk u.struct) [] in omega arith;
   }
 
-  led : Leads (thread_at w (p ∷ [])) can.path can.at
-  led = subst (λ z. Leads z can.path can.at) there can.leads
+  led : PathLeadsTo (thread_at w (p ∷ [])) can.path can.at
+  led = subst (λ z. PathLeadsTo z can.path can.at) there can.leads
 
   same_begin : same_pair (begin_of w (p ∷ [])) can.at ≡ true
   same_begin = same t.disk t.pairs can.path can.at can.ready.accepted can.leads can.first index p can.stands.rest can.stands.place can.begins
 
   -- the pair stays filled where a hard tail leads to it
-  filled : flag false (w.before ++ w.left) ≡ true → l ++ ([] ++ r) ≢ []
+  filled : ends_in_hard_tail false (w.before ++ w.left) ≡ true → l ++ ([] ++ r) ≢ []
   filled hard none = go (stays_there t index id first can take.begins goes)
     where
       go : (index ≡ can.first) ⊎ (1 < length (pair_in t index).content.slots) → ⊥
@@ -213,7 +213,7 @@ module _ (t : Kept) (index id first : ℕ) (take : CanRemove t index id first) (
           let none_before = alone w.chain w.before w.left (w.right ++ w.after) p can.at can.first (subst (λ z. IsDistinct nat_eq (blocks_of z)) there can.ready.accepted.thread.distinct) same_begin
           (subst (λ z. BeginsAt z can.at can.first) there can.begins) (sym e ∙ number_is t.disk t.pairs can.path can.at can.ready.accepted can.leads can.first index p can.stands.rest can.stands.place can.begins) in
           let ends = (is_site t.disk t.pairs can.path can.at can.ready.accepted can.leads can.first index p can.stands.rest can.stands.place can.begins).ends in
-          let soft = ap (λ z. flag false (w.before ++ z)) none_before ∙ ap (flag false) (append-nil w.before) ∙ flag_ends w.before ends in
+          let soft = ap (λ z. ends_in_hard_tail false (w.before ++ z)) none_before ∙ ap (ends_in_hard_tail false) (append-nil w.before) ∙ flag_ends w.before ends in
           absurd (let z = sym hard ∙ soft in cc)
       go (inr many) =
           let e = ap (λ (z : Pair). length z.content.slots) (here t can.ready can.first index p can.stands.rest can.stands.place) in
@@ -224,10 +224,10 @@ module _ (t : Kept) (index id first : ℕ) (take : CanRemove t index id first) (
           absurd (omega arith)
 
   abbrev turn : Tree → Tree
-  turn = removed (can.path ++ can.name ∷ [])
+  turn = tree_without (can.path ++ can.name ∷ [])
 
   follows : (disk : Disk) (q : Pair) (more : List Pair) → Commits t w p l (u ∷ []) [] r [] disk q more → Follows t.disk (thread_at w (p ∷ [])) disk (thread_at w (q ∷ more)) turn (λ d. d)
-  follows disk q more x = subst (λ (n : Name). Follows t.disk (thread_at w (p ∷ [])) disk (thread_at w (q ∷ more)) (removed (can.path ++ n ∷ [])) (λ d. d)) can.stands.stands.named
+  follows disk q more x = subst (λ (n : Name). Follows t.disk (thread_at w (p ∷ [])) disk (thread_at w (q ∷ more)) (tree_without (can.path ++ n ∷ [])) (λ d. d)) can.stands.stands.named
       (file_goes t.disk disk w p [] q more (blocks_of more) [] l r u (commit_step t.disk disk w p q more [] l (u ∷ []) [] r x.commit) can.stands.stands.entry can.path can.at led same_begin take.file
       (λ e. (recovered_from t.disk (thread_at w (p ∷ [])) x.commit.accepted x.commit.settled).reached))
 

@@ -3,7 +3,7 @@ use Rattle.std.proofs.Common.{◌<◌, ℕ, ◌≡◌, ◌≢◌, ◌⊎◌, inl
 use Rattle.std.specs.List.{IsDistinct}
 use Rattle.std.proofs.lemmas.Bool.{eqb-false}
 use Rattle.std.proofs.lemmas.List.Elements.{recursion_from_All}
-use Rattle.lfs_model.specs.TreeEdits.{removed}
+use Rattle.lfs_model.specs.TreeEdits.{tree_without}
 use Rattle.lfs_model.specs.Blocks.{Blocks}
 use Rattle.lfs_model.specs.BlockSets.{AreUsed}
 use Rattle.lfs_model.specs.Disk.{Disk}
@@ -16,7 +16,7 @@ use Rattle.lfs_model.specs.Thread.{Pair, blocks_of, first_at, gstate_of, is_hard
 use Rattle.lfs_model.specs.Tree.{Tree, branch_of}
 use Rattle.lfs_model.specs.View.{IsAccepted}
 use Rattle.lfs_model.specs.Profile.{IsWritable}
-use Rattle.lfs_model.specs.Shown.{Leads, file_blocks, tree_in, used_blocks}
+use Rattle.lfs_model.specs.Shown.{PathLeadsTo, file_blocks, tree_in, used_blocks}
 use Rattle.lfs_model.proofs.Changes.{Follows}
 use Rattle.lfs_model.proofs.Committed.{IsCompleted, no_move_from, recovered_from}
 use Rattle.lfs_model.proofs.Counts.{Each, each_right, count, count_append, once_from_distinct}
@@ -30,13 +30,13 @@ use Rattle.lfs_model.proofs.Pairs.{pair_back, pair_on}
 use Rattle.lfs_model.proofs.Sites.{IsSite, Site, begin_of, dirs_at, thread_at}
 use Rattle.lfs_model.proofs.Splices.{IsDevice, files_of}
 use Rattle.lfs_model.proofs.Superblocks.{IsChain}
-use Rattle.lfs_model.proofs.Writable.{flag}
+use Rattle.lfs_model.proofs.Writable.{ends_in_hard_tail}
 use Rattle.lfs_thread.specs.Device.{StopsLeave, two_of}
 use Rattle.lfs_thread.specs.Kept.{Kept}
 use Rattle.lfs_thread.specs.Steps.{IsWrittenAs, pair_in, without_pair}
 use Rattle.lfs_operations.specs.Dropping.{CanDropAt, HasDroppedBehind, HasShrunk, IsLeftByDrop, SameInFlight, taken_over, with_tail_taken}
 use Rattle.lfs_operations.specs.Editing.{CanEdit, slot_at}
-use Rattle.lfs_operations.specs.Removing.{IsRemoved, goes_whole, without_file}
+use Rattle.lfs_operations.specs.Removing.{IsRemoved, drops_pair, without_file}
 use Rattle.lfs_operations.proofs.Dropped.{device_dropped, device_kept, dropped_count, flying_same, length_fewer, profile_same, used_fewer}
 use Rattle.lfs_operations.proofs.DroppedTails.{front_is, gone_is, gstate_is, no_move_state, without_is}
 use Rattle.lfs_operations.proofs.Held.{below, here}
@@ -73,7 +73,7 @@ run_hard [] x o right h = h.0
 run_hard (y ∷ []) x o right h = h.1.0
 run_hard (y ∷ z ∷ left) x o right h = run_hard (z ∷ left) x o right h.1
 
-flag_last : (xs : List Pair) (x : Pair) (b : Bool) → flag b (xs ++ x ∷ []) ≡ is_hard x.content.tail
+flag_last : (xs : List Pair) (x : Pair) (b : Bool) → ends_in_hard_tail b (xs ++ x ∷ []) ≡ is_hard x.content.tail
 flag_last [] x b = refl
 flag_last (y ∷ xs) x b = flag_last xs x (is_hard y.content.tail)
 
@@ -99,7 +99,7 @@ pub record StandsWhole (t : Kept) (index id : ℕ) (can : CanEdit t index id) : 
   pub same : same_pair (begin_of w (x ∷ can.stands.pair ∷ [])) can.at ≡ true
   pub held : can.stands.pair.content.slots ≡ can.stands.stands.slot ∷ []
 
-module _ (t : Kept) (index id first : ℕ) (can : CanEdit t index id) (begins : can.first ≡ first) (goes : goes_whole t index first ≡ true) where
+module _ (t : Kept) (index id first : ℕ) (can : CanEdit t index id) (begins : can.first ≡ first) (goes : drops_pair t index first ≡ true) where
   abbrev o : Pair
   o = can.stands.pair
 
@@ -197,8 +197,8 @@ module _ (t : Kept) (index id first : ℕ) (can : CanEdit t index id) (begins : 
   same_now = subst (λ z. same_pair (first_at z) can.at ≡ true) (ap (λ z. z ++ o ∷ []) front.is ∙ append_assoc front.front (x ∷ []) (o ∷ [])) same_before
 
   -- a hard tail leads to the pair
-  pub flag_whole : flag false (v.before ++ v.left) ≡ true
-  flag_whole = ap (λ z. flag false (v.before ++ z)) front.is ∙ ap (flag false) (sym (append_assoc v.before front.front (x ∷ []))) ∙ flag_last (v.before ++ front.front) x false ∙ hard
+  pub flag_whole : ends_in_hard_tail false (v.before ++ v.left) ≡ true
+  flag_whole = ap (λ z. ends_in_hard_tail false (v.before ++ z)) front.is ∙ ap (ends_in_hard_tail false) (sym (append_assoc v.before front.front (x ∷ []))) ∙ flag_last (v.before ++ front.front) x false ∙ hard
 
   pub stands_whole : StandsWhole t index id can
   stands_whole = record { w = w; x = x; there = there; site = site_now; number = place; hard = hard; same = same_now; held = held }
@@ -264,13 +264,13 @@ module _ (t : Kept) (index id first : ℕ) (can : CanEdit t index id) (begins : 
 
   module _ (file : branch_of can.stands.stands.slot.struct ≡ None) where
     abbrev turn : Tree → Tree
-    turn = removed (can.path ++ can.name ∷ [])
+    turn = tree_without (can.path ++ can.name ∷ [])
 
-    leads_now : Leads (thread_at w (x ∷ o ∷ [])) can.path can.at
-    leads_now = subst (λ z. Leads z can.path can.at) there can.leads
+    leads_now : PathLeadsTo (thread_at w (x ∷ o ∷ [])) can.path can.at
+    leads_now = subst (λ z. PathLeadsTo z can.path can.at) there can.leads
 
     follows : (disk : Disk) → IsWrittenAs t (index - 1) c disk → Follows t.disk (thread_at w (x ∷ o ∷ [])) disk (thread_at w (q ∷ [])) turn (λ d. d)
-    follows disk written = subst (λ n. Follows t.disk (thread_at w (x ∷ o ∷ [])) disk (thread_at w (q ∷ [])) (removed (can.path ++ n ∷ [])) (λ d. d)) can.stands.stands.named
+    follows disk written = subst (λ n. Follows t.disk (thread_at w (x ∷ o ∷ [])) disk (thread_at w (q ∷ [])) (tree_without (can.path ++ n ∷ [])) (λ d. d)) can.stands.stands.named
         (file_goes t.disk disk w x (o ∷ []) q [] [] [] x.content.slots [] u (drop_step t.disk disk w x o q u (drop_on disk written)) can.stands.stands.entry can.path can.at leads_now same_now file
         (λ e. (recovered_from t.disk (thread_at w (x ∷ o ∷ [])) accepted (ap gstate_of (sym there) ∙ can.ready.settled)).reached))
 

@@ -6,7 +6,7 @@ use Rattle.std.proofs.lemmas.List.Sums.{sum_by-append, sum_by-cons}
 use Rattle.lfs_model.specs.Changes.{Change, changed_by}
 use Rattle.lfs_model.specs.Content.{RawContent, RawSlot, complete_all, completed, no_content, raw_at, slot_of_id}
 use Rattle.lfs_model.specs.Cut.{CanBeCut}
-use Rattle.lfs_model.specs.InDirectory.{IsBehind, StandsAt}
+use Rattle.lfs_model.specs.InDirectory.{IsPairOfDirectory, IsNameAt}
 use Rattle.lfs_model.specs.LoggedContent.{HasParts, HaveParts}
 use Rattle.lfs_model.specs.Names.{Name, is_name}
 use Rattle.lfs_model.specs.Slots.{Content, FitsPair, Slot, slot_size}
@@ -108,8 +108,8 @@ leaves_then c changes more slots others k m = record {
 
 -- ---- in a pair
 
-module _ (t : Kept) (index id : ℕ) (ready : IsReady t) (first : ℕ) (p : Pair) (rest : List Pair) (place : IsBehind t.pairs first index p rest) (logged : IsLoggedAt t.disk (pair_in t index).at)
-    (was : Name) (s : StandsAt p.content.slots was id) where
+module _ (t : Kept) (index id : ℕ) (ready : IsReady t) (first : ℕ) (p : Pair) (rest : List Pair) (place : IsPairOfDirectory t.pairs first index p rest) (logged : IsLoggedAt t.disk (pair_in t index).at)
+    (was : Name) (s : IsNameAt p.content.slots was id) where
   abbrev pub c : CompletesTo (raw_at t.disk (pair_in t index).at) p.content
   c = raw_there t ready first index p rest place
 

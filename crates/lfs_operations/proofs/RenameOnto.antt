@@ -6,7 +6,7 @@ use Rattle.lfs_model.specs.Disk.{Disk}
 use Rattle.lfs_model.specs.Slots.{Slot, is_superblock, same_pair}
 use Rattle.lfs_model.specs.Thread.{Pair, gstate_of}
 use Rattle.lfs_model.specs.Tree.{Path, branch_of}
-use Rattle.lfs_model.specs.Shown.{Leads, entries_in}
+use Rattle.lfs_model.specs.Shown.{PathLeadsTo, entries_in}
 use Rattle.lfs_model.specs.TreeEdits.{renamed}
 use Rattle.lfs_model.specs.InDirectory.{entries_only}
 use Rattle.lfs_model.proofs.Changes.{Follows}
@@ -28,7 +28,7 @@ module _ (disk new : Disk) (w : Site) (p q : Pair) (more : List Pair) (extra : L
     (c : IsStep disk new w p [] q more extra [] l (u ∷ (passed ++ target ∷ [])) (passed ++ record u { name = target.name } ∷ []) r) (held : p.content.slots ≡ l ++ ((u ∷ (passed ++ target ∷ [])) ++ r)) (other : is_superblock u ≡ false) (entry : is_superblock target ≡ false)
     (file : (gstate_of (thread_at w (q ∷ more))).sync ≡ false → (branch_of target.struct ≡ None) × AllReached (thread_at w (p ∷ [])))
     (differs : target.name ≡ u.name → ⊥)
-    (P : Path) (a : ℕ × ℕ) (leads : Leads (thread_at w (p ∷ [])) P a) (same : same_pair (begin_of w (p ∷ [])) a ≡ true) where
+    (P : Path) (a : ℕ × ℕ) (leads : PathLeadsTo (thread_at w (p ∷ [])) P a) (same : same_pair (begin_of w (p ∷ [])) a ≡ true) where
   abbrev moved : Slot
   moved = record u { name = target.name }
 
@@ -71,7 +71,7 @@ module _ (disk new : Disk) (w : Site) (p q : Pair) (more : List Pair) (extra : L
     (c : IsStep disk new w p [] q more extra [] l (target ∷ (passed ++ u ∷ [])) (record u { name = target.name } ∷ passed) r) (held : p.content.slots ≡ l ++ ((target ∷ (passed ++ u ∷ [])) ++ r)) (other : is_superblock u ≡ false) (entry : is_superblock target ≡ false)
     (file : (gstate_of (thread_at w (q ∷ more))).sync ≡ false → (branch_of target.struct ≡ None) × AllReached (thread_at w (p ∷ [])))
     (differs : target.name ≡ u.name → ⊥)
-    (P : Path) (a : ℕ × ℕ) (leads : Leads (thread_at w (p ∷ [])) P a) (same : same_pair (begin_of w (p ∷ [])) a ≡ true) where
+    (P : Path) (a : ℕ × ℕ) (leads : PathLeadsTo (thread_at w (p ∷ [])) P a) (same : same_pair (begin_of w (p ∷ [])) a ≡ true) where
   abbrev moved2 : Slot
   moved2 = record u { name = target.name }
 

@@ -10,16 +10,16 @@ use Rattle.lfs_model.specs.Changes.{Change, Delete, PutMove, changed_by}
 use Rattle.lfs_model.specs.Content.{RawContent, RawSlot, complete_all, completed, content_at, holder_at, raw_at}
 use Rattle.lfs_model.specs.Disk.{Disk}
 use Rattle.lfs_model.specs.History.{Event}
-use Rattle.lfs_model.specs.InDirectory.{StandsAt}
+use Rattle.lfs_model.specs.InDirectory.{IsNameAt}
 use Rattle.lfs_model.specs.LoggedContent.{IsMoveState}
 use Rattle.lfs_model.specs.Names.{Name, is_name}
 use Rattle.lfs_model.specs.PowerLoss.{IsLeftByStop as IsLeftOf, Survives, with_blocks}
 use Rattle.lfs_model.specs.SlotEdits.{with_slots}
 use Rattle.lfs_model.specs.Slots.{Content, FitsPair, Gstate, Slot, gstate_xor, no_gstate, same_pair, slot_size, struct_len}
 use Rattle.lfs_model.specs.Thread.{Pair, gstate_of, next_of, starts_with_superblock}
-use Rattle.lfs_model.specs.View.{BeginsWith, IsAccepted, IsEntry, superblock_entry}
+use Rattle.lfs_model.specs.View.{BeginsWithEntry, IsAccepted, IsEntry, superblock_entry}
 use Rattle.lfs_model.specs.Profile.{IsWritable}
-use Rattle.lfs_model.specs.Shown.{Leads, all_slots, tree_in}
+use Rattle.lfs_model.specs.Shown.{PathLeadsTo, all_slots, tree_in}
 use Rattle.lfs_model.proofs.Became.{fits_same}
 use Rattle.lfs_model.proofs.Changes.{Follows, SameFiles}
 use Rattle.lfs_model.proofs.Committed.{no_move_from}
@@ -34,12 +34,12 @@ use Rattle.lfs_model.proofs.Renames.{rename_walk}
 use Rattle.lfs_model.proofs.Searches.{is_site, number_is, site}
 use Rattle.lfs_model.proofs.Sites.{Site, begin_of, thread_at}
 use Rattle.lfs_model.proofs.Splices.{IsDevice, stays_shape}
-use Rattle.lfs_model.proofs.StepsTaken.{IsTaken, commit_taken}
+use Rattle.lfs_model.proofs.StepsTaken.{IsOnlyStep, commit_taken}
 use Rattle.lfs_model.proofs.Unchanged.{HasFirst}
 use Rattle.lfs_pair.specs.Commit.{OutsideKeeps}
 use Rattle.lfs_thread.specs.Device.{StopsLeave}
 use Rattle.lfs_thread.specs.Kept.{Kept}
-use Rattle.lfs_thread.specs.Steps.{CanChange, IsChanged, IsLeftByChange, IsRefused, IsWrittenAs, SlotsHaveFirst, made_in_thread, pair_in, with_pair}
+use Rattle.lfs_thread.specs.Steps.{CanChange, IsChanged, IsLeftByChange, IsCommitRefused, IsWrittenAs, SlotsHaveFirst, made_in_thread, pair_in, with_pair}
 use Rattle.lfs_operations.specs.Editing.{CanEdit}
 use Rattle.lfs_operations.specs.Renaming.{place_without, with_renamed}
 use Rattle.lfs_operations.specs.RenamingOver.{CanRenameOver, IsRenamedOver, rename_over_changes}
@@ -80,7 +80,7 @@ module _ (t : Kept) (index id place : ℕ) (name : Name) (rename : CanRenameOver
   abbrev can : CanEdit t index id
   can = rename.can
 
-  abbrev s : StandsAt can.stands.pair.content.slots can.name id
+  abbrev s : IsNameAt can.stands.pair.content.slots can.name id
   s = can.stands.stands
 
   abbrev p : Pair
@@ -110,7 +110,7 @@ module _ (t : Kept) (index id place : ℕ) (name : Name) (rename : CanRenameOver
   there : t.pairs ≡ thread_at w (p ∷ [])
   there = both.there t index id place name can rename.target rename.differs
 
-  leads_there : Leads (thread_at w (p ∷ [])) can.path can.at
+  leads_there : PathLeadsTo (thread_at w (p ∷ [])) can.path can.at
   leads_there = both.leads_there t index id place name can rename.target rename.differs
 
   same_there : same_pair (begin_of w (p ∷ [])) can.at ≡ true
@@ -366,7 +366,7 @@ module _ (t : Kept) (index id place : ℕ) (name : Name) (rename : CanRenameOver
       geometry = record { block_size = is.shape.block_size; page = is.shape.page; order = is.shape.order; count = is.shape.count };
       same = λ b none. (subst (λ at. OutsideKeeps at t.disk.blocks disk.blocks) at_is is.others).others b (all_apart (p.at.0 ∷ p.at.1 ∷ []) b none);
       contents = (ap (content_at disk) (sym at_is) ∙ is.holds, tt);
-      first = λ z b. subst (λ at. BeginsWith (holder_at disk at) superblock_entry) at_is (is.first (subst (λ at. BeginsWith (holder_at t.disk at) superblock_entry) (sym at_is) b) (first z));
+      first = λ z b. subst (λ at. BeginsWithEntry (holder_at disk at) superblock_entry) at_is (is.first (subst (λ at. BeginsWithEntry (holder_at t.disk at) superblock_entry) (sym at_is) b) (first z));
     }
 
     device_of : (disk : Disk) → IsWrittenAs t index (over_content h.x h.y) disk → IsDevice t.disk disk (thread_at w (p ∷ [])) (thread_at w (q ∷ []))
@@ -395,7 +395,7 @@ module _ (t : Kept) (index id place : ℕ) (name : Name) (rename : CanRenameOver
         }
 
     pub taken : (disk : Disk) → IsWrittenAs t index (over_content h.x h.y) disk
-        → IsTaken t.disk (thread_at w (p ∷ [])) disk (thread_at w (q ∷ [])) (renamed (can.path ++ can.name ∷ []) (can.path ++ name ∷ [])) (rename_walk (can.path ++ can.name ∷ []) (can.path ++ name ∷ []))
+        → IsOnlyStep t.disk (thread_at w (p ∷ [])) disk (thread_at w (q ∷ [])) (renamed (can.path ++ can.name ∷ []) (can.path ++ name ∷ [])) (rename_walk (can.path ++ can.name ∷ []) (can.path ++ name ∷ []))
     taken disk is = commit_taken t.disk w p q [] h.l h.olds h.news h.r
         (record {
           writable = subst (IsWritable t.disk) there can.ready.writable;
@@ -428,7 +428,7 @@ module _ (t : Kept) (index id place : ℕ) (name : Name) (rename : CanRenameOver
   pub same_made : (z : Content) → made_in_thread t index (rename_over_changes t index id place name) ≡ Some z → z ≡ over_content has_over.x has_over.y
   same_made z m = same_Some z (over_content has_over.x has_over.y) (sym m ∙ over_made has_over.x has_over.y has_over.over)
 
-  pub over_not_refused : (new : Kept) → IsRefused t index (rename_over_changes t index id place name) new → ⊥
+  pub over_not_refused : (new : Kept) → IsCommitRefused t index (rename_over_changes t index id place name) new → ⊥
   over_not_refused new is = is.too_large (subst (FitsPair t.disk.block_size t.disk.page) (sym (same_made is.content is.made)) (over_fits has_over.x has_over.y has_over.over))
 
   pub renamed_over : (new : Kept) → IsChanged t index (rename_over_changes t index id place name) new → IsRenamedOver t new index id place rename.can.path rename.can.name name
@@ -446,8 +446,8 @@ module _ (t : Kept) (index id place : ℕ) (name : Name) (rename : CanRenameOver
         thread = is.thread;
         map = is.map;
         gstate = ap gstate_of now ∙ gstate_now has_over;
-        taken = subst (λ z. IsTaken t.disk t.pairs new.disk z (renamed (can.path ++ can.name ∷ []) (can.path ++ name ∷ [])) (rename_walk (can.path ++ can.name ∷ []) (can.path ++ name ∷ []))) (sym now)
-            (subst (λ z. IsTaken t.disk z new.disk (thread_at w (q has_over ∷ [])) (renamed (can.path ++ can.name ∷ []) (can.path ++ name ∷ [])) (rename_walk (can.path ++ can.name ∷ []) (can.path ++ name ∷ []))) (sym there) done);
+        taken = subst (λ z. IsOnlyStep t.disk t.pairs new.disk z (renamed (can.path ++ can.name ∷ []) (can.path ++ name ∷ [])) (rename_walk (can.path ++ can.name ∷ []) (can.path ++ name ∷ []))) (sym now)
+            (subst (λ z. IsOnlyStep t.disk z new.disk (thread_at w (q has_over ∷ [])) (renamed (can.path ++ can.name ∷ []) (can.path ++ name ∷ [])) (rename_walk (can.path ++ can.name ∷ []) (can.path ++ name ∷ []))) (sym there) done);
       }
 
   -- ---- at a stop

@@ -7,7 +7,7 @@ use Rattle.lfs_model.specs.Blocks.{Blocks}
 use Rattle.lfs_model.specs.Changes.{Change}
 use Rattle.lfs_model.specs.Disk.{Disk}
 use Rattle.lfs_model.specs.History.{Event, OnlyReads, faults}
-use Rattle.lfs_model.specs.InDirectory.{IsBehind}
+use Rattle.lfs_model.specs.InDirectory.{IsPairOfDirectory}
 use Rattle.lfs_model.specs.PowerLoss.{Survives, with_blocks}
 use Rattle.lfs_model.specs.Slots.{Content}
 use Rattle.lfs_model.specs.Thread.{Pair}
@@ -101,7 +101,7 @@ module _ (t : Kept) (h : List Event) (reads : OnlyReads t.disk.blocks t.history 
   left_earlier left (inr (large, is)) = inr (large, left_later t h reads index changes left is)
 
 -- the pair as it was, at a stop in a read
-still_there : (t : Kept) (index : ℕ) (changes : List Change) → IsReady t → (first : ℕ) (p : Pair) (rest : List Pair) → IsBehind t.pairs first index p rest → IsLeftByPut t index changes t.disk.blocks
+still_there : (t : Kept) (index : ℕ) (changes : List Change) → IsReady t → (first : ℕ) (p : Pair) (rest : List Pair) → IsPairOfDirectory t.pairs first index p rest → IsLeftByPut t index changes t.disk.blocks
 still_there t index changes ready first p rest place = inl (record {
   content = (pair_in t index).content;
   is = inl refl;
@@ -113,7 +113,7 @@ still_there t index changes ready first p rest place = inl (record {
   };
 })
 
-pub stops_after_read : (t mid new : Kept) (index : ℕ) (changes : List Change) → IsOnlyRead t mid → IsReady t → (first : ℕ) (p : Pair) (rest : List Pair) → IsBehind t.pairs first index p rest
+pub stops_after_read : (t mid new : Kept) (index : ℕ) (changes : List Change) → IsOnlyRead t mid → IsReady t → (first : ℕ) (p : Pair) (rest : List Pair) → IsPairOfDirectory t.pairs first index p rest
     → WritesIn mid index new → StopsLeave mid.history new.history (IsLeftByPut mid index changes) → StopsLeave t.history new.history (IsLeftByPut t index changes)
 stops_after_read t mid new index changes only ready first p rest place writes stops clean =
     LeavesOnly-trans (LeavesOnly-reads Stops-read only.reads (still_there t index changes ready first p rest place))

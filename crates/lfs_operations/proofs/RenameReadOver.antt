@@ -6,13 +6,13 @@ use Rattle.lfs_device.specs.declared.error.Error.TheVariants.{Io, NoMemory}
 use Rattle.lfs_model.specs.Blocks.{Blocks}
 use Rattle.lfs_model.specs.Changes.{Change}
 use Rattle.lfs_model.specs.History.{Event, OnlyReads, faults}
-use Rattle.lfs_model.specs.InDirectory.{IsBehind}
+use Rattle.lfs_model.specs.InDirectory.{IsPairOfDirectory}
 use Rattle.lfs_model.specs.PowerLoss.{with_blocks}
 use Rattle.lfs_model.specs.Thread.{Pair}
 use Rattle.lfs_model.proofs.Histories.{AtWorst-read, EachSince-behind, LeavesOnly-reads, LeavesOnly-trans, LeavesOnly-weaker, OnlyReads-trans, StayUnprogrammed-reads, StayUnprogrammed-trans, Stops-read}
 use Rattle.lfs_thread.specs.Device.{StopsLeave}
 use Rattle.lfs_thread.specs.Kept.{Kept, State}
-use Rattle.lfs_thread.specs.Steps.{CanChange, HasReported, IsChanged, IsLeftByChange, IsOnlyRead, IsRefused, Writes, pair_in}
+use Rattle.lfs_thread.specs.Steps.{CanChange, HasReported, IsChanged, IsLeftByChange, IsOnlyRead, IsCommitRefused, Writes, pair_in}
 use Rattle.lfs_operations.specs.Ready.{IsReady}
 use Rattle.lfs_operations.specs.RenamingOver.{ReportsOver}
 use Rattle.lfs_operations.proofs.Held.{here, holds}
@@ -25,7 +25,7 @@ changed_after_read t mid new index changes only is = changed_earlier t mid.histo
 pub can_change_after_read : (t mid : Kept) (index : ℕ) (changes : List Change) → IsOnlyRead t mid → CanChange t index changes → CanChange mid index changes
 can_change_after_read t mid index changes only can = subst (λ (k : Kept). CanChange k index changes) (sym (read_is t mid only)) (record { below = can.below; content = can.content; made = can.made; next = can.next })
 
-refused_earlier : (t : Kept) (h : List Event) (new : Kept) (index : ℕ) (changes : List Change) → OnlyReads t.disk.blocks t.history h → IsRefused (with_history t h) index changes new → IsRefused t index changes new
+refused_earlier : (t : Kept) (h : List Event) (new : Kept) (index : ℕ) (changes : List Change) → OnlyReads t.disk.blocks t.history h → IsCommitRefused (with_history t h) index changes new → IsCommitRefused t index changes new
 refused_earlier t h new index changes reads is = record {
   content = is.content;
   made = is.made;
@@ -33,8 +33,8 @@ refused_earlier t h new index changes reads is = record {
   only = record { disk = is.only.disk; reads = OnlyReads-trans reads is.only.reads refl; pairs = is.only.pairs; map = is.only.map };
 }
 
-pub refused_after_read : (t mid new : Kept) (index : ℕ) (changes : List Change) → IsOnlyRead t mid → IsRefused mid index changes new → IsRefused t index changes new
-refused_after_read t mid new index changes only is = refused_earlier t mid.history new index changes only.reads (subst (λ (k : Kept). IsRefused k index changes new) (read_is t mid only) is)
+pub refused_after_read : (t mid new : Kept) (index : ℕ) (changes : List Change) → IsOnlyRead t mid → IsCommitRefused mid index changes new → IsCommitRefused t index changes new
+refused_after_read t mid new index changes only is = refused_earlier t mid.history new index changes only.reads (subst (λ (k : Kept). IsCommitRefused k index changes new) (read_is t mid only) is)
 
 writes_earlier : (t : Kept) (h : List Event) (new : Kept) (bs : List ℕ) → OnlyReads t.disk.blocks t.history h → Writes bs (with_history t h) new → Writes bs t new
 writes_earlier t h new bs reads w = record {
@@ -55,7 +55,7 @@ only_read_writes t mid bs only = subst (λ (k : Kept). Writes bs t k) (sym (read
   at_worst = LeavesOnly-reads AtWorst-read only.reads (record { count = refl; sizes = λ b. refl; others = λ b apart. refl });
 })
 
-pub change_stops_after_read : (t mid new : Kept) (index : ℕ) (changes : List Change) (bs : List ℕ) → IsOnlyRead t mid → IsReady t → (first : ℕ) (p : Pair) (rest : List Pair) → IsBehind t.pairs first index p rest
+pub change_stops_after_read : (t mid new : Kept) (index : ℕ) (changes : List Change) (bs : List ℕ) → IsOnlyRead t mid → IsReady t → (first : ℕ) (p : Pair) (rest : List Pair) → IsPairOfDirectory t.pairs first index p rest
     → Writes bs mid new → StopsLeave mid.history new.history (IsLeftByChange mid index changes) → StopsLeave t.history new.history (IsLeftByChange t index changes)
 change_stops_after_read t mid new index changes bs only ready first p rest place writes stops clean =
     LeavesOnly-trans (LeavesOnly-reads Stops-read only.reads (record {

@@ -5,13 +5,13 @@ use Rattle.lfs_model.specs.Changes.{Delete}
 use Rattle.lfs_model.specs.Content.{raw_at}
 use Rattle.lfs_model.specs.Disk.{Disk}
 use Rattle.lfs_model.specs.History.{Event}
-use Rattle.lfs_model.specs.InDirectory.{StandsAt}
+use Rattle.lfs_model.specs.InDirectory.{IsNameAt}
 use Rattle.lfs_model.specs.Names.{Name, is_name}
 use Rattle.lfs_model.specs.PowerLoss.{Survives}
 use Rattle.lfs_model.specs.Slots.{FitsPair, Slot, same_pair}
 use Rattle.lfs_model.specs.Thread.{Pair, blocks_of}
 use Rattle.lfs_model.specs.View.{IsEntry}
-use Rattle.lfs_model.specs.Shown.{Leads, file_blocks, tree_in, used_blocks}
+use Rattle.lfs_model.specs.Shown.{PathLeadsTo, file_blocks, tree_in, used_blocks}
 use Rattle.lfs_model.proofs.Changes.{Follows}
 use Rattle.lfs_model.proofs.Committed.{IsCommit, commit_step, recovered_from}
 use Rattle.lfs_model.proofs.Counts.{count}
@@ -41,7 +41,7 @@ module _ (t : Kept) (index id place : ℕ) (name : Name) (rename : CanRenameOnto
   abbrev can : CanEdit t index id
   can = rename.can
 
-  abbrev s : StandsAt can.stands.pair.content.slots can.name id
+  abbrev s : IsNameAt can.stands.pair.content.slots can.name id
   s = can.stands.stands
 
   abbrev p : Pair
@@ -71,7 +71,7 @@ module _ (t : Kept) (index id place : ℕ) (name : Name) (rename : CanRenameOnto
   there : t.pairs ≡ thread_at w (p ∷ [])
   there = both.there t index id place name can rename.target rename.differs
 
-  leads_there : Leads (thread_at w (p ∷ [])) can.path can.at
+  leads_there : PathLeadsTo (thread_at w (p ∷ [])) can.path can.at
   leads_there = both.leads_there t index id place name can rename.target rename.differs
 
   same_there : same_pair (begin_of w (p ∷ [])) can.at ≡ true

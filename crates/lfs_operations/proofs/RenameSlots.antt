@@ -7,7 +7,7 @@ use Rattle.std.proofs.lemmas.List.{length-take-le}
 use Rattle.std.proofs.lemmas.Option.{same_Some}
 use Rattle.std.proofs.Math.Seq.{get_or-append_seam}
 use Rattle.lfs_model.specs.Changes.{PutAttribute, changed_by}
-use Rattle.lfs_model.specs.Content.{RawSlot, RawContent, complete, changed, empty_slot, kind_named, put_attribute, slot_of_id, struct_typed}
+use Rattle.lfs_model.specs.Content.{RawSlot, RawContent, complete, with_slot_changed, empty_slot, kind_named, put_attribute, slot_of_id, struct_typed}
 use Rattle.lfs_model.specs.EntryTypes.{file_name_type, directory_name_type}
 use Rattle.lfs_model.specs.LoggedContent.{Ascend, HasParts, IsPart, IsPartIfSome}
 use Rattle.lfs_model.specs.Names.{Name, is_name, is_component}
@@ -45,10 +45,10 @@ puts_attributes c id s low front (a ∷ rest) small fits named below up =
     let now : RawSlot = record s { attributes = front ++ a ∷ [] } in
     let short : length a.1 < 0x3ff = up.2 in
     let from : low ≤ a.0 = up.0 in
-    let same : changed (with_attribute_put a.0 a.1) (insert c.slots id was) id ≡ insert c.slots id now
+    let same : with_slot_changed (with_attribute_put a.0 a.1) (insert c.slots id was) id ≡ insert c.slots id now
     = changed_inserted (with_attribute_put a.0 a.1) c.slots id was fits
     ∙ ap (λ (z : Attributes). insert c.slots id (record s { attributes = z })) (put_last front a.0 a.1 (each_weaker (λ (x : ℕ × List ℕ). x.0 < low) (λ (x : ℕ × List ℕ). x.0 < a.0) (λ x l. omega arith) front below)) in
-    does_first (PutAttribute id a.0 a.1) (attribute_changes id rest) (with_slot c id was) (record c { slots = changed (with_attribute_put a.0 a.1) (insert c.slots id was) id }) (with_slot c id (record s { attributes = front ++ a ∷ rest }))
+    does_first (PutAttribute id a.0 a.1) (attribute_changes id rest) (with_slot c id was) (record c { slots = with_slot_changed (with_attribute_put a.0 a.1) (insert c.slots id was) id }) (with_slot c id (record s { attributes = front ++ a ∷ rest }))
     (puts_attribute (with_slot c id was) id a.0 a.1 small (let l : a.0 < 256 = up.1 in omega arith) short (ap (λ (z : RawSlot). is_some z.name) (inserted c.slots id was fits) ∙ named))
     (ap (λ (z : List RawSlot). changed_by (record c { slots = z }) (attribute_changes id rest)) same
     ∙ puts_attributes c id s (a.0 + 1) (front ++ a ∷ []) rest small fits named

@@ -3,12 +3,12 @@ use Rattle.std.proofs.Common.{ℕ, ◌≡◌, true, List, [], ◌∷◌, ◌++�
 use Rattle.std.specs.Prelude.{◌≢◌}
 use Rattle.lfs_model.specs.Changes.{Delete}
 use Rattle.lfs_model.specs.Content.{RawContent, complete_all}
-use Rattle.lfs_model.specs.InDirectory.{Stands, StandsAt}
+use Rattle.lfs_model.specs.InDirectory.{HasNameAtPlace, IsNameAt}
 use Rattle.lfs_model.specs.Names.{Name, is_name}
 use Rattle.lfs_model.specs.Slots.{FitsPair, Slot, same_pair}
 use Rattle.lfs_model.specs.Thread.{Pair}
 use Rattle.lfs_model.specs.View.{IsEntry}
-use Rattle.lfs_model.specs.Shown.{Leads}
+use Rattle.lfs_model.specs.Shown.{PathLeadsTo}
 use Rattle.lfs_model.proofs.Counts.{Each, each_right}
 use Rattle.lfs_model.proofs.Searches.{same, site, thread_is}
 use Rattle.lfs_model.proofs.Sites.{Site, begin_of, thread_at}
@@ -35,8 +35,8 @@ follower target tail u behind (x ∷ passed) apart e = record { between = passed
     first : x ≡ target
     first = cc
 
-module _ (t : Kept) (index id place : ℕ) (name : Name) (can : CanEdit t index id) (to : Stands t.pairs can.first name index place) (apart : name ≢ can.name) where
-  abbrev s : StandsAt can.stands.pair.content.slots can.name id
+module _ (t : Kept) (index id place : ℕ) (name : Name) (can : CanEdit t index id) (to : HasNameAtPlace t.pairs can.first name index place) (apart : name ≢ can.name) where
+  abbrev s : IsNameAt can.stands.pair.content.slots can.name id
   s = can.stands.stands
 
   abbrev p : Pair
@@ -69,8 +69,8 @@ module _ (t : Kept) (index id place : ℕ) (name : Name) (can : CanEdit t index 
   pub there : t.pairs ≡ thread_at w (p ∷ [])
   there = thread_is t.disk t.pairs can.path can.at can.ready.accepted can.leads can.first index p can.stands.rest can.stands.place can.begins
 
-  pub leads_there : Leads (thread_at w (p ∷ [])) can.path can.at
-  leads_there = subst (λ z. Leads z can.path can.at) there can.leads
+  pub leads_there : PathLeadsTo (thread_at w (p ∷ [])) can.path can.at
+  leads_there = subst (λ z. PathLeadsTo z can.path can.at) there can.leads
 
   pub same_there : same_pair (begin_of w (p ∷ [])) can.at ≡ true
   same_there = same t.disk t.pairs can.path can.at can.ready.accepted can.leads can.first index p can.stands.rest can.stands.place can.begins

@@ -5,13 +5,13 @@ use Rattle.lfs_model.specs.TreeEdits.{renamed}
 use Rattle.lfs_model.specs.Changes.{Delete}
 use Rattle.lfs_model.specs.Content.{raw_at}
 use Rattle.lfs_model.specs.History.{Event}
-use Rattle.lfs_model.specs.InDirectory.{Belongs, StandsAt}
+use Rattle.lfs_model.specs.InDirectory.{BelongsInDirectory, IsNameAt}
 use Rattle.lfs_model.specs.Names.{Name}
 use Rattle.lfs_model.specs.PowerLoss.{Survives}
 use Rattle.lfs_model.specs.Slots.{FitsPair, Slot, same_pair}
 use Rattle.lfs_model.specs.Thread.{Pair, starts_with_superblock}
 use Rattle.lfs_model.specs.View.{IsEntry}
-use Rattle.lfs_model.specs.Shown.{Leads, entries_in, tree_in}
+use Rattle.lfs_model.specs.Shown.{PathLeadsTo, entries_in, tree_in}
 use Rattle.lfs_model.proofs.Changes.{Follows}
 use Rattle.lfs_model.proofs.Committed.{no_move_from}
 use Rattle.lfs_model.proofs.Moves.{place_at}
@@ -45,7 +45,7 @@ module _ (t : Kept) (index id place : ℕ) (name : Name) (rename : CanRename t i
   abbrev can : CanEdit t index id
   can = rename.can
 
-  abbrev b : Belongs t.disk.order t.pairs can.first name index place
+  abbrev b : BelongsInDirectory t.disk.order t.pairs can.first name index place
   b = rename.belongs
 
   abbrev p : Pair
@@ -66,7 +66,7 @@ module _ (t : Kept) (index id place : ℕ) (name : Name) (rename : CanRename t i
   pair_same : b.pair ≡ can.stands.pair
   pair_same = sym (here t can.ready can.first index b.pair (b.later ++ b.rest) b.place) ∙ here t can.ready can.first index can.stands.pair can.stands.rest can.stands.place
 
-  abbrev s : StandsAt b.pair.content.slots can.name id
+  abbrev s : IsNameAt b.pair.content.slots can.name id
   s = record {
     left = can.stands.stands.left;
     slot = can.stands.stands.slot;
@@ -83,8 +83,8 @@ module _ (t : Kept) (index id place : ℕ) (name : Name) (rename : CanRename t i
   there : t.pairs ≡ thread_at w (p ∷ [])
   there = thread_is t.disk t.pairs can.path can.at can.ready.accepted can.leads can.first index p (b.later ++ b.rest) b.place can.begins
 
-  leads_there : Leads (thread_at w (p ∷ [])) can.path can.at
-  leads_there = subst (λ z. Leads z can.path can.at) there can.leads
+  leads_there : PathLeadsTo (thread_at w (p ∷ [])) can.path can.at
+  leads_there = subst (λ z. PathLeadsTo z can.path can.at) there can.leads
 
   same_there : same_pair (begin_of w (p ∷ [])) can.at ≡ true
   same_there = same t.disk t.pairs can.path can.at can.ready.accepted can.leads can.first index p (b.later ++ b.rest) b.place can.begins

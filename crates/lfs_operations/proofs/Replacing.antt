@@ -5,15 +5,15 @@ use Rattle.std.specs.Option.{option_and_then}
 use Rattle.std.proofs.lemmas.Option.{same_Some}
 use Rattle.std.proofs.lemmas.List.Sums.{sum_by-append, sum_by-cons}
 use Rattle.lfs_model.specs.Changes.{Change, changed_by}
-use Rattle.lfs_model.specs.Content.{RawContent, RawSlot, raw_at, complete, completed, changed, slot_of_id}
+use Rattle.lfs_model.specs.Content.{RawContent, RawSlot, raw_at, complete, completed, with_slot_changed, slot_of_id}
 use Rattle.lfs_model.specs.Cut.{CanBeCut}
 use Rattle.lfs_model.specs.Disk.{Disk, SameGeometry, block_at}
-use Rattle.lfs_model.specs.InDirectory.{Stands}
+use Rattle.lfs_model.specs.InDirectory.{HasNameAtPlace}
 use Rattle.lfs_model.specs.Slots.{Slot, Content, FitsPair, is_superblock, same_pair, slot_size}
 use Rattle.lfs_model.specs.Thread.{Pair, gstate_of, next_of}
 use Rattle.lfs_model.specs.View.{IsEntry, IsListIfCtz}
 use Rattle.lfs_model.specs.Profile.{FitsEntry}
-use Rattle.lfs_model.specs.Shown.{Leads, all_slots, file_blocks, used_blocks}
+use Rattle.lfs_model.specs.Shown.{PathLeadsTo, all_slots, file_blocks, used_blocks}
 use Rattle.lfs_model.proofs.Committed.{no_move_from}
 use Rattle.lfs_model.proofs.Completed.{complete_set, completed_parts, completed_from}
 use Rattle.lfs_model.proofs.Counts.{Each, each_pieces, each_right, count, count_append}
@@ -30,7 +30,7 @@ use Rattle.lfs_model.proofs.Splices.{unmoved_in}
 use Rattle.lfs_model.proofs.StoredChanges.{logged_changed}
 use Rattle.lfs_pair.specs.Commit.{made_at}
 use Rattle.lfs_thread.specs.Kept.{Kept}
-use Rattle.lfs_thread.specs.Steps.{IsRefused, pair_in, made_in_thread}
+use Rattle.lfs_thread.specs.Steps.{IsCommitRefused, pair_in, made_in_thread}
 use Rattle.lfs_operations.specs.Changing.{CanPut}
 use Rattle.lfs_operations.specs.Editing.{CanEdit, slot_at}
 use Rattle.lfs_operations.proofs.Held.{CompletesTo, IsEntryIfOther, below, each_pair, fits_there, here, other_entries, raw_there}
@@ -39,7 +39,7 @@ use Rattle.lfs_operations.proofs.Splicing.{IsSplicing}
 
 -- the change makes that of the slot at the id
 abbrev pub Makes : Change → ℕ → (RawSlot → RawSlot) → Type 0
-Makes change id g = (c : RawContent) → id < 0x3ff → IsNamed c.slots id → Does change c (record c { slots = changed g c.slots id })
+Makes change id g = (c : RawContent) → id < 0x3ff → IsNamed c.slots id → Does change c (record c { slots = with_slot_changed g c.slots id })
 
 -- of what is complete it makes something complete
 abbrev pub Turns : (RawSlot → RawSlot) → Slot → Slot → Type 0
@@ -47,7 +47,7 @@ Turns g u v = (x : RawSlot) → complete x ≡ Some u → complete (g x) ≡ Som
 
 module _ (t : Kept) (index id : ℕ) (can : CanEdit t index id) (g : RawSlot → RawSlot) (v : Slot) (change : Change) (does : Makes change id g) (turns : Turns g (slot_at can) v)
     (fits : FitsEntry t.disk.block_size t.disk.page v) where
-  abbrev pub s : Stands t.pairs can.first can.name index id
+  abbrev pub s : HasNameAtPlace t.pairs can.first can.name index id
   s = can.stands
 
   abbrev pub p : Pair
@@ -80,7 +80,7 @@ module _ (t : Kept) (index id : ℕ) (can : CanEdit t index id) (g : RawSlot →
   there_raw = ap (slot_of_id c.raw.slots) (sym s.stands.number) ∙ raw.there
 
   abbrev raw_now : RawContent
-  raw_now = record c.raw { slots = changed g c.raw.slots id }
+  raw_now = record c.raw { slots = with_slot_changed g c.raw.slots id }
 
   changed_now : changed_by c.raw (change ∷ []) ≡ Some raw_now
   changed_now =
@@ -129,7 +129,7 @@ module _ (t : Kept) (index id : ℕ) (can : CanEdit t index id) (g : RawSlot →
       let count = f.count in
       record { size = omega arith; count = omega arith }
 
-  pub not_refused : slot_size v ≤ slot_size u → (new : Kept) → IsRefused t index (change ∷ []) new → ⊥
+  pub not_refused : slot_size v ≤ slot_size u → (new : Kept) → IsCommitRefused t index (change ∷ []) new → ⊥
   not_refused less new is = is.too_large (subst (FitsPair t.disk.block_size t.disk.page) (sym (same_Some is.content now (sym is.made ∙ made))) (fits_as_before less))
 
   pub can_put : CanPut t index (change ∷ [])
@@ -200,8 +200,8 @@ module _ (t : Kept) (index id : ℕ) (can : CanEdit t index id) (g : RawSlot →
         omega arith;
   }
 
-  pub leads_there : Leads (thread_at w (p ∷ [])) can.path can.at
-  leads_there = subst (λ z. Leads z can.path can.at) there can.leads
+  pub leads_there : PathLeadsTo (thread_at w (p ∷ [])) can.path can.at
+  leads_there = subst (λ z. PathLeadsTo z can.path can.at) there can.leads
 
   pub same_there : same_pair (begin_of w (p ∷ [])) can.at ≡ true
   same_there = same t.disk t.pairs can.path can.at can.ready.accepted can.leads can.first index p s.rest s.place can.begins

@@ -3,7 +3,7 @@ use Rattle.std.proofs.Common.{ℕ, ◌≡◌, ◌≢◌, ◌&&◌, true, false, 
 use Rattle.std.specs.Prelude.{is_some}
 use Rattle.std.specs.List.{IsDistinct}
 use Rattle.std.proofs.lemmas.List.Elements.{recursion_from_All}
-use Rattle.lfs_model.specs.TreeEdits.{planted, removed}
+use Rattle.lfs_model.specs.TreeEdits.{with_subtree_moved, tree_without}
 use Rattle.lfs_model.specs.Disk.{Disk}
 use Rattle.lfs_model.specs.Operations as ops
 use Rattle.lfs_model.specs.Session.{Session}
@@ -14,7 +14,7 @@ use Rattle.lfs_model.specs.Thread.{Pair, blocks_of, gstate_of, is_hard, superblo
 use Rattle.lfs_model.specs.Tree.{Path}
 use Rattle.lfs_model.specs.View.{IsAccepted}
 use Rattle.lfs_model.specs.Profile.{IsWritable}
-use Rattle.lfs_model.specs.Shown.{Leads, all_slots, entries_in, tree_in, used_blocks}
+use Rattle.lfs_model.specs.Shown.{PathLeadsTo, all_slots, entries_in, tree_in, used_blocks}
 use Rattle.lfs_model.proofs.Alike.{alike_itself}
 use Rattle.lfs_model.proofs.Changes.{Follows, SameFiles, slots_files}
 use Rattle.lfs_model.proofs.Committed.{IsCompleted}
@@ -29,7 +29,7 @@ use Rattle.lfs_model.proofs.RmdirSteps.{IsGone, rmdir_ahead_completed, rmdir_beh
 use Rattle.lfs_model.proofs.Searches.{avoids_behind, avoids_front}
 use Rattle.lfs_model.proofs.Sites.{Site, begin_of, dirs_at, thread_at}
 use Rattle.lfs_model.proofs.Splices.{IsDevice, count_files, files_of, slots_in, unmoved_in}
-use Rattle.lfs_model.proofs.StepsTaken.{IsTaken}
+use Rattle.lfs_model.proofs.StepsTaken.{IsOnlyStep}
 use Rattle.lfs_operations.specs.Dropping.{taken_over}
 use Rattle.lfs_operations.proofs.Dropped.{count_used, slots_append}
 use Rattle.lfs_operations.proofs.Placing.{blocks_append}
@@ -43,7 +43,7 @@ pub record Unlinks (disk middle : Disk) (w : Site) (p q : Pair) (l r : List Slot
   pub other : is_superblock u ≡ false
   pub old_writable : IsWritable disk (thread_at w (p ∷ []))
   pub writable : IsWritable middle (thread_at w (q ∷ []))
-  pub leads : Leads (thread_at w (p ∷ [])) P a
+  pub leads : PathLeadsTo (thread_at w (p ∷ [])) P a
   pub same : same_pair (begin_of w (p ∷ [])) a ≡ true
   pub branch : u.struct ≡ Branch d
   pub empty : entries_in (thread_at w (p ∷ [])) d ≡ []
@@ -63,7 +63,7 @@ pub record HasPlace (disk middle : Disk) (w : Site) (p q : Pair) (u : Slot) (P :
   pub number : length front ≡ n
   pub soft : is_hard x.content.tail ≡ false
   pub taken : (new : Disk) (y : Pair) → IsGone middle new w.chain front x o y back
-      → IsTaken disk (thread_at w (p ∷ [])) new (w.chain ++ (front ++ y ∷ back)) (removed (P ++ u.name ∷ [])) (planted (P ++ u.name ∷ []) (λ t. None))
+      → IsOnlyStep disk (thread_at w (p ∷ [])) new (w.chain ++ (front ++ y ∷ back)) (tree_without (P ++ u.name ∷ [])) (with_subtree_moved (P ++ u.name ∷ []) (λ t. None))
   pub completed : (new : Disk) (y : Pair) → IsGone middle new w.chain front x o y back → (s : Session) (path : List ℕ) → s.tree ≡ tree_in disk (thread_at w (p ∷ [])) → as_path path ≡ P ++ u.name ∷ []
       → IsCompleted disk (thread_at w (p ∷ [])) s (ops.Remove path) new (w.chain ++ (front ++ y ∷ back))
 
@@ -78,7 +78,7 @@ module _ (disk middle : Disk) (w : Site) (p q : Pair) (l r : List Slot) (u : Slo
   path_there = P ++ u.name ∷ []
 
   takes_place : (front : List Pair) (x : Pair) (back : List Pair) → dirs_at w (q ∷ []) ≡ front ++ x ∷ o ∷ back → (new : Disk) (y : Pair) → IsGone middle new w.chain front x o y back
-      → IsTaken disk (thread_at w (p ∷ [])) new (w.chain ++ (front ++ y ∷ back)) (removed (P ++ u.name ∷ [])) (planted (P ++ u.name ∷ []) (λ t. None))
+      → IsOnlyStep disk (thread_at w (p ∷ [])) new (w.chain ++ (front ++ y ∷ back)) (tree_without (P ++ u.name ∷ [])) (with_subtree_moved (P ++ u.name ∷ []) (λ t. None))
   takes_place front x back there new y gone =
       rmdir_taken disk middle new w p [] q l r u c.step c.other c.writable P a c.leads c.same d c.branch c.empty c.sync c.settled front x o y back there address alone gone
 
@@ -128,7 +128,7 @@ module _ (disk middle : Disk) (w : Site) (p q : Pair) (l r : List Slot) (u : Slo
       abbrev after : List Pair
       after = w.chain ++ (in_front ++ y ∷ back)
 
-      taken_next : IsTaken disk (thread_at w (p ∷ [])) new after (removed path_there) (planted path_there (λ t. None))
+      taken_next : IsOnlyStep disk (thread_at w (p ∷ [])) new after (tree_without path_there) (with_subtree_moved path_there (λ t. None))
       taken_next = takes_place in_front q back there_next new y gone
 
       made_next : IsRmdir disk new after true w.chain in_front [] back p o (y ∷ []) l u r d path_there
@@ -138,8 +138,8 @@ module _ (disk middle : Disk) (w : Site) (p q : Pair) (l r : List Slot) (u : Slo
         writable = subst (IsWritable disk) were c.old_writable;
         settled = ap gstate_of (sym were) ∙ c.settled;
         still = gone.settled;
-        walk = planted path_there (λ t. None);
-        follows = subst (λ z. Follows disk z new after (removed path_there) (planted path_there (λ t. None))) were taken_next.follows;
+        walk = with_subtree_moved path_there (λ t. None);
+        follows = subst (λ z. Follows disk z new after (tree_without path_there) (with_subtree_moved path_there (λ t. None))) were taken_next.follows;
         still_writable = taken_next.writable;
         held = c.held;
         branch = c.branch;

@@ -4,12 +4,12 @@ use Rattle.std.specs.Option.{option_and_then}
 use Rattle.std.specs.Prelude.{is_some}
 use Rattle.std.proofs.lemmas.Option.{same_Some}
 use Rattle.lfs_model.specs.Disk.{Disk}
-use Rattle.lfs_model.specs.Layout.{begin_from, onward}
+use Rattle.lfs_model.specs.Layout.{directory_begin, directory_after}
 use Rattle.lfs_model.specs.Slots.{Branch, Slot, same_pair}
 use Rattle.lfs_model.specs.Thread.{Pair, directory_pairs, first_at, gstate_of, is_hard, root_of}
 use Rattle.lfs_model.specs.Tree.{Path, branch_of, directory_at, directory_from, root_slot}
 use Rattle.lfs_model.specs.View.{IsAccepted}
-use Rattle.lfs_model.specs.Shown.{Leads, entries_in}
+use Rattle.lfs_model.specs.Shown.{PathLeadsTo, entries_in}
 use Rattle.lfs_model.proofs.Found.{HasDirectory, led_directory}
 use Rattle.lfs_model.proofs.Global.{HasNoMove}
 use Rattle.lfs_model.proofs.Indexes.{site_shows}
@@ -23,7 +23,7 @@ use Rattle.lfs_model.proofs.Sites.{Site, dirs_at}
 use Rattle.lfs_model.proofs.Superblocks.{IsChain, pairs_behind}
 use Rattle.lfs_model.proofs.Uses.{accepted_sound}
 use Rattle.lfs_model.proofs.Walks.{leads_below}
-use Rattle.lfs_model.proofs.Writable.{flag}
+use Rattle.lfs_model.proofs.Writable.{ends_in_hard_tail}
 use Rattle.lfs_operations.proofs.RemovedWhole.{last_pair}
 
 -- ---- lists
@@ -66,12 +66,12 @@ where_is (a ∷ xs) p ys (f ∷ front) x o back e =
 -- ---- hard tails
 
 pub soft_end : (from : Option (ℕ × ℕ)) (xs : List Pair) (x : Pair) → is_hard x.content.tail ≡ false → onward_all from (xs ++ x ∷ []) ≡ None
-soft_end from [] x e = ap (λ b. cond b (Some (begin_from from x)) None) e
-soft_end from (z ∷ xs) x e = soft_end (onward from z) xs x e
+soft_end from [] x e = ap (λ b. cond b (Some (directory_begin from x)) None) e
+soft_end from (z ∷ xs) x e = soft_end (directory_after from z) xs x e
 
-pub flag_from : (from : Option (ℕ × ℕ)) (xs : List Pair) → is_some (onward_all from xs) ≡ flag (is_some from) xs
+pub flag_from : (from : Option (ℕ × ℕ)) (xs : List Pair) → is_some (onward_all from xs) ≡ ends_in_hard_tail (is_some from) xs
 flag_from from [] = refl
-flag_from from (x ∷ xs) = flag_from (onward from x) xs ∙ ap (λ b. flag b xs) (onward_some from x)
+flag_from from (x ∷ xs) = flag_from (directory_after from x) xs ∙ ap (λ b. ends_in_hard_tail b xs) (onward_some from x)
 
 ends_last : (xs : List Pair) (x : Pair) → Ends (xs ++ x ∷ []) → is_hard x.content.tail ≡ false
 ends_last [] x h = h
@@ -84,8 +84,8 @@ alone_run p (q ∷ run) h e = absurd (let k = sym h.0 ∙ e in cc)
 
 -- ---- the directory that an entry names
 
-pub directory_led : (disk : Disk) (ps : List Pair) (P : Path) (a : ℕ × ℕ) (k : ℕ) (u : Slot) (d : ℕ × ℕ) → IsAccepted disk ps → Leads ps P a → slice_get (entries_in ps a) k ≡ Some u → u.struct ≡ Branch d
-    → Leads ps (P ++ u.name ∷ []) d
+pub directory_led : (disk : Disk) (ps : List Pair) (P : Path) (a : ℕ × ℕ) (k : ℕ) (u : Slot) (d : ℕ × ℕ) → IsAccepted disk ps → PathLeadsTo ps P a → slice_get (entries_in ps a) k ≡ Some u → u.struct ≡ Branch d
+    → PathLeadsTo ps (P ++ u.name ∷ []) d
 directory_led disk ps P a k u d ok leads there branch =
     let E = entries_in ps in
     ap (directory_at (entries_in ps) (root_of ps)) (sym (append-nil (P ++ u.name ∷ [])) ∙ append_step P u.name [])
@@ -133,10 +133,10 @@ front_of dirs d h not_root = by h.before refl
         }
 
 -- the root isn't named by an entry
-pub not_the_root : (disk : Disk) (ps : List Pair) (P : Path) (n : List ℕ) (d : ℕ × ℕ) → IsAccepted disk ps → Leads ps (P ++ n ∷ []) d → same_pair (root_of ps) d ≡ true → ⊥
+pub not_the_root : (disk : Disk) (ps : List Pair) (P : Path) (n : List ℕ) (d : ℕ × ℕ) → IsAccepted disk ps → PathLeadsTo ps (P ++ n ∷ []) d → same_pair (root_of ps) d ≡ true → ⊥
 not_the_root disk ps P n d ok led e = path_some P n (ok.once [] (P ++ n ∷ []) (root_of ps) d refl led e)
 
-pub has_front : (disk : Disk) (chain dirs : List Pair) (P : Path) (n : List ℕ) (d : ℕ × ℕ) → IsAccepted disk (chain ++ dirs) → IsChain chain dirs → Leads (chain ++ dirs) (P ++ n ∷ []) d → HasFront dirs d
+pub has_front : (disk : Disk) (chain dirs : List Pair) (P : Path) (n : List ℕ) (d : ℕ × ℕ) → IsAccepted disk (chain ++ dirs) → IsChain chain dirs → PathLeadsTo (chain ++ dirs) (P ++ n ∷ []) d → HasFront dirs d
 has_front disk chain dirs P n d ok is_chain led =
     let h = led_directory disk (chain ++ dirs) (P ++ n ∷ []) d ok led in
     subst (λ z. HasFront z d) (pairs_behind chain dirs is_chain) (front_of (directory_pairs (chain ++ dirs)) d h

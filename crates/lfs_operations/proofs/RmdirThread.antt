@@ -1,7 +1,7 @@
 -- An empty directory that goes in two steps of the thread.
 use Rattle.std.proofs.Common.{ℕ, ◌≡◌, ◌≢◌, ◌⊎◌, inl, inr, ◌+◌, ◌-◌, ◌<◌, ◌≤◌, true, false, nat_eq, slice_get, set, List, [], ◌∷◌, ◌++◌, length, Some, None, refl, sym, ap, ap₂, subst, ◌∙◌, arith, append_assoc, append-nil, length-append}
 use Rattle.std.specs.List.{IsDistinct}
-use Rattle.lfs_model.specs.TreeEdits.{removed, planted}
+use Rattle.lfs_model.specs.TreeEdits.{tree_without, with_subtree_moved}
 use Rattle.lfs_model.specs.Blocks.{Blocks}
 use Rattle.lfs_model.specs.BlockSets.{AreUsed}
 use Rattle.lfs_model.specs.Content.{content_at, holder_at}
@@ -12,9 +12,9 @@ use Rattle.lfs_model.specs.PowerLoss.{IsLeftByStop as IsLeftOf, with_blocks}
 use Rattle.lfs_model.specs.SlotEdits.{with_slots}
 use Rattle.lfs_model.specs.Slots.{Content, Gstate, Slot, gstate_xor, no_gstate, same_pair}
 use Rattle.lfs_model.specs.Thread.{Pair, blocks_of, gstate_of, is_hard, starts_with_superblock, superblocks_before}
-use Rattle.lfs_model.specs.View.{BeginsWith, IsAccepted, superblock_entry}
+use Rattle.lfs_model.specs.View.{BeginsWithEntry, IsAccepted, superblock_entry}
 use Rattle.lfs_model.specs.Profile.{IsWritable}
-use Rattle.lfs_model.specs.Shown.{Leads, entries_in, tree_in, used_blocks}
+use Rattle.lfs_model.specs.Shown.{PathLeadsTo, entries_in, tree_in, used_blocks}
 use Rattle.lfs_model.proofs.Became.{fits_same}
 use Rattle.lfs_model.proofs.Committed.{IsCompleted, no_move_from}
 use Rattle.lfs_model.proofs.Counts.{count, once_from_distinct}
@@ -25,16 +25,16 @@ use Rattle.lfs_model.proofs.RmdirSteps.{IsGone, step_chain}
 use Rattle.lfs_model.proofs.Searches.{is_site, number_is, same, site, thread_is}
 use Rattle.lfs_model.proofs.Sites.{IsSite, Site, begin_of, dirs_at, run_changed, thread_at}
 use Rattle.lfs_model.proofs.Splices.{IsDevice, files_of, stays_shape}
-use Rattle.lfs_model.proofs.StepsTaken.{IsTaken, commit_taken}
+use Rattle.lfs_model.proofs.StepsTaken.{IsOnlyStep, commit_taken}
 use Rattle.lfs_model.proofs.Unchanged.{HasFirst}
-use Rattle.lfs_model.proofs.Writable.{flag}
+use Rattle.lfs_model.proofs.Writable.{ends_in_hard_tail}
 use Rattle.lfs_pair.specs.Commit.{OutsideKeeps}
 use Rattle.lfs_thread.specs.Device.{two_of}
 use Rattle.lfs_thread.specs.Kept.{Kept}
 use Rattle.lfs_thread.specs.Steps.{IsWrittenAs, SlotsHaveFirst, no_pair, pair_in, without_pair}
 use Rattle.lfs_operations.specs.Dropping.{CanDropAt, HasDroppedBehind, IsLeftByDrop, SameInFlight, with_tail_taken}
 use Rattle.lfs_operations.specs.Editing.{CanEdit}
-use Rattle.lfs_operations.specs.Removing.{goes_whole, without_file}
+use Rattle.lfs_operations.specs.Removing.{drops_pair, without_file}
 use Rattle.lfs_operations.specs.Unlinking.{CanRemoveDirectory, IsDirectoryRemoved, IsLeftByUnlink, IsUnlinked, without_entry}
 use Rattle.lfs_operations.proofs.Dropped.{dropped_count, flying_same, length_fewer, profile_same, used_fewer}
 use Rattle.lfs_operations.proofs.DroppedTails.{no_move_state}
@@ -50,7 +50,7 @@ get_at : (xs : List Pair) (p : Pair) (zs : List Pair) (n : ℕ) (q : Pair) → l
 get_at [] p zs n q e = ap (λ (k : ℕ). set (p ∷ zs) k q) (sym e)
 get_at (x ∷ xs) p zs n q e = ap (λ (k : ℕ). set (x ∷ (xs ++ p ∷ zs)) k q) (sym e) ∙ ap (λ z. x ∷ z) (get_at xs p zs (length xs) q refl)
 
-module _ (t : Kept) (index id first gone : ℕ) (take : CanRemoveDirectory t index id first gone) (goes : goes_whole t index first ≡ false) where
+module _ (t : Kept) (index id first gone : ℕ) (take : CanRemoveDirectory t index id first gone) (goes : drops_pair t index first ≡ false) where
   abbrev can : CanEdit t index id
   can = take.can
 
@@ -93,8 +93,8 @@ module _ (t : Kept) (index id first gone : ℕ) (take : CanRemoveDirectory t ind
   settled : gstate_of (thread_at w (p ∷ [])) ≡ no_gstate
   settled = ap gstate_of (sym there) ∙ can.ready.settled
 
-  leads : Leads (thread_at w (p ∷ [])) can.path can.at
-  leads = subst (λ z. Leads z can.path can.at) there can.leads
+  leads : PathLeadsTo (thread_at w (p ∷ [])) can.path can.at
+  leads = subst (λ z. PathLeadsTo z can.path can.at) there can.leads
 
   held : p.content.slots ≡ l ++ u ∷ r
   held = can.stands.stands.held
@@ -105,7 +105,7 @@ module _ (t : Kept) (index id first gone : ℕ) (take : CanRemoveDirectory t ind
   entry_there = ap (λ s. slice_get s (place_at w l)) (site_shows t.disk w p l (u ∷ []) r can.at accepted site_is (no_move_from (thread_at w (p ∷ [])) settled) same_begin held
       ∙ ap (λ s. shown_before w l ++ (s ++ shown_behind w r)) (entry_only u can.stands.stands.entry)) ∙ get_here (shown_before w l) (shown_behind w r) u
 
-  led : Leads (thread_at w (p ∷ [])) (can.path ++ u.name ∷ []) take.to
+  led : PathLeadsTo (thread_at w (p ∷ [])) (can.path ++ u.name ∷ []) take.to
   led = directory_led t.disk (thread_at w (p ∷ [])) can.path can.at (place_at w l) u take.to accepted leads entry_there take.branch
 
   front : HasFront (dirs_at w (p ∷ [])) take.to
@@ -126,14 +126,14 @@ module _ (t : Kept) (index id first gone : ℕ) (take : CanRemoveDirectory t ind
   dirs_are = front.is ∙ ap (λ z. front.front ++ front.before ∷ z ∷ (front.run ++ front.after)) first_is.1
 
   -- the pair of the entry stays filled where a hard tail leads to it
-  filled : flag false (w.before ++ w.left) ≡ true → l ++ ([] ++ r) ≢ []
+  filled : ends_in_hard_tail false (w.before ++ w.left) ≡ true → l ++ ([] ++ r) ≢ []
   filled hard none = go (stays_there t index id first take.can take.begins goes)
     where
       go : (index ≡ can.first) ⊎ (1 < length (pair_in t index).content.slots) → ⊥
       go (inl e) =
           let none_before = alone w.chain w.before w.left (w.right ++ w.after) p can.at can.first (subst (λ z. IsDistinct nat_eq (blocks_of z)) there can.ready.accepted.thread.distinct) same_begin
           (subst (λ z. BeginsAt z can.at can.first) there can.begins) (sym e ∙ number_there) in
-          let soft = ap (λ z. flag false (w.before ++ z)) none_before ∙ ap (flag false) (append-nil w.before) ∙ flag_ends w.before site_is.ends in
+          let soft = ap (λ z. ends_in_hard_tail false (w.before ++ z)) none_before ∙ ap (ends_in_hard_tail false) (append-nil w.before) ∙ flag_ends w.before site_is.ends in
           absurd (let z = sym hard ∙ soft in cc)
       go (inr many) =
           let e = ap length (held_there t index id can) in
@@ -194,7 +194,7 @@ module _ (t : Kept) (index id first gone : ℕ) (take : CanRemoveDirectory t ind
     geometry = record { block_size = h.shape.block_size; page = h.shape.page; order = h.shape.order; count = h.shape.count };
     same = λ b none. (subst (λ at. OutsideKeeps at t.disk.blocks disk.blocks) at_is h.others).others b (all_apart (p.at.0 ∷ p.at.1 ∷ []) b none);
     contents = (ap (content_at disk) (sym at_is) ∙ h.holds, tt);
-    first = λ k b. subst (λ at. BeginsWith (holder_at disk at) superblock_entry) at_is (h.first (subst (λ at. BeginsWith (holder_at t.disk at) superblock_entry) (sym at_is) b) (first k));
+    first = λ k b. subst (λ at. BeginsWithEntry (holder_at disk at) superblock_entry) at_is (h.first (subst (λ at. BeginsWithEntry (holder_at t.disk at) superblock_entry) (sym at_is) b) (first k));
   }
 
   device_of : (disk : Disk) → IsWrittenAs t index c disk → IsDevice t.disk disk (thread_at w (p ∷ [])) (thread_at w (q ∷ []))
@@ -221,7 +221,7 @@ module _ (t : Kept) (index id first gone : ℕ) (take : CanRemoveDirectory t ind
     splice = record { front = λ e. can.stands.stands.entry; entries = tt; lists = tt; blocks = λ b. omega arith };
   }
 
-  first_taken : (disk : Disk) → IsWrittenAs t index c disk → IsTaken t.disk (thread_at w (p ∷ [])) disk (thread_at w (q ∷ [])) (removed (can.path ++ u.name ∷ [])) (planted (can.path ++ u.name ∷ []) (λ t. None))
+  first_taken : (disk : Disk) → IsWrittenAs t index c disk → IsOnlyStep t.disk (thread_at w (p ∷ [])) disk (thread_at w (q ∷ [])) (tree_without (can.path ++ u.name ∷ [])) (with_subtree_moved (can.path ++ u.name ∷ []) (λ t. None))
   first_taken disk h = commit_taken t.disk w p q [] l (u ∷ []) [] r
       (record {
         writable = writable;
@@ -231,7 +231,7 @@ module _ (t : Kept) (index id first gone : ℕ) (take : CanRemoveDirectory t ind
         fit = tt;
         filled = filled;
       })
-      disk [] [] (removed (can.path ++ u.name ∷ [])) (planted (can.path ++ u.name ∷ []) (λ t. None)) (step disk h)
+      disk [] [] (tree_without (can.path ++ u.name ∷ [])) (with_subtree_moved (can.path ++ u.name ∷ []) (λ t. None)) (step disk h)
       (directory_goes t.disk disk w p [] q [] [] [] l r u (step disk h) can.stands.stands.entry can.path can.at leads same_begin take.to take.branch empty (ap (λ (g : Gstate). g.sync) gstate_middle))
 
   unlinks : (disk : Disk) → IsWrittenAs t index c disk → Unlinks t.disk disk w p q l r u can.path can.at take.to
@@ -330,11 +330,11 @@ module _ (t : Kept) (index id first gone : ℕ) (take : CanRemoveDirectory t ind
     is_gone = end.is_gone m (gone - 1) w.chain k.front k.x o k.back is_middle number_middle accepted_parts k.soft
 
     end_taken : (disk : Disk) → IsWrittenAs m (gone - 1) d disk
-        → IsTaken t.disk (thread_at w (p ∷ [])) disk (w.chain ++ (k.front ++ y ∷ k.back)) (removed (can.path ++ u.name ∷ [])) (planted (can.path ++ u.name ∷ []) (λ t. None))
+        → IsOnlyStep t.disk (thread_at w (p ∷ [])) disk (w.chain ++ (k.front ++ y ∷ k.back)) (tree_without (can.path ++ u.name ∷ [])) (with_subtree_moved (can.path ++ u.name ∷ []) (λ t. None))
     end_taken disk written = k.taken disk y (is_gone disk written)
 
-    turned : removed (can.path ++ u.name ∷ []) (tree_in t.disk (thread_at w (p ∷ []))) ≡ without_file t can.path can.name
-    turned = ap₂ (λ n z. removed (can.path ++ n ∷ []) (tree_in t.disk z)) can.stands.stands.named (sym there)
+    turned : tree_without (can.path ++ u.name ∷ []) (tree_in t.disk (thread_at w (p ∷ []))) ≡ without_file t can.path can.name
+    turned = ap₂ (λ n z. tree_without (can.path ++ n ∷ []) (tree_in t.disk z)) can.stands.stands.named (sym there)
 
     module _ (new : Kept) (g : HasDroppedBehind m (gone - 1) no_gstate new) where
       pairs_end : new.pairs ≡ w.chain ++ (k.front ++ y ∷ k.back)
@@ -442,5 +442,5 @@ module _ (t : Kept) (index id first gone : ℕ) (take : CanRemoveDirectory t ind
             pairs = thread_at w (q ∷ []);
             accepted = f.follows.accepted;
             writable = f.writable;
-            tree = inr (f.follows.shows ∙ ap₂ (λ n z. removed (can.path ++ n ∷ []) (tree_in t.disk z)) can.stands.stands.named (sym there));
+            tree = inr (f.follows.shows ∙ ap₂ (λ n z. tree_without (can.path ++ n ∷ []) (tree_in t.disk z)) can.stands.stands.named (sym there));
           }

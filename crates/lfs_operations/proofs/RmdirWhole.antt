@@ -2,9 +2,9 @@
 use Rattle.std.proofs.Common.{ℕ, ◌≡◌, ◌⊎◌, inl, inr, ◌+◌, ◌<◌, Bool, true, false, cond, nat_eq, List, [], ◌∷◌, ◌++◌, length, Option, Some, None, refl, sym, ap, subst, ◌∙◌, arith, append_assoc, length-append}
 use Rattle.std.specs.Prelude.{is_some}
 use Rattle.std.specs.List.{IsDistinct}
-use Rattle.lfs_model.specs.TreeEdits.{planted, removed}
+use Rattle.lfs_model.specs.TreeEdits.{with_subtree_moved, tree_without}
 use Rattle.lfs_model.specs.Disk.{Disk}
-use Rattle.lfs_model.specs.Layout.{begin_from, onward}
+use Rattle.lfs_model.specs.Layout.{directory_begin, directory_after}
 use Rattle.lfs_model.specs.Operations as ops
 use Rattle.lfs_model.specs.Session.{Session}
 use Rattle.lfs_model.specs.SlotEdits.{slot_of_path}
@@ -14,7 +14,7 @@ use Rattle.lfs_model.specs.Thread.{Pair, blocks_of, gstate_of, is_hard, superblo
 use Rattle.lfs_model.specs.Tree.{Path}
 use Rattle.lfs_model.specs.View.{IsAccepted}
 use Rattle.lfs_model.specs.Profile.{IsWritable}
-use Rattle.lfs_model.specs.Shown.{Leads, entries_in, tree_in}
+use Rattle.lfs_model.specs.Shown.{PathLeadsTo, entries_in, tree_in}
 use Rattle.lfs_model.proofs.Alike.{AreAlike, alike_append, alike_itself}
 use Rattle.lfs_model.proofs.Changes.{Follows}
 use Rattle.lfs_model.proofs.Committed.{IsCompleted}
@@ -25,15 +25,15 @@ use Rattle.lfs_model.proofs.RemovedDirectory.{IsRmdir, before_gone, from_kept, r
 use Rattle.lfs_model.proofs.RmdirSteps.{IsGone, rmdir_named, rmdir_taken}
 use Rattle.lfs_model.proofs.Searches.{avoids_behind, avoids_front}
 use Rattle.lfs_model.proofs.Sites.{Site, begin_of, dirs_at, thread_at}
-use Rattle.lfs_model.proofs.StepsTaken.{IsTaken}
+use Rattle.lfs_model.proofs.StepsTaken.{IsOnlyStep}
 use Rattle.lfs_model.proofs.TwoPlaces.{two}
 use Rattle.lfs_model.proofs.Unthreaded.{SameParts, same_parts}
 use Rattle.lfs_operations.proofs.RemovedWhole.{last_pair}
 use Rattle.lfs_operations.proofs.RmdirPlaces.{Ahead, Behind, Itself, Next, WhereIs, soft_end, where_is}
 
 hard_end : (from : Option (ℕ × ℕ)) (xs : List Pair) (x : Pair) → is_hard x.content.tail ≡ true → is_some (onward_all from (xs ++ x ∷ [])) ≡ true
-hard_end from [] x e = ap (λ b. is_some (cond b (Some (begin_from from x)) None)) e
-hard_end from (z ∷ xs) x e = hard_end (onward from z) xs x e
+hard_end from [] x e = ap (λ b. is_some (cond b (Some (directory_begin from x)) None)) e
+hard_end from (z ∷ xs) x e = hard_end (directory_after from z) xs x e
 
 same_last : (xs : List Pair) (x : Pair) (ys : List Pair) (y : Pair) → xs ++ x ∷ [] ≡ ys ++ y ∷ [] → SameParts xs x [] ys y []
 same_last xs x ys y e = same_parts xs x [] ys y [] (let a = length-append xs (x ∷ []) in let b = length-append ys (y ∷ []) in let n = ap length e in omega arith) e
@@ -44,7 +44,7 @@ pub record UnlinksWhole (disk middle : Disk) (w : Site) (x0 e q : Pair) (u : Slo
   pub other : is_superblock u ≡ false
   pub old_writable : IsWritable disk (thread_at w (x0 ∷ e ∷ []))
   pub writable : IsWritable middle (thread_at w (q ∷ []))
-  pub leads : Leads (thread_at w (x0 ∷ e ∷ [])) P a
+  pub leads : PathLeadsTo (thread_at w (x0 ∷ e ∷ [])) P a
   pub same : same_pair (begin_of w (x0 ∷ e ∷ [])) a ≡ true
   pub branch : u.struct ≡ Branch d
   pub empty : entries_in (thread_at w (x0 ∷ e ∷ [])) d ≡ []
@@ -67,7 +67,7 @@ pub record HasPlaceWhole (disk middle : Disk) (w : Site) (x0 e q : Pair) (u : Sl
   pub was : (x.at ≡ b.at) ⊎ (x.at ≡ x0.at)
   pub soft : is_hard x.content.tail ≡ false
   pub taken : (new : Disk) (y : Pair) → IsGone middle new w.chain front x o y back
-      → IsTaken disk (thread_at w (x0 ∷ e ∷ [])) new (w.chain ++ (front ++ y ∷ back)) (removed (P ++ u.name ∷ [])) (planted (P ++ u.name ∷ []) (λ t. None))
+      → IsOnlyStep disk (thread_at w (x0 ∷ e ∷ [])) new (w.chain ++ (front ++ y ∷ back)) (tree_without (P ++ u.name ∷ [])) (with_subtree_moved (P ++ u.name ∷ []) (λ t. None))
   pub completed : (new : Disk) (y : Pair) → IsGone middle new w.chain front x o y back → (s : Session) (path : List ℕ) → s.tree ≡ tree_in disk (thread_at w (x0 ∷ e ∷ [])) → as_path path ≡ P ++ u.name ∷ []
       → IsCompleted disk (thread_at w (x0 ∷ e ∷ [])) s (ops.Remove path) new (w.chain ++ (front ++ y ∷ back))
 
@@ -85,7 +85,7 @@ module _ (disk middle : Disk) (w : Site) (x0 e q : Pair) (u : Slot) (P : Path) (
   path_there = P ++ u.name ∷ []
 
   takes_place : (front : List Pair) (x : Pair) (back : List Pair) → dirs_at w (q ∷ []) ≡ front ++ x ∷ o ∷ back → (new : Disk) (y : Pair) → IsGone middle new w.chain front x o y back
-      → IsTaken disk (thread_at w (x0 ∷ e ∷ [])) new (w.chain ++ (front ++ y ∷ back)) (removed (P ++ u.name ∷ [])) (planted (P ++ u.name ∷ []) (λ t. None))
+      → IsOnlyStep disk (thread_at w (x0 ∷ e ∷ [])) new (w.chain ++ (front ++ y ∷ back)) (tree_without (P ++ u.name ∷ [])) (with_subtree_moved (P ++ u.name ∷ []) (λ t. None))
   takes_place front x back there new y gone =
       rmdir_taken disk middle new w x0 (e ∷ []) q x0.content.slots [] u c.step c.other c.writable P a c.leads c.same d c.branch c.empty c.sync c.settled front x o y back there address alone gone
 
@@ -109,8 +109,8 @@ module _ (disk middle : Disk) (w : Site) (x0 e q : Pair) (u : Slot) (P : Path) (
         writable = subst (IsWritable disk) h.were c.old_writable;
         settled = ap gstate_of (sym h.were) ∙ c.settled;
         still = gone.settled;
-        walk = planted path_there (λ t. None);
-        follows = subst (λ z. Follows disk z new (w.chain ++ (f ++ y ∷ rest)) (removed path_there) (planted path_there (λ t. None))) h.were taken.follows;
+        walk = with_subtree_moved path_there (λ t. None);
+        follows = subst (λ z. Follows disk z new (w.chain ++ (f ++ y ∷ rest)) (tree_without path_there) (with_subtree_moved path_there (λ t. None))) h.were taken.follows;
         still_writable = taken.writable;
         held = c.held;
         branch = c.branch;

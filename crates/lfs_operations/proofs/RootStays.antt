@@ -3,15 +3,15 @@ use Rattle.std.proofs.Common.{ℕ, zero, suc, ◌≡◌, ◌<◌, ◌≤◌, ◌
 use Rattle.std.proofs.lemmas.Option.{same_Some}
 use Rattle.lfs_model.specs.Disk.{Disk}
 use Rattle.lfs_model.specs.Slots.{Content, same_pair}
-use Rattle.lfs_model.specs.Steps.{AreAlike, flag}
-use Rattle.lfs_model.specs.Thread.{Links, Pair, anchor, directory_pairs, first_at, next_of, root_of, starts_with_superblock, superblocks_before}
+use Rattle.lfs_model.specs.Steps.{AreAlike, ends_in_hard_tail}
+use Rattle.lfs_model.specs.Thread.{LinkByTails, Pair, anchor, directory_pairs, first_at, next_of, root_of, starts_with_superblock, superblocks_before}
 use Rattle.lfs_model.specs.View.{IsAccepted, first_slots}
 use Rattle.lfs_model.proofs.Pairs.{pair_itself}
 use Rattle.lfs_model.proofs.Searches.{same_number}
 use Rattle.lfs_model.proofs.Superblocks.{IsChain, pairs_behind}
 use Rattle.lfs_thread.specs.Kept.{Kept}
 use Rattle.lfs_thread.specs.Steps.{no_pair}
-use Rattle.lfs_operations.specs.MoveEnds.{CanEnd, HasEnded, content_without, is_led, pairs_ended}
+use Rattle.lfs_operations.specs.MoveEnds.{CanEndMoveAt, HasEndedMoveAt, content_without, follows_hard_tail, pairs_ended}
 use Rattle.lfs_operations.specs.Ready.{KeepsRoot}
 
 -- the pair of that number has that address
@@ -40,7 +40,7 @@ number_of_root disk ps n ok (p, (there, at)) =
 
 -- ---- the pairs in front stay
 
-two_links : (at : Option (ℕ × ℕ)) (chain dirs news : List Pair) → Links at (chain ++ dirs) → Links at (chain ++ news) → (to : Option (ℕ × ℕ)) × (Links to dirs × Links to news)
+two_links : (at : Option (ℕ × ℕ)) (chain dirs news : List Pair) → LinkByTails at (chain ++ dirs) → LinkByTails at (chain ++ news) → (to : Option (ℕ × ℕ)) × (LinkByTails to dirs × LinkByTails to news)
 two_links at [] dirs news l m = (at, (l, m))
 two_links at (c ∷ chain) dirs news l m = two_links (next_of c.content.tail) chain dirs news l.1 m.1
 
@@ -48,7 +48,7 @@ get_behind : (chain : List Pair) (p : Pair) (ps : List Pair) → slice_get (chai
 get_behind [] p ps = refl
 get_behind (c ∷ chain) p ps = get_behind chain p ps
 
-first_there : (chain : List Pair) (to : Option (ℕ × ℕ)) (dirs news : List Pair) → Links to dirs → Links to news → starts_with_superblock (first_slots dirs) ≡ true → HasAddress (chain ++ news) (length chain) (first_at dirs)
+first_there : (chain : List Pair) (to : Option (ℕ × ℕ)) (dirs news : List Pair) → LinkByTails to dirs → LinkByTails to news → starts_with_superblock (first_slots dirs) ≡ true → HasAddress (chain ++ news) (length chain) (first_at dirs)
 first_there chain to [] news l m e = absurd (cc)
 first_there chain to (d ∷ dirs) [] l m e = absurd (let k = sym m ∙ l.0 in cc)
 first_there chain to (d ∷ dirs) (n ∷ news) l m e = (n, (get_behind chain n news, same_Some n.at d.at (sym m.0 ∙ l.0)))
@@ -91,14 +91,14 @@ remove_there (x ∷ ps) (suc i) zero at low h = h
 remove_there (x ∷ ps) (suc i) (suc n) at low h = remove_there ps i n at (omega arith) h
 
 -- a pair to which a hard tail leads stands behind the root's first one
-led_behind : (ps : List Pair) (pair : ℕ) → superblocks_before ps ≤ pair → is_led ps pair ≡ true → superblocks_before ps < pair
+led_behind : (ps : List Pair) (pair : ℕ) → superblocks_before ps ≤ pair → follows_hard_tail ps pair ≡ true → superblocks_before ps < pair
 led_behind ps pair low led = go (pair - superblocks_before ps) refl
   where
     go : (n : ℕ) → pair - superblocks_before ps ≡ n → superblocks_before ps < pair
-    go zero e = absurd (let k = sym (ap (λ i. flag false (take i (directory_pairs ps))) e) ∙ led in cc)
+    go zero e = absurd (let k = sym (ap (λ i. ends_in_hard_tail false (take i (directory_pairs ps))) e) ∙ led in cc)
     go (suc n) e = omega arith
 
-pub move_end_stays : (old new : Kept) (pair id : ℕ) (goes : Bool) → CanEnd old pair id goes → HasEnded old pair id goes new → KeepsRoot old new
+pub move_end_stays : (old new : Kept) (pair id : ℕ) (goes : Bool) → CanEndMoveAt old pair id goes → HasEndedMoveAt old pair id goes new → KeepsRoot old new
 move_end_stays old new pair id goes can ended = stays_there new.disk old.pairs new.pairs ended.taken.follows.accepted ended.taken.follows.root
     (alike_there (pairs_ended old pair id goes) new.pairs (superblocks_before old.pairs) (root_of old.pairs) ended.alike (go goes refl))
   where

@@ -12,7 +12,7 @@ use Rattle.lfs_model.specs.Content.{content_at, holder_at}
 use Rattle.lfs_model.specs.SlotEdits.{with_slots}
 use Rattle.lfs_model.specs.Thread.{Pair, blocks_of, gstate_of, starts_with_superblock}
 use Rattle.lfs_model.specs.Shown.{file_blocks, all_slots, used_blocks}
-use Rattle.lfs_model.specs.View.{BeginsWith, superblock_entry, IsAccepted, IsEntry, IsListIfCtz}
+use Rattle.lfs_model.specs.View.{BeginsWithEntry, superblock_entry, IsAccepted, IsEntry, IsListIfCtz}
 use Rattle.lfs_model.specs.Profile.{IsWritable, FitsSlot}
 use Rattle.lfs_model.proofs.Became.{Became, fits_same}
 use Rattle.lfs_model.proofs.BlockSets.{Contains-count}
@@ -27,7 +27,7 @@ use Rattle.lfs_model.proofs.Unchanged.{HasFirst}
 use Rattle.lfs_pair.specs.Commit.{OutsideKeeps}
 use Rattle.lfs_pair.specs.Split.{OutsideBothKeeps}
 use Rattle.lfs_thread.specs.Kept.{Kept}
-use Rattle.lfs_thread.specs.Steps.{pair_in, no_pair, made_in_thread, with_pair, with_two, HasShape, IsAsBefore, IsWrittenAs, ArePartsOf, SlotsHaveFirst, front_pair, back_pair}
+use Rattle.lfs_thread.specs.Steps.{pair_in, no_pair, made_in_thread, with_pair, with_two, HasShape, HasOldContent, IsWrittenAs, ArePartsOf, SlotsHaveFirst, front_pair, back_pair}
 use Rattle.lfs_operations.specs.Changing.{AreTwoFree}
 use Rattle.lfs_operations.specs.Ready.{IsReady}
 use Rattle.lfs_operations.proofs.Placing.{IsPlaced, all_apart, blocks_append, device}
@@ -184,15 +184,15 @@ module _ (t : Kept) (index : ℕ) (changes : List Change) (w : Site) (p : Pair) 
     geometry = shape_same is.shape;
     same = same_two disk (subst (λ at. OutsideKeeps at t.disk.blocks disk.blocks) at_is is.others);
     contents = (ap (content_at disk) (sym at_is) ∙ is.holds, tt);
-    first = λ h b. subst (λ at. BeginsWith (holder_at disk at) superblock_entry) at_is (is.first (subst (λ at. BeginsWith (holder_at t.disk at) superblock_entry) (sym at_is) b) (first h));
+    first = λ h b. subst (λ at. BeginsWithEntry (holder_at disk at) superblock_entry) at_is (is.first (subst (λ at. BeginsWithEntry (holder_at t.disk at) superblock_entry) (sym at_is) b) (first h));
   }
 
-  pub placed_still : (disk : Disk) (fresh : ℕ × ℕ) → HasShape t.disk disk → OutsideBothKeeps (pair_in t index).at fresh t.disk.blocks disk.blocks → IsAsBefore t index disk → IsPlaced t.disk disk p p [] (fresh.0 ∷ fresh.1 ∷ [])
+  pub placed_still : (disk : Disk) (fresh : ℕ × ℕ) → HasShape t.disk disk → OutsideBothKeeps (pair_in t index).at fresh t.disk.blocks disk.blocks → HasOldContent t index disk → IsPlaced t.disk disk p p [] (fresh.0 ∷ fresh.1 ∷ [])
   placed_still disk fresh shape others is = record {
     geometry = shape_same shape;
     same = same_four disk fresh (subst (λ at. OutsideBothKeeps at fresh t.disk.blocks disk.blocks) at_is others);
     contents = (subst (λ (z : Pair). content_at disk z.at ≡ Some z.content) pair_is is.holds, tt);
-    first = λ h b. subst (λ at. BeginsWith (holder_at disk at) superblock_entry) at_is (is.first (subst (λ at. BeginsWith (holder_at t.disk at) superblock_entry) (sym at_is) b));
+    first = λ h b. subst (λ at. BeginsWithEntry (holder_at disk at) superblock_entry) at_is (is.first (subst (λ at. BeginsWithEntry (holder_at t.disk at) superblock_entry) (sym at_is) b));
   }
 
   pub placed_two : (disk : Disk) (fresh : ℕ × ℕ) (cut : ℕ) → 0 < cut → AreOn t index k.content disk fresh cut → IsPlaced t.disk disk p (cut_front p.at k.content cut fresh) (back_pair k.content cut fresh ∷ []) (fresh.0 ∷ fresh.1 ∷ [])
@@ -200,8 +200,8 @@ module _ (t : Kept) (index : ℕ) (changes : List Change) (w : Site) (p : Pair) 
     geometry = shape_same is.shape;
     same = same_four disk fresh (subst (λ at. OutsideBothKeeps at fresh t.disk.blocks disk.blocks) at_is is.others);
     contents = (ap (content_at disk) (sym at_is) ∙ is.front, (is.back, tt));
-    first = λ h b. subst (λ at. BeginsWith (holder_at disk at) superblock_entry) at_is
-        (is.parts.first (subst (λ at. BeginsWith (holder_at t.disk at) superblock_entry) (sym at_is) b) (front_has cut some h));
+    first = λ h b. subst (λ at. BeginsWithEntry (holder_at disk at) superblock_entry) at_is
+        (is.parts.first (subst (λ at. BeginsWithEntry (holder_at t.disk at) superblock_entry) (sym at_is) b) (front_has cut some h));
   }
 
   -- ---- free blocks

@@ -19,7 +19,7 @@ use Rattle.lfs_model.specs.Shown.{all_slots, tree_in, used_blocks}
 use Rattle.lfs_model.proofs.BlockSets.{Contains-count, count-Contains}
 use Rattle.lfs_model.proofs.Changes.{Follows, SameFiles}
 use Rattle.lfs_model.proofs.Files.{HasSameFile}
-use Rattle.lfs_model.proofs.Writable.{flag}
+use Rattle.lfs_model.proofs.Writable.{ends_in_hard_tail}
 use Rattle.lfs_model.proofs.Committed.{IsCommit, commit_writable}
 use Rattle.lfs_model.proofs.Counts.{count, each_counted, each_right, once_from_distinct}
 use Rattle.lfs_model.proofs.Histories.{LeavesOnly-weaker}
@@ -29,9 +29,9 @@ use Rattle.lfs_model.proofs.Splices.{IsDevice}
 use Rattle.lfs_model.specs.History.{Event}
 use Rattle.lfs_thread.specs.Device.{StopsLeave}
 use Rattle.lfs_thread.specs.Kept.{Kept}
-use Rattle.lfs_thread.specs.Steps.{pair_in, made_in_thread, front_pair, back_pair, AreHalves, HasShape, IsAsBefore, IsChanged, IsLeftByChange, IsWrittenAs}
-use Rattle.lfs_operations.specs.Changing.{IsCutIn, IsLeftByPut, IsPut, IsTooLarge}
-use Rattle.lfs_operations.specs.Ready.{AreUsedBut, HasBecome, HasBecomeBut, NoneComes, StayTaken}
+use Rattle.lfs_thread.specs.Steps.{pair_in, made_in_thread, front_pair, back_pair, AreHalves, HasShape, HasOldContent, IsChanged, IsLeftByChange, IsWrittenAs}
+use Rattle.lfs_operations.specs.Changing.{IsPairCutInto, IsLeftByPut, IsPut, IsTooLarge}
+use Rattle.lfs_operations.specs.Ready.{AreUsedBut, HasBecome, HasBecomeBut, NoNewInFlight, StayTaken}
 use Rattle.lfs_operations.proofs.Owning.{count_pairs, length_now, none_comes_now, stay_taken, used_count_now, used_more, used_same}
 use Rattle.lfs_operations.proofs.Placing.{device, nothing_came}
 use Rattle.lfs_operations.proofs.RootStays.{root_stays}
@@ -54,7 +54,7 @@ pub record HasStep (t : Kept) (w : Site) (p : Pair) (l olds news r : List Slot) 
   pub places : (b : ℕ) → Contains (blocks_of new.pairs) b → Contains (blocks_of t.pairs) b ⊎ IsFree t.map b
   pub size : length new.map ≡ block_count new.disk
   pub stays : StayTaken t.map new.map
-  pub none_comes : NoneComes t.map new.map
+  pub none_comes : NoNewInFlight t.map new.map
 
 writable_same : (disk new : Disk) (ps : List Pair) → new.block_size ≡ disk.block_size → new.page ≡ disk.page → IsWritable disk ps → IsWritable new ps
 writable_same disk new ps e f h = record {
@@ -118,7 +118,7 @@ module _ (t : Kept) (index : ℕ) (changes : List Change) (w : Site) (p : Pair) 
         none_comes = λ b flies. subst (λ m. IsInFlight m b) is.map flies;
       }
 
-  cut_step : (new : Kept) (fresh : ℕ × ℕ) → IsTooLarge t index changes → IsCutIn t index fresh changes new → HasStep t w p l olds news r gone come new
+  cut_step : (new : Kept) (fresh : ℕ × ℕ) → IsTooLarge t index changes → IsPairCutInto t index fresh changes new → HasStep t w p l olds news r gone come new
   cut_step new fresh large is =
       let same = made_same is.content is.made in
       let there : new.pairs ≡ thread_at w (front_pair t index is.content is.cut fresh ∷ back_pair is.content is.cut fresh ∷ [])
@@ -193,7 +193,7 @@ module _ (t : Kept) (index : ℕ) (changes : List Change) (w : Site) (p : Pair) 
   left_step left (inl is) = left_one left is
   left_step left (inr (large, (fresh, (two, is)))) = go is.content
     where
-      go : IsAsBefore t index (with_blocks left t.disk) ⊎ AreHalves t index changes fresh (with_blocks left t.disk) → Stays (with_blocks left t.disk) ⊎ HasCommit t w p l olds news r come (with_blocks left t.disk)
+      go : HasOldContent t index (with_blocks left t.disk) ⊎ AreHalves t index changes fresh (with_blocks left t.disk) → Stays (with_blocks left t.disk) ⊎ HasCommit t w p l olds news r come (with_blocks left t.disk)
       go (inl b) = inl (device t.disk (with_blocks left t.disk) w p p [] (fresh.0 ∷ fresh.1 ∷ []) (accepted t index changes w p l olds news r gone come k) (fresh_distinct t index changes w p l olds news r gone come k fresh two)
           (placed_still t index changes w p l olds news r gone come k (with_blocks left t.disk) fresh (shape_of left is.others.count) is.others b))
       go (inr h) =
@@ -211,7 +211,7 @@ module _ (t : Kept) (index : ℕ) (changes : List Change) (w : Site) (p : Pair) 
   AllFollow change = (disk : Disk) (q : Pair) (more : List Pair) → Commits t w p l olds news r come disk q more
       → (walk : Walk → Walk) × Follows t.disk (thread_at w (p ∷ [])) disk (thread_at w (q ∷ more)) change walk
 
-  left_tree : (change : Tree → Tree) → AllFollow change → (flag false (w.before ++ w.left) ≡ true → l ++ (news ++ r) ≢ []) → (left : Blocks) → IsLeftByPut t index changes left
+  left_tree : (change : Tree → Tree) → AllFollow change → (ends_in_hard_tail false (w.before ++ w.left) ≡ true → l ++ (news ++ r) ≢ []) → (left : Blocks) → IsLeftByPut t index changes left
       → IsLeftOf (with_blocks left t.disk) (tree_in t.disk t.pairs) (change (tree_in t.disk t.pairs))
   left_tree change follow filled left is = go (left_step left is)
     where
@@ -233,13 +233,13 @@ module _ (t : Kept) (index : ℕ) (changes : List Change) (w : Site) (p : Pair) 
             tree = inr (f.shows ∙ ap (λ z. change (tree_in t.disk z)) (sym k.there));
           }
 
-  pub survives : (change : Tree → Tree) → AllFollow change → (flag false (w.before ++ w.left) ≡ true → l ++ (news ++ r) ≢ []) → (new : List Event) → StopsLeave t.history new (IsLeftByPut t index changes)
+  pub survives : (change : Tree → Tree) → AllFollow change → (ends_in_hard_tail false (w.before ++ w.left) ≡ true → l ++ (news ++ r) ≢ []) → (new : List Event) → StopsLeave t.history new (IsLeftByPut t index changes)
       → Survives t.disk t.history new (tree_in t.disk t.pairs) (change (tree_in t.disk t.pairs))
   survives change follow filled new stops clean = LeavesOnly-weaker (left_tree change follow filled) (stops clean)
 
   -- ---- what it shows
 
-  pub becomes : (change : Tree → Tree) → AllFollow change → (flag false (w.before ++ w.left) ≡ true → l ++ (news ++ r) ≢ []) → (new : Kept) → HasStep t w p l olds news r gone come new
+  pub becomes : (change : Tree → Tree) → AllFollow change → (ends_in_hard_tail false (w.before ++ w.left) ≡ true → l ++ (news ++ r) ≢ []) → (new : Kept) → HasStep t w p l olds news r gone come new
       → HasBecomeBut t new (change (tree_in t.disk t.pairs)) gone come
   becomes change follow filled new x =
       let f = (follow new.disk x.q x.more x.commit).1 in

@@ -23,7 +23,7 @@ use Rattle.lfs_model.specs.Thread.{Pair, blocks_of}
 use Rattle.lfs_model.specs.Tree.{Entries, FileNode, Tree, branch_of, node_of}
 use Rattle.lfs_model.specs.Profile.{FitsEntry, FitsSlot, HasInline}
 use Rattle.lfs_model.specs.View.{IsEntry, Suits}
-use Rattle.lfs_model.specs.Shown.{Leads, all_slots, contents_in, entries_in, file_blocks, tree_in, used_blocks}
+use Rattle.lfs_model.specs.Shown.{PathLeadsTo, all_slots, contents_in, entries_in, file_blocks, tree_in, used_blocks}
 use Rattle.lfs_model.proofs.BlockSets.{Contains-count}
 use Rattle.lfs_model.proofs.Changes.{Follows}
 use Rattle.lfs_model.proofs.Committed.{IsCompleted, commit_step, recovered_from}
@@ -165,7 +165,7 @@ module _ (t : Kept) (index id kind : ℕ) (bytes : List ℕ) (store : CanStore t
   other_slot : is_superblock u ≡ false
   other_slot = can.stands.stands.entry
 
-  led : Leads (thread_at w (p ∷ [])) can.path can.at
+  led : PathLeadsTo (thread_at w (p ∷ [])) can.path can.at
   led = leads_there t index id can (with_struct (kind, bytes)) v change does turns fits
 
   same_begin : same_pair (begin_of w (p ∷ [])) can.at ≡ true

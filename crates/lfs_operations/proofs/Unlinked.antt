@@ -14,7 +14,7 @@ use Rattle.lfs_model.proofs.Effects.{deletes, does_first, does_nothing, puts_mov
 use Rattle.lfs_model.proofs.Global.{sync_delta}
 use Rattle.lfs_model.proofs.Moves.{remove_here}
 use Rattle.lfs_thread.specs.Kept.{Kept}
-use Rattle.lfs_thread.specs.Steps.{CanChange, IsChanged, IsLeftByChange, IsRefused, IsWrittenAs, made_in_thread, pair_in, with_pair}
+use Rattle.lfs_thread.specs.Steps.{CanChange, IsChanged, IsLeftByChange, IsCommitRefused, IsWrittenAs, made_in_thread, pair_in, with_pair}
 use Rattle.lfs_operations.specs.Editing.{CanEdit}
 use Rattle.lfs_operations.specs.Unlinking.{IsLeftByUnlink, IsUnlinked, unlink_changes, without_entry}
 use Rattle.lfs_operations.proofs.DroppedTails.{move_xor}
@@ -102,7 +102,7 @@ module _ (t : Kept) (index id : ℕ) (can : CanEdit t index id) where
       let n = fits_held.count in
       record { size = omega arith; count = omega arith }
 
-  pub unlink_not_refused : (new : Kept) → IsRefused t index (unlink_changes t index id) new → ⊥
+  pub unlink_not_refused : (new : Kept) → IsCommitRefused t index (unlink_changes t index id) new → ⊥
   unlink_not_refused new is = is.too_large (subst (FitsPair t.disk.block_size t.disk.page) (same_Some (without_entry t index id) is.content (sym unlink_made ∙ is.made)) fits_gone)
 
   pub has_unlinked : (new : Kept) → IsChanged t index (unlink_changes t index id) new → IsUnlinked t index id new

@@ -14,7 +14,7 @@ use Rattle.lfs_thread.specs.Device.{StopsLeave, four_of, two_of}
 use Rattle.lfs_thread.specs.Kept.{Kept, State}
 use Rattle.lfs_thread.specs.Steps.{Writes, no_pair, pair_in}
 use Rattle.lfs_operations.specs.Dropping.{HasDroppedBehind, IsLeftByDrop}
-use Rattle.lfs_operations.specs.Removing.{ReportsOfCalls, goes_whole, without_file, written_at}
+use Rattle.lfs_operations.specs.Removing.{ReportsOfCalls, drops_pair, without_file, written_at}
 use Rattle.lfs_operations.specs.Unlinking.{CanRemoveDirectory, IsLeftByUnlink, IsUnlinked, ReportsOfSteps, number_without, without_entry}
 use Rattle.lfs_operations.proofs.RemovedWhole.{StandsWhole}
 use Rattle.lfs_operations.proofs.RmdirThread.{left_first, left_second}
@@ -90,7 +90,7 @@ steps_then old mid new a first second ok one two =
 -- ---- at a stop
 
 module _ (t : Kept) (index id first gone : ℕ) (take : CanRemoveDirectory t index id first gone) where
-  module _ (goes : goes_whole t index first ≡ false) where
+  module _ (goes : drops_pair t index first ≡ false) where
     pub first_survives : (new : List Event) → StopsLeave t.history new (IsLeftByUnlink t index id) → Survives t.disk t.history new (tree_in t.disk t.pairs) (without_file t take.can.path take.can.name)
     first_survives new stops clean = LeavesOnly-weaker (left_first t index id first gone take goes) (stops clean)
 
@@ -120,8 +120,8 @@ module _ (t : Kept) (index id first gone : ℕ) (take : CanRemoveDirectory t ind
         go (inr e) = writes_first (pair_in t (index - 1)).at (pair_in t (gone - 1)).at (writes_trans one (subst (λ at. Writes (two_of at) m new) e two))
 
 -- which pair the first step writes
-pub written_beside : (t : Kept) (index first : ℕ) → goes_whole t index first ≡ false → written_at t index first ≡ (pair_in t index).at
+pub written_beside : (t : Kept) (index first : ℕ) → drops_pair t index first ≡ false → written_at t index first ≡ (pair_in t index).at
 written_beside t index first goes = ap (λ b. cond b (pair_in t (index - 1)).at (pair_in t index).at) goes
 
-pub written_whole : (t : Kept) (index first : ℕ) → goes_whole t index first ≡ true → written_at t index first ≡ (pair_in t (index - 1)).at
+pub written_whole : (t : Kept) (index first : ℕ) → drops_pair t index first ≡ true → written_at t index first ≡ (pair_in t (index - 1)).at
 written_whole t index first goes = ap (λ b. cond b (pair_in t (index - 1)).at (pair_in t index).at) goes

@@ -4,7 +4,7 @@ use Rattle.std.specs.Prelude.{nat_lt}
 use Rattle.std.specs.Option.{option_and_then}
 use Rattle.std.proofs.lemmas.Bool.{ltb-false, ltb-true}
 use Rattle.std.proofs.lemmas.List.Elements.{recursion_from_All}
-use Rattle.lfs_model.specs.TreeEdits.{removed, planted}
+use Rattle.lfs_model.specs.TreeEdits.{tree_without, with_subtree_moved}
 use Rattle.lfs_model.specs.Blocks.{Blocks}
 use Rattle.lfs_model.specs.BlockSets.{AreUsed}
 use Rattle.lfs_model.specs.Disk.{Disk}
@@ -15,7 +15,7 @@ use Rattle.lfs_model.specs.Thread.{Pair, gstate_of, is_hard, starts_with_superbl
 use Rattle.lfs_model.specs.Tree.{branch_of}
 use Rattle.lfs_model.specs.View.{IsAccepted}
 use Rattle.lfs_model.specs.Profile.{IsWritable}
-use Rattle.lfs_model.specs.Shown.{Leads, entries_in, tree_in, used_blocks}
+use Rattle.lfs_model.specs.Shown.{PathLeadsTo, entries_in, tree_in, used_blocks}
 use Rattle.lfs_model.proofs.Committed.{IsCompleted, no_move_from}
 use Rattle.lfs_model.proofs.Counts.{Each, count, each_right, once_from_distinct}
 use Rattle.lfs_model.proofs.Global.{HasNoMove, sync_delta}
@@ -24,7 +24,7 @@ use Rattle.lfs_model.proofs.RmdirSteps.{IsGone, step_chain}
 use Rattle.lfs_model.proofs.Searches.{slot_of_stands}
 use Rattle.lfs_model.proofs.Sites.{IsSite, Site, dirs_at, run_changed, thread_at}
 use Rattle.lfs_model.proofs.Splices.{IsDevice, drop_shape, files_of}
-use Rattle.lfs_model.proofs.StepsTaken.{IsTaken, drop_taken}
+use Rattle.lfs_model.proofs.StepsTaken.{IsOnlyStep, drop_taken}
 use Rattle.lfs_thread.specs.Device.{two_of}
 use Rattle.lfs_thread.specs.Kept.{Kept}
 use Rattle.lfs_thread.specs.Steps.{IsWrittenAs, no_pair, pair_in, without_pair}
@@ -72,14 +72,14 @@ module _ (t : Kept) (index id first gone : ℕ) (take : CanRemoveDirectory t ind
   settled : gstate_of old ≡ no_gstate
   settled = ap gstate_of (sym s.there) ∙ can.ready.settled
 
-  leads : Leads old can.path can.at
-  leads = subst (λ z. Leads z can.path can.at) s.there can.leads
+  leads : PathLeadsTo old can.path can.at
+  leads = subst (λ z. PathLeadsTo z can.path can.at) s.there can.leads
 
   -- ---- the pair that goes
 
-  led : Leads old (can.path ++ u.name ∷ []) take.to
-  led = subst (λ z. Leads z (can.path ++ u.name ∷ []) take.to) s.there
-      (subst (λ n. Leads t.pairs (can.path ++ n ∷ []) take.to) (sym can.stands.stands.named)
+  led : PathLeadsTo old (can.path ++ u.name ∷ []) take.to
+  led = subst (λ z. PathLeadsTo z (can.path ++ u.name ∷ []) take.to) s.there
+      (subst (λ n. PathLeadsTo t.pairs (can.path ++ n ∷ []) take.to) (sym can.stands.stands.named)
       (ap (option_and_then (λ (f : Slot). branch_of f.struct)) (slot_of_stands t.disk t.pairs can.path can.at can.ready.accepted can.leads can.first index id can.name (no_move_from t.pairs can.ready.settled) can.stands can.begins)
       ∙ ap branch_of take.branch))
 
@@ -176,9 +176,9 @@ module _ (t : Kept) (index id first gone : ℕ) (take : CanRemoveDirectory t ind
     splice = record { front = λ k. can.stands.stands.entry; entries = tt; lists = tt; blocks = λ b. omega arith };
   }
 
-  first_taken : (disk : Disk) → IsWrittenAs t (index - 1) c disk → IsTaken t.disk old disk (thread_at w (q ∷ [])) (removed (can.path ++ u.name ∷ [])) (planted (can.path ++ u.name ∷ []) (λ t. None))
+  first_taken : (disk : Disk) → IsWrittenAs t (index - 1) c disk → IsOnlyStep t.disk old disk (thread_at w (q ∷ [])) (tree_without (can.path ++ u.name ∷ [])) (with_subtree_moved (can.path ++ u.name ∷ []) (λ t. None))
   first_taken disk h = drop_taken t.disk w x0 e q (record { writable = writable; tail = tail_same; slots = slots_same })
-      disk [] [] x0.content.slots (u ∷ []) [] [] (removed (can.path ++ u.name ∷ [])) (planted (can.path ++ u.name ∷ []) (λ t. None)) (step disk h)
+      disk [] [] x0.content.slots (u ∷ []) [] [] (tree_without (can.path ++ u.name ∷ [])) (with_subtree_moved (can.path ++ u.name ∷ []) (λ t. None)) (step disk h)
       (directory_goes t.disk disk w x0 (e ∷ []) q [] [] [] x0.content.slots [] u (step disk h) can.stands.stands.entry can.path can.at leads s.same take.to take.branch empty (ap (λ (g : Gstate). g.sync) gstate_middle))
 
   unlinks : (disk : Disk) → IsWrittenAs t (index - 1) c disk → UnlinksWhole t.disk disk w x0 e q u can.path can.at take.to
@@ -323,11 +323,11 @@ module _ (t : Kept) (index id first gone : ℕ) (take : CanRemoveDirectory t ind
     is_gone = end.is_gone m (now - 1) w.chain k.front k.x o k.back is_middle number_middle accepted_parts k.soft
 
     end_taken : (disk : Disk) → IsWrittenAs m (now - 1) d disk
-        → IsTaken t.disk (old) disk (w.chain ++ (k.front ++ y ∷ k.back)) (removed (can.path ++ u.name ∷ [])) (planted (can.path ++ u.name ∷ []) (λ t. None))
+        → IsOnlyStep t.disk (old) disk (w.chain ++ (k.front ++ y ∷ k.back)) (tree_without (can.path ++ u.name ∷ [])) (with_subtree_moved (can.path ++ u.name ∷ []) (λ t. None))
     end_taken disk written = k.taken disk y (is_gone disk written)
 
-    turned : removed (can.path ++ u.name ∷ []) (tree_in t.disk (old)) ≡ without_file t can.path can.name
-    turned = ap₂ (λ n z. removed (can.path ++ n ∷ []) (tree_in t.disk z)) can.stands.stands.named (sym s.there)
+    turned : tree_without (can.path ++ u.name ∷ []) (tree_in t.disk (old)) ≡ without_file t can.path can.name
+    turned = ap₂ (λ n z. tree_without (can.path ++ n ∷ []) (tree_in t.disk z)) can.stands.stands.named (sym s.there)
 
     module _ (new : Kept) (g : HasDroppedBehind m (now - 1) no_gstate new) where
       pairs_end : new.pairs ≡ w.chain ++ (k.front ++ y ∷ k.back)
@@ -470,5 +470,5 @@ module _ (t : Kept) (index id first gone : ℕ) (take : CanRemoveDirectory t ind
             pairs = thread_at w (q ∷ []);
             accepted = f.follows.accepted;
             writable = f.writable;
-            tree = inr (f.follows.shows ∙ ap₂ (λ n z. removed (can.path ++ n ∷ []) (tree_in t.disk z)) can.stands.stands.named (sym s.there));
+            tree = inr (f.follows.shows ∙ ap₂ (λ n z. tree_without (can.path ++ n ∷ []) (tree_in t.disk z)) can.stands.stands.named (sym s.there));
           }

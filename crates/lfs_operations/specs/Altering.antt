@@ -5,14 +5,14 @@ use Rattle.lfs_model.specs.BlockSets.{IsFree}
 use Rattle.lfs_thread.specs.Device.{two_of}
 use Rattle.lfs_thread.specs.Kept.{Kept}
 use Rattle.lfs_thread.specs.Steps.{Writes, pair_in}
-use Rattle.lfs_operations.specs.Changing.{Alters}
+use Rattle.lfs_operations.specs.Changing.{AltersPair}
 
 -- the block is one of a pair that doesn't stay with what it held
 pub record IsAltered (old new : Kept) (b : ℕ) : Type 0 where
   pub index : ℕ
   pub below : index < length old.pairs
   pub own : Contains (two_of (pair_in old index).at) b
-  pub alters : Alters old index new
+  pub alters : AltersPair old index new
 
 -- No block changed but these, blocks of pairs that don't stay with what they held, and blocks that were free.
 pub record AltersBut (old : Kept) (bs : List ℕ) (new : Kept) : Type 0 where

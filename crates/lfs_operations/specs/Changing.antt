@@ -17,7 +17,7 @@ use Rattle.lfs_pair.specs.Commit.{made_at}
 use Rattle.lfs_pair.specs.Split.{OutsideBothKeeps}
 use Rattle.lfs_thread.specs.Device.{four_of}
 use Rattle.lfs_thread.specs.Kept.{Kept, State}
-use Rattle.lfs_thread.specs.Steps.{pair_in, made_in_thread, CanChange, HasShape, IsChanged, IsLeftByChange, IsLeftBySplit, IsOnlyRead, IsUnwritten, ArePartsOf, Writes, front_pair, back_pair, settled, with_two}
+use Rattle.lfs_thread.specs.Steps.{pair_in, made_in_thread, CanChange, HasShape, IsChanged, IsLeftByChange, IsLeftBySplit, IsOnlyRead, IsUnwritten, ArePartsOf, Writes, front_pair, back_pair, map_with_used_pair, with_two}
 
 -- ---- free blocks
 
@@ -30,8 +30,8 @@ abbrev pub HasTwoFree : BlockSets → Type 0
 HasTwoFree sets = (fresh : ℕ × ℕ) × AreTwoFree sets fresh
 
 -- the map with these two blocks in flight
-abbrev pub flying : BlockSets → ℕ × ℕ → BlockSets
-flying sets fresh = slice_set (slice_set sets fresh.0 InFlight) fresh.1 InFlight
+abbrev pub map_with_two_in_flight : BlockSets → ℕ × ℕ → BlockSets
+map_with_two_in_flight sets fresh = slice_set (slice_set sets fresh.0 InFlight) fresh.1 InFlight
 
 -- ---- what an operation reports
 
@@ -81,7 +81,7 @@ pub record CanPut (t : Kept) (index : ℕ) (changes : List Change) : Type 0 wher
   pub cut : CanBeCut t.disk.block_size t.disk.page raw.slots
 
 -- The pair and a fresh one, in two blocks that were free, have the two parts. Everything else is as it was.
-pub record IsCutIn (old : Kept) (index : ℕ) (fresh : ℕ × ℕ) (changes : List Change) (new : Kept) : Type 0 where
+pub record IsPairCutInto (old : Kept) (index : ℕ) (fresh : ℕ × ℕ) (changes : List Change) (new : Kept) : Type 0 where
   pub free : AreTwoFree old.map fresh
   pub content : Content
   pub made : made_in_thread old index changes ≡ Some content
@@ -91,18 +91,18 @@ pub record IsCutIn (old : Kept) (index : ℕ) (fresh : ℕ × ℕ) (changes : Li
   pub shape : HasShape old.disk new.disk
   pub pairs : new.pairs ≡ with_two old.pairs index (front_pair old index content cut fresh) (back_pair content cut fresh)
   pub thread : IsThread (content_at new.disk) (block_count new.disk) new.pairs
-  pub map : new.map ≡ settled (flying old.map fresh) fresh
+  pub map : new.map ≡ map_with_used_pair (map_with_two_in_flight old.map fresh) fresh
   pub writes : Writes (four_of (pair_in old index).at fresh) old new
 
-abbrev pub IsCut : Kept → ℕ → List Change → Kept → Type 0
-IsCut old index changes new = (fresh : ℕ × ℕ) × IsCutIn old index fresh changes new
+abbrev pub IsPairCut : Kept → ℕ → List Change → Kept → Type 0
+IsPairCut old index changes new = (fresh : ℕ × ℕ) × IsPairCutInto old index fresh changes new
 
 -- what the changes make doesn't fit the pair
 abbrev pub IsTooLarge : Kept → ℕ → List Change → Type 0
 IsTooLarge t index changes = (content : Content) × ((made_in_thread t index changes ≡ Some content) × (FitsPair t.disk.block_size t.disk.page content → ⊥))
 
 abbrev pub IsPut : Kept → ℕ → List Change → Kept → Type 0
-IsPut old index changes new = IsChanged old index changes new ⊎ (IsTooLarge old index changes × IsCut old index changes new)
+IsPut old index changes new = IsChanged old index changes new ⊎ (IsTooLarge old index changes × IsPairCut old index changes new)
 
 -- what a stop leaves of a split, and of either
 abbrev pub IsLeftByCut : Kept → ℕ → List Change → Blocks → Type 0
@@ -123,5 +123,5 @@ pub record ReportsPut {X : Type 0} (old new : State) (index : ℕ) (changes : Li
   pub too_large : result ≡ Err NoSpace → IsTooLarge old.kept index changes
 
 -- the pair doesn't stay with what it held
-abbrev pub Alters : Kept → ℕ → Kept → Type 0
-Alters old index new = Contains new.pairs (pair_in old index) → ⊥
+abbrev pub AltersPair : Kept → ℕ → Kept → Type 0
+AltersPair old index new = Contains new.pairs (pair_in old index) → ⊥

@@ -1,9 +1,9 @@
 -- An empty file that is created in a directory.
 use Rattle.std.specs.Prelude.{ℕ, ◌≡◌, true, List, [], ◌∷◌, ◌++◌}
-use Rattle.lfs_model.specs.TreeEdits.{added}
+use Rattle.lfs_model.specs.TreeEdits.{tree_with_node}
 use Rattle.lfs_model.specs.Changes.{Change, Create, PutStruct}
 use Rattle.lfs_model.specs.EntryTypes.{file_name_type, inline_struct_type}
-use Rattle.lfs_model.specs.InDirectory.{BeginsAt, Belongs}
+use Rattle.lfs_model.specs.InDirectory.{BeginsAt, BelongsInDirectory}
 use Rattle.lfs_model.specs.Names.{Name, is_name}
 use Rattle.lfs_model.specs.Operations as ops
 use Rattle.lfs_model.specs.Operations.{Flags}
@@ -12,7 +12,7 @@ use Rattle.lfs_model.specs.SlotEdits.{new_file}
 use Rattle.lfs_model.specs.Refusals.{as_path}
 use Rattle.lfs_model.specs.Tree.{Path, Tree, FileNode}
 use Rattle.lfs_model.specs.Profile.{FitsEntry}
-use Rattle.lfs_model.specs.Shown.{Leads, tree_in}
+use Rattle.lfs_model.specs.Shown.{PathLeadsTo, tree_in}
 use Rattle.lfs_model.specs.Steps.{IsCompleted}
 use Rattle.lfs_thread.specs.Kept.{Kept}
 use Rattle.lfs_thread.specs.Steps.{pair_in}
@@ -26,17 +26,17 @@ pub record CanCreate (t : Kept) (pair id : ℕ) (name : Name) : Type 0 where
   pub ready : IsReady t
   pub path : Path
   pub at : ℕ × ℕ
-  pub leads : Leads t.pairs path at
+  pub leads : PathLeadsTo t.pairs path at
   pub first : ℕ
   pub begins : BeginsAt t.pairs at first
-  pub belongs : Belongs t.disk.order t.pairs first name pair id
+  pub belongs : BelongsInDirectory t.disk.order t.pairs first name pair id
   pub is_name : is_name name ≡ true
   pub fits : FitsEntry t.disk.block_size t.disk.page (new_file name)
   pub logged : IsLoggedAt t.disk (pair_in t pair).at
 
 -- the tree with the file
 abbrev pub with_file : Kept → Path → Name → Tree
-with_file t path name = added (path ++ name ∷ []) (FileNode [] []) (tree_in t.disk t.pairs)
+with_file t path name = tree_with_node (path ++ name ∷ []) (FileNode [] []) (tree_in t.disk t.pairs)
 
 -- The tree has the file, and its slot is where the layout wants it. So an open that creates the file is completed.
 pub record IsCreated (old new : Kept) (path : Path) (name : Name) : Type 0 where

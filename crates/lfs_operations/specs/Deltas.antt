@@ -13,11 +13,11 @@ use Rattle.lfs_thread.specs.Steps.{pair_in}
 abbrev pub delta_of : Kept → ℕ → Gstate → Gstate
 delta_of t index g = gstate_xor (gstate_xor g (gstate_of t.pairs)) (pair_in t index).content.move
 
-abbrev pub setting : Kept → ℕ → Gstate → List Change
-setting t index g = PutMove (delta_of t index g) ∷ []
+abbrev pub set_state_changes : Kept → ℕ → Gstate → List Change
+set_state_changes t index g = PutMove (delta_of t index g) ∷ []
 
-abbrev pub goes_on_at : Kept → ℕ → Bool
-goes_on_at t index = is_hard (pair_in t index).content.tail
+abbrev pub has_tail_at : Kept → ℕ → Bool
+has_tail_at t index = is_hard (pair_in t index).content.tail
 
 abbrev pub target_of : Option Tail → Option (ℕ × ℕ)
 target_of tail = next_of tail
@@ -31,8 +31,8 @@ abbrev pub takes_delta : Kept → ℕ → ℕ → Gstate → Gstate
 takes_delta t index behind g = gstate_xor (delta_of t index g) (pair_in t behind).content.move
 
 -- a pair takes over the tail and the delta of the pair after it
-abbrev pub taking_over : Kept → ℕ → ℕ → Gstate → List Change
-taking_over t index behind g = PutTail (goes_on_at t index && goes_on_at t behind) (target_of (pair_in t behind).content.tail) ∷ PutMove (takes_delta t index behind g) ∷ []
+abbrev pub take_over_changes : Kept → ℕ → ℕ → Gstate → List Change
+take_over_changes t index behind g = PutTail (has_tail_at t index && has_tail_at t behind) (target_of (pair_in t behind).content.tail) ∷ PutMove (takes_delta t index behind g) ∷ []
 
 -- a move type of 11 bits and an id of 10 bits
 pub record FitsFields (g : Gstate) : Type 0 where

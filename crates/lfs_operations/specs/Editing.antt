@@ -2,7 +2,7 @@
 use Rattle.std.specs.Prelude.{ℕ, ◌≡◌, ◌≤◌, length, List, [], ◌∷◌, ◌++◌, Some}
 use Rattle.lfs_model.specs.TreeEdits.{attributes_of, change_at, with_attributes}
 use Rattle.lfs_model.specs.Content.{put_attribute, without_attribute}
-use Rattle.lfs_model.specs.InDirectory.{BeginsAt, Stands}
+use Rattle.lfs_model.specs.InDirectory.{BeginsAt, HasNameAtPlace}
 use Rattle.lfs_model.specs.Names.{Name}
 use Rattle.lfs_model.specs.Operations as ops
 use Rattle.lfs_model.specs.Operations.{Operation}
@@ -11,7 +11,7 @@ use Rattle.lfs_model.specs.Slots.{Attributes, Slot}
 use Rattle.lfs_model.specs.Refusals.{as_path}
 use Rattle.lfs_model.specs.Tree.{Path, Tree}
 use Rattle.lfs_model.specs.Profile.{FitsEntry}
-use Rattle.lfs_model.specs.Shown.{Leads, tree_in}
+use Rattle.lfs_model.specs.Shown.{PathLeadsTo, tree_in}
 use Rattle.lfs_model.specs.Steps.{IsCompleted}
 use Rattle.lfs_thread.specs.Kept.{Kept}
 use Rattle.lfs_thread.specs.Steps.{pair_in}
@@ -22,11 +22,11 @@ pub record CanEdit (t : Kept) (pair id : ℕ) : Type 0 where
   pub ready : IsReady t
   pub path : Path
   pub at : ℕ × ℕ
-  pub leads : Leads t.pairs path at
+  pub leads : PathLeadsTo t.pairs path at
   pub first : ℕ
   pub begins : BeginsAt t.pairs at first
   pub name : Name
-  pub stands : Stands t.pairs first name pair id
+  pub stands : HasNameAtPlace t.pairs first name pair id
   pub logged : IsLoggedAt t.disk (pair_in t pair).at
 
 abbrev pub slot_at : {t : Kept} {pair id : ℕ} → CanEdit t pair id → Slot

@@ -12,16 +12,16 @@ use Rattle.lfs_model.specs.View.{IsAccepted}
 use Rattle.lfs_model.specs.Shown.{used_blocks}
 use Rattle.lfs_model.specs.Profile.{IsWritable}
 use Rattle.lfs_model.specs.Slots.{set_move}
-use Rattle.lfs_model.specs.Steps.{count, HasNoMove, IsTaken}
+use Rattle.lfs_model.specs.Steps.{count, HasNoMove, IsOnlyStep}
 use Rattle.lfs_thread.specs.Kept.{Kept}
 use Rattle.lfs_thread.specs.Steps.{pair_in}
 use Rattle.lfs_operations.specs.Dropping.{SameInFlight}
 use Rattle.lfs_operations.specs.Ready.{KeepsRoot}
-use Rattle.lfs_operations.specs.Deltas.{delta_of, goes_on_at, CanSetState}
+use Rattle.lfs_operations.specs.Deltas.{delta_of, has_tail_at, CanSetState}
 
 -- the slot at the id is removed, and the delta changes
-abbrev pub taking : Kept → ℕ → ℕ → Gstate → List Change
-taking t index id g = Delete id ∷ PutMove (delta_of t index g) ∷ []
+abbrev pub take_slot_changes : Kept → ℕ → ℕ → Gstate → List Change
+take_slot_changes t index id g = Delete id ∷ PutMove (delta_of t index g) ∷ []
 
 -- there is a pair of that number with a slot of that id
 pub record CanTakeSlot (t : Kept) (index id : ℕ) (g : Gstate) : Type 0 where
@@ -29,8 +29,8 @@ pub record CanTakeSlot (t : Kept) (index id : ℕ) (g : Gstate) : Type 0 where
   pub below : id < length (pair_in t index).content.slots
 
 -- the global state without a move
-abbrev pub unset : Gstate → Gstate
-unset g = record no_gstate { sync = g.sync }
+abbrev pub gstate_without_move : Gstate → Gstate
+gstate_without_move g = record no_gstate { sync = g.sync }
 
 -- a move is set, and names a slot of the pair at the index
 pub record IsMovedAt (t : Kept) (index : ℕ) : Type 0 where
@@ -46,7 +46,7 @@ pub record IsMovedAt (t : Kept) (index : ℕ) : Type 0 where
 
 -- the pair has no other slot, and isn't the first of its directory
 abbrev pub is_alone_at : Kept → ℕ → Bool
-is_alone_at t index = nat_lt 0 index && (length (pair_in t index).content.slots == 1 && goes_on_at t (index - 1))
+is_alone_at t index = nat_lt 0 index && (length (pair_in t index).content.slots == 1 && has_tail_at t (index - 1))
 
 -- The image is accepted and may be written, and the map knows each of its blocks.
 pub record CanEndMove (t : Kept) : Type 0 where
@@ -62,7 +62,7 @@ RecoversTo old new = (s : Session) (disk : Disk) (qs : List Pair) → IsLaidOut 
 -- No move is set, and the image shows the same tree, so pairs may be dropped now. The root directory begins where it did. The map
 -- knows each of the image's blocks, and the image has no new ones.
 pub record HasEndedMove (old new : Kept) : Type 0 where
-  pub taken : IsTaken old.disk old.pairs new.disk new.pairs (λ t. t) (λ d. d)
+  pub taken : IsOnlyStep old.disk old.pairs new.disk new.pairs (λ t. t) (λ d. d)
   pub none : HasNoMove (gstate_of new.pairs)
   pub used : AreUsed new.map (used_blocks new.disk new.pairs)
   pub size : length new.map ≡ block_count new.disk

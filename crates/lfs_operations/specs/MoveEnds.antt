@@ -3,7 +3,7 @@ use Rattle.std.specs.Prelude.{ℕ, ◌≡◌, ◌≤◌, ◌<◌, ◌-◌, ◌+�
 use Rattle.std.specs.List.{remove}
 use Rattle.lfs_model.specs.BlockSets.{BlockSets}
 use Rattle.lfs_model.specs.Changes.{Change, Delete, PutMove}
-use Rattle.lfs_model.specs.InDirectory.{StandsAt}
+use Rattle.lfs_model.specs.InDirectory.{IsNameAt}
 use Rattle.lfs_model.specs.Names.{Name}
 use Rattle.lfs_model.specs.Slots.{Content, Gstate, no_gstate, gstate_xor, same_pair}
 use Rattle.lfs_model.specs.Thread.{Pair, directory_pairs, gstate_of, is_hard, superblocks_before}
@@ -11,7 +11,7 @@ use Rattle.lfs_model.specs.Profile.{IsWritable}
 use Rattle.lfs_model.specs.Shown.{directories_in, used_blocks}
 use Rattle.lfs_model.specs.View.{IsAccepted}
 use Rattle.lfs_model.specs.Slots.{set_move}
-use Rattle.lfs_model.specs.Steps.{AreAlike, count, firsts, Among, IsTaken, flag}
+use Rattle.lfs_model.specs.Steps.{AreAlike, count, first_addresses, SomeIn, IsOnlyStep, ends_in_hard_tail}
 use Rattle.lfs_thread.specs.Kept.{Kept}
 use Rattle.lfs_thread.specs.Device.{two_of}
 use Rattle.lfs_thread.specs.Steps.{HasShape, pair_in, with_pair, without_pair}
@@ -29,8 +29,8 @@ abbrev pub sync_in : Gstate → Gstate
 sync_in g = record no_gstate { sync = g.sync }
 
 -- whether a hard tail names the pair, so that it continues a directory
-abbrev pub is_led : List Pair → ℕ → Bool
-is_led ps pair = flag false (take (pair - superblocks_before ps) (directory_pairs ps))
+abbrev pub follows_hard_tail : List Pair → ℕ → Bool
+follows_hard_tail ps pair = ends_in_hard_tail false (take (pair - superblocks_before ps) (directory_pairs ps))
 
 -- the pair's delta without the move that is set
 abbrev pub delta_without_move : Kept → ℕ → Gstate
@@ -41,7 +41,7 @@ end_changes t pair id = Delete id ∷ PutMove (delta_without_move t pair) ∷ []
 
 -- The image is accepted and in the writing profile, and a set move names the slot at the id of the pair. `goes` says whether the
 -- pair is dropped with it: it has no other slot, and a hard tail names it. The sync bit may be set.
-pub record CanEnd (t : Kept) (pair id : ℕ) (goes : Bool) : Type 0 where
+pub record CanEndMoveAt (t : Kept) (pair id : ℕ) (goes : Bool) : Type 0 where
   pub accepted : IsAccepted t.disk t.pairs
   pub writable : IsWritable t.disk t.pairs
   pub begins : superblocks_before t.pairs ≤ pair
@@ -51,9 +51,9 @@ pub record CanEnd (t : Kept) (pair id : ℕ) (goes : Bool) : Type 0 where
   pub named : same_pair (gstate_of t.pairs).pair (pair_in t pair).at ≡ true
   pub id_is : (gstate_of t.pairs).id ≡ id
   pub name : Name
-  pub stands : StandsAt (pair_in t pair).content.slots name id
-  pub stays : goes ≡ false → is_led t.pairs pair ≡ true → 1 < length (pair_in t pair).content.slots
-  pub alone : goes ≡ true → (is_led t.pairs pair ≡ true) × (length (pair_in t pair).content.slots ≡ 1)
+  pub stands : IsNameAt (pair_in t pair).content.slots name id
+  pub stays : goes ≡ false → follows_hard_tail t.pairs pair ≡ true → 1 < length (pair_in t pair).content.slots
+  pub alone : goes ≡ true → (follows_hard_tail t.pairs pair ≡ true) × (length (pair_in t pair).content.slots ≡ 1)
 
 -- what the pair then holds, if it stays
 abbrev pub content_without : Kept → ℕ → ℕ → Content
@@ -78,13 +78,13 @@ map_ended t pair goes = if goes then without_pair t.map (pair_in t pair).at else
 
 -- The slot is removed, or the pair is dropped with it, and no move is set. The tree, the sync bit, the used blocks but the
 -- pair's, and the slots of every other pair are as they were. The image is accepted and in the writing profile.
-pub record HasEnded (old : Kept) (pair id : ℕ) (goes : Bool) (new : Kept) : Type 0 where
-  pub taken : IsTaken old.disk old.pairs new.disk new.pairs (λ t. t) (λ d. d)
+pub record HasEndedMoveAt (old : Kept) (pair id : ℕ) (goes : Bool) (new : Kept) : Type 0 where
+  pub taken : IsOnlyStep old.disk old.pairs new.disk new.pairs (λ t. t) (λ d. d)
   pub state : gstate_of new.pairs ≡ sync_in (gstate_of old.pairs)
   pub alike : AreAlike (pairs_ended old pair id goes) new.pairs
   pub map : new.map ≡ map_ended old pair goes
   pub blocks : (b : ℕ) → count b (used_blocks new.disk new.pairs) + count b (blocks_ended old pair goes) ≡ count b (used_blocks old.disk old.pairs)
   pub shape : HasShape old.disk new.disk
   -- The directories begin where they did. A pair without slots that ends its directory stays as it is.
-  pub begins : firsts (directories_in new.pairs) ≡ firsts (directories_in old.pairs)
-  pub kept : (z : Pair) → z.content.slots ≡ [] → is_hard z.content.tail ≡ false → Among (λ x. x ≡ z) old.pairs → Among (λ x. x ≡ z) new.pairs
+  pub begins : first_addresses (directories_in new.pairs) ≡ first_addresses (directories_in old.pairs)
+  pub kept : (z : Pair) → z.content.slots ≡ [] → is_hard z.content.tail ≡ false → SomeIn (λ x. x ≡ z) old.pairs → SomeIn (λ x. x ≡ z) new.pairs

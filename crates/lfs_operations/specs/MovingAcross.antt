@@ -7,11 +7,11 @@ use Rattle.lfs_model.specs.Session.{Session}
 use Rattle.lfs_model.specs.Refusals.{as_path}
 use Rattle.lfs_model.specs.Steps.{IsCompleted}
 use Rattle.lfs_model.specs.Changes.{Change, PutMove}
-use Rattle.lfs_model.specs.InDirectory.{BeginsAt, Belongs}
+use Rattle.lfs_model.specs.InDirectory.{BeginsAt, BelongsInDirectory}
 use Rattle.lfs_model.specs.Names.{Name, is_name}
 use Rattle.lfs_model.specs.Slots.{gstate_xor}
 use Rattle.lfs_model.specs.Profile.{FitsEntry}
-use Rattle.lfs_model.specs.Shown.{Leads, tree_in}
+use Rattle.lfs_model.specs.Shown.{PathLeadsTo, tree_in}
 use Rattle.lfs_thread.specs.Kept.{Kept}
 use Rattle.lfs_thread.specs.Steps.{pair_in}
 use Rattle.lfs_operations.specs.Editing.{CanEdit, slot_at}
@@ -33,10 +33,10 @@ pub record CanRenameAcross (t : Kept) (old_pair old_id first new_pair new_id : �
   pub begins_old : old.first ≡ first
   pub path : Path
   pub at : ℕ × ℕ
-  pub leads : Leads t.pairs path at
+  pub leads : PathLeadsTo t.pairs path at
   pub to_first : ℕ
   pub begins : BeginsAt t.pairs at to_first
-  pub belongs : Belongs t.disk.order t.pairs to_first name new_pair new_id
+  pub belongs : BelongsInDirectory t.disk.order t.pairs to_first name new_pair new_id
   pub logged : IsLoggedAt t.disk (pair_in t new_pair).at
   pub apart : old_pair ≢ new_pair
   pub not_beneath : rest_after (old.path ++ old.name ∷ []) (path ++ name ∷ []) ≡ None

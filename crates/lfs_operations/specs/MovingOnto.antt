@@ -7,19 +7,19 @@ use Rattle.lfs_model.specs.Session.{Session}
 use Rattle.lfs_model.specs.Refusals.{as_path}
 use Rattle.lfs_model.specs.Steps.{IsCompleted, count}
 use Rattle.lfs_model.specs.Changes.{Change, Delete, PutMove}
-use Rattle.lfs_model.specs.InDirectory.{BeginsAt, Stands}
+use Rattle.lfs_model.specs.InDirectory.{BeginsAt, HasNameAtPlace}
 use Rattle.lfs_model.specs.LoggedContent.{IsAddress}
 use Rattle.lfs_model.specs.Names.{Name}
 use Rattle.lfs_model.specs.Slots.{Branch, Struct, gstate_xor, same_pair}
 use Rattle.lfs_model.specs.Thread.{is_hard}
 use Rattle.lfs_model.specs.Profile.{FitsEntry}
-use Rattle.lfs_model.specs.Shown.{file_blocks, Leads, tree_in, used_blocks}
+use Rattle.lfs_model.specs.Shown.{file_blocks, PathLeadsTo, tree_in, used_blocks}
 use Rattle.lfs_thread.specs.Kept.{Kept}
 use Rattle.lfs_thread.specs.Steps.{IsOnlyRead, pair_in}
 use Rattle.lfs_operations.specs.Editing.{CanEdit, slot_at}
 use Rattle.lfs_operations.specs.Dropping.{HasShrunk}
 use Rattle.lfs_operations.specs.Ready.{IsLoggedAt}
-use Rattle.lfs_operations.specs.Removing.{goes_whole}
+use Rattle.lfs_operations.specs.Removing.{drops_pair}
 use Rattle.lfs_operations.specs.RenamingSlots.{parts_at, slot_changes}
 use Rattle.lfs_operations.specs.MoveEnds.{move_of}
 use Rattle.lfs_operations.specs.MovingSteps.{IsPutAndEnded}
@@ -41,10 +41,10 @@ pub record CanReplaceAcross (t : Kept) (old_pair old_id first new_pair new_id : 
   pub begins_old : old.first ≡ first
   pub path : Path
   pub at : ℕ × ℕ
-  pub leads : Leads t.pairs path at
+  pub leads : PathLeadsTo t.pairs path at
   pub to_first : ℕ
   pub begins : BeginsAt t.pairs at to_first
-  pub target : Stands t.pairs to_first name new_pair new_id
+  pub target : HasNameAtPlace t.pairs to_first name new_pair new_id
   pub file : branch_of target.stands.slot.struct ≡ None
   pub logged : IsLoggedAt t.disk (pair_in t new_pair).at
   pub apart : old_pair ≢ new_pair
@@ -57,10 +57,10 @@ pub record CanPutOnto (t : Kept) (sync : Bool) (old_pair old_id first new_pair n
   pub begins_old : old.first ≡ first
   pub path : Path
   pub at : ℕ × ℕ
-  pub leads : Leads t.pairs path at
+  pub leads : PathLeadsTo t.pairs path at
   pub to_first : ℕ
   pub begins : BeginsAt t.pairs at to_first
-  pub target : Stands t.pairs to_first name new_pair new_id
+  pub target : HasNameAtPlace t.pairs to_first name new_pair new_id
   pub file : sync ≡ false → branch_of target.stands.slot.struct ≡ None
   pub logged : IsLoggedAt t.disk (pair_in t new_pair).at
   pub apart : old_pair ≢ new_pair
@@ -72,7 +72,7 @@ pub record IsMovedOnto (old : Kept) (sync : Bool) (old_pair old_id first new_pai
   pub from : Kept
   pub only : IsOnlyRead old from
   pub address : IsAddress (pair_in from old_pair).at
-  pub done : IsPutAndEnded from old_pair old_id (goes_whole old old_pair first) new_pair (onto_changes sync from old_pair old_id new_pair new_id name) new
+  pub done : IsPutAndEnded from old_pair old_id (drops_pair old old_pair first) new_pair (onto_changes sync from old_pair old_id new_pair new_id name) new
 
 -- The tree has the entry in the file's place. So a rename of its path onto the file's is completed. The blocks of the file's list
 -- are `gone`, each once, and none of them is the image's.
@@ -88,10 +88,10 @@ pub record CanReplaceDirectory (t : Kept) (old_pair old_id first new_pair new_id
   pub begins_old : old.first ≡ first
   pub path : Path
   pub at : ℕ × ℕ
-  pub leads : Leads t.pairs path at
+  pub leads : PathLeadsTo t.pairs path at
   pub to_first : ℕ
   pub begins : BeginsAt t.pairs at to_first
-  pub target : Stands t.pairs to_first name new_pair new_id
+  pub target : HasNameAtPlace t.pairs to_first name new_pair new_id
   pub to : ℕ × ℕ
   pub branch : target.stands.slot.struct ≡ Branch to
   pub below : gone < length t.pairs

@@ -15,8 +15,8 @@ use Rattle.lfs_thread.specs.Kept.{Kept, State}
 use Rattle.lfs_thread.specs.Device.{StopsLeave}
 use Rattle.lfs_thread.specs.Steps.{IsOnlyRead, Writes, pair_in}
 use Rattle.lfs_operations.specs.Changing.{HasTwoFree, IsLeftByPut, IsPut, IsTooLarge, WritesWithin, has_failed}
-use Rattle.lfs_operations.specs.Removing.{goes_whole}
-use Rattle.lfs_operations.specs.MoveEnds.{CanEnd, end_at, HasEnded}
+use Rattle.lfs_operations.specs.Removing.{drops_pair}
+use Rattle.lfs_operations.specs.MoveEnds.{CanEndMoveAt, end_at, HasEndedMoveAt}
 
 -- the number of a pair after so many were put in after another one
 abbrev pub place_after : ℕ → ℕ → ℕ → ℕ
@@ -26,19 +26,19 @@ place_after pair other fresh = if nat_lt pair other then pair else pair + fresh
 pub record EndsAfter (old : Kept) (old_pair old_id : ℕ) (goes : Bool) (new_pair : ℕ) (mid : Kept) : Type 0 where
   pub apart : old_pair ≢ new_pair
   pub grown : length old.pairs ≤ length mid.pairs
-  pub can : CanEnd mid (place_after old_pair new_pair (length mid.pairs - length old.pairs)) old_id goes
+  pub can : CanEndMoveAt mid (place_after old_pair new_pair (length mid.pairs - length old.pairs)) old_id goes
   pub at : (pair_in mid (place_after old_pair new_pair (length mid.pairs - length old.pairs))).at ≡ (pair_in old old_pair).at
 
 -- The changes were put into the new pair, and then the move ended. Pairs have no new blocks but at most two that were free.
 pub record IsPutAndEnded (old : Kept) (old_pair old_id : ℕ) (goes : Bool) (new_pair : ℕ) (changes : List Change) (new : Kept) : Type 0 where
   pub mid : Kept
   pub put : IsPut old new_pair changes mid
-  pub ended : HasEnded mid (place_after old_pair new_pair (length mid.pairs - length old.pairs)) old_id goes new
+  pub ended : HasEndedMoveAt mid (place_after old_pair new_pair (length mid.pairs - length old.pairs)) old_id goes new
   pub blocks : WritesWithin old new
 
 -- the pair that the second step writes: the old one, or the one before it where that is dropped with its slot
 abbrev pub left_at : Kept → ℕ → ℕ → ℕ
-left_at t pair first = end_at pair (goes_whole t pair first)
+left_at t pair first = end_at pair (drops_pair t pair first)
 
 -- If a stop in the first step leaves a disk with one of two trees, and the first step leads to the second tree, then a stop in
 -- either step leaves one of them.

@@ -28,8 +28,8 @@ abbrev pub StayTaken : BlockSets → BlockSets → Type 0
 StayTaken old new = (b : ℕ) → (IsFree old b → ⊥) → slice_get new b ≡ slice_get old b
 
 -- a block that is in flight was so before
-abbrev pub NoneComes : BlockSets → BlockSets → Type 0
-NoneComes old new = (b : ℕ) → IsInFlight new b → IsInFlight old b
+abbrev pub NoNewInFlight : BlockSets → BlockSets → Type 0
+NoNewInFlight old new = (b : ℕ) → IsInFlight new b → IsInFlight old b
 
 -- as many pairs as before come before the root directory's first one
 abbrev pub KeepsRoot : Kept → Kept → Type 0
@@ -45,7 +45,7 @@ pub record HasBecome (old new : Kept) (tree : Tree) : Type 0 where
   pub ready : IsReady new
   pub shows : tree_in new.disk new.pairs ≡ tree
   pub stays : StayTaken old.map new.map
-  pub none_comes : NoneComes old.map new.map
+  pub none_comes : NoNewInFlight old.map new.map
   pub root : KeepsRoot old new
 
 -- The map's used blocks are `used` without `come` and with `gone`.
@@ -67,5 +67,5 @@ pub record HasBecomeBut (old new : Kept) (tree : Tree) (gone come : List ℕ) : 
   pub ready : IsReadyBut new gone come
   pub shows : tree_in new.disk new.pairs ≡ tree
   pub stays : StayTaken old.map new.map
-  pub none_comes : NoneComes old.map new.map
+  pub none_comes : NoNewInFlight old.map new.map
   pub root : KeepsRoot old new

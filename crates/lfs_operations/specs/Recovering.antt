@@ -6,7 +6,7 @@ use Rattle.lfs_device.specs.declared.error.Error.TheVariants.{Io, NoMemory}
 use Rattle.lfs_model.specs.BlockSets.{AreUsed}
 use Rattle.lfs_model.specs.Disk.{block_count}
 use Rattle.lfs_model.specs.History.{faults}
-use Rattle.lfs_model.specs.Layout.{begin_from, onward}
+use Rattle.lfs_model.specs.Layout.{directory_begin, directory_after}
 use Rattle.lfs_model.specs.Operations as ops
 use Rattle.lfs_model.specs.Recovery.{AreReached}
 use Rattle.lfs_model.specs.Session.{Session}
@@ -15,7 +15,7 @@ use Rattle.lfs_model.specs.Thread.{Pair, blocks_of, directory_pairs, gstate_of, 
 use Rattle.lfs_model.specs.View.{IsAccepted}
 use Rattle.lfs_model.specs.Shown.{IsReached, all_slots, tree_in, used_blocks}
 use Rattle.lfs_model.specs.Profile.{IsWritable}
-use Rattle.lfs_model.specs.Steps.{AreAlike, IsCompleted, count, HasSameFile, HasNoMove, files_of, IsTaken}
+use Rattle.lfs_model.specs.Steps.{AreAlike, IsCompleted, count, HasSameFile, HasNoMove, files_of, IsOnlyStep}
 use Rattle.lfs_model.specs.InDirectory.{slots_in}
 use Rattle.lfs_thread.specs.Kept.{Kept, State}
 use Rattle.lfs_thread.specs.Steps.{no_pair}
@@ -26,8 +26,8 @@ use Rattle.lfs_operations.specs.Ready.{IsReadyBut, KeepsRoot}
 -- n. `from` is where the directory of the pair before it begins, if a hard tail continues it.
 abbrev pub AreUnreachedFrom : (ℕ × ℕ → Type 0) → ℕ → Option (ℕ × ℕ) → List Pair → List ℕ → Type 0
 AreUnreachedFrom R n from [] numbers = numbers ≡ []
-AreUnreachedFrom R n from (x ∷ xs) numbers = (R (begin_from from x) × AreUnreachedFrom R (suc n) (onward from x) xs numbers)
-    ⊎ ((rest : List ℕ) × ((numbers ≡ n ∷ rest) × ((R (begin_from from x) → ⊥) × AreUnreachedFrom R (suc n) (onward from x) xs rest)))
+AreUnreachedFrom R n from (x ∷ xs) numbers = (R (directory_begin from x) × AreUnreachedFrom R (suc n) (directory_after from x) xs numbers)
+    ⊎ ((rest : List ℕ) × ((numbers ≡ n ∷ rest) × ((R (directory_begin from x) → ⊥) × AreUnreachedFrom R (suc n) (directory_after from x) xs rest)))
 
 -- the numbers, in the thread, of the pairs of directories that no path leads to
 abbrev pub AreUnreached : List Pair → List ℕ → Type 0
@@ -52,7 +52,7 @@ pub record CanClearSync (t : Kept) : Type 0 where
   pub reached : AreReached t.pairs
 
 -- `Io` comes with a fault of the device, and any other result with none. After an error the thread has failed.
-pub record ReportsOfSteps {X : Type 0} (old new : State) (result : Result X Error) : Type 0 where
+pub record ReportsOfRecovery {X : Type 0} (old new : State) (result : Result X Error) : Type 0 where
   pub failed : new.failed ≡ is_err result
   pub errors : IfErr result (λ e. (e ≡ Io) ⊎ (e ≡ NoMemory))
   pub fault : IsErrOf result Io → faults old.kept.history < faults new.kept.history
@@ -60,7 +60,7 @@ pub record ReportsOfSteps {X : Type 0} (old new : State) (result : Result X Erro
 
 -- the slots and the tree are as they were, and the global state is zero
 pub record IsCleared (old new : Kept) : Type 0 where
-  pub taken : IsTaken old.disk old.pairs new.disk new.pairs (λ t. t) (λ d. d)
+  pub taken : IsOnlyStep old.disk old.pairs new.disk new.pairs (λ t. t) (λ d. d)
   pub alike : AreAlike old.pairs new.pairs
   pub settled : gstate_of new.pairs ≡ no_gstate
   pub map : new.map ≡ old.map

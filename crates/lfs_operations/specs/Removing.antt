@@ -1,7 +1,7 @@
 -- A file that is removed from its directory.
 use Rattle.std.specs.Prelude.{ℕ, ◌≡◌, ◌≤◌, ◌+◌, ◌-◌, ◌==◌, ◌&&◌, if◌then◌else◌, Bool, not, List, [], ◌∷◌, ◌++◌, length, None, Result, is_err}
 use Rattle.lfs_device.specs.declared.error.Error.{Error}
-use Rattle.lfs_model.specs.TreeEdits.{removed}
+use Rattle.lfs_model.specs.TreeEdits.{tree_without}
 use Rattle.lfs_model.specs.Names.{Name}
 use Rattle.lfs_model.specs.Operations as ops
 use Rattle.lfs_model.specs.Session.{Session}
@@ -22,15 +22,15 @@ pub record CanRemove (t : Kept) (pair id first : ℕ) : Type 0 where
   pub begins : can.first ≡ first
 
 -- its slot is the only one of a pair that isn't the first of the directory, so the pair is dropped with it
-abbrev pub goes_whole : Kept → ℕ → ℕ → Bool
-goes_whole t pair first = not (pair == first) && length (pair_in t pair).content.slots == 1
+abbrev pub drops_pair : Kept → ℕ → ℕ → Bool
+drops_pair t pair first = not (pair == first) && length (pair_in t pair).content.slots == 1
 
 -- the pair that is written: the slot's, or the one before it
 abbrev pub written_at : Kept → ℕ → ℕ → ℕ × ℕ
-written_at t pair first = if goes_whole t pair first then (pair_in t (pair - 1)).at else (pair_in t pair).at
+written_at t pair first = if drops_pair t pair first then (pair_in t (pair - 1)).at else (pair_in t pair).at
 
 abbrev pub without_file : Kept → Path → Name → Tree
-without_file t path name = removed (path ++ name ∷ []) (tree_in t.disk t.pairs)
+without_file t path name = tree_without (path ++ name ∷ []) (tree_in t.disk t.pairs)
 
 -- The tree has no such file, and the other slots are where the layout wants them. So a remove of its path is completed. The
 -- blocks of the file's list are `gone`, each once, and none of them is the image's.

@@ -4,7 +4,7 @@ use Rattle.lfs_device.specs.declared.error.Error.{Error}
 use Rattle.lfs_device.specs.declared.error.Error.TheVariants.{NoSpace}
 use Rattle.lfs_model.specs.TreeEdits.{renamed}
 use Rattle.lfs_model.specs.Changes.{Change, Delete}
-use Rattle.lfs_model.specs.InDirectory.{Belongs, Stands}
+use Rattle.lfs_model.specs.InDirectory.{BelongsInDirectory, HasNameAtPlace}
 use Rattle.lfs_model.specs.Names.{Name, is_name}
 use Rattle.lfs_model.specs.Operations as ops
 use Rattle.lfs_model.specs.Session.{Session}
@@ -33,7 +33,7 @@ rename_changes t pair id place name = Delete id ∷ slot_changes (place_without 
 -- The entry may be written under it.
 pub record CanRename (t : Kept) (pair id place : ℕ) (name : Name) : Type 0 where
   pub can : CanEdit t pair id
-  pub belongs : Belongs t.disk.order t.pairs can.first name pair place
+  pub belongs : BelongsInDirectory t.disk.order t.pairs can.first name pair place
   pub is_name : is_name name ≡ true
   pub fits : FitsEntry t.disk.block_size t.disk.page (record (slot_at can) { name = name })
 
@@ -45,7 +45,7 @@ rename_onto_changes t pair id place name = Delete id ∷ Delete (place_without i
 -- directory. The entry may be written under that name.
 pub record CanRenameOnto (t : Kept) (pair id place : ℕ) (name : Name) : Type 0 where
   pub can : CanEdit t pair id
-  pub target : Stands t.pairs can.first name pair place
+  pub target : HasNameAtPlace t.pairs can.first name pair place
   pub file : branch_of target.stands.slot.struct ≡ None
   pub differs : name ≢ can.name
   pub fits : FitsEntry t.disk.block_size t.disk.page (record (slot_at can) { name = name })

@@ -7,13 +7,13 @@ use Rattle.lfs_model.specs.Changes.{Change, Delete, PutMove}
 use Rattle.lfs_model.specs.Content.{content_at}
 use Rattle.lfs_model.specs.Disk.{block_count}
 use Rattle.lfs_model.specs.History.{faults}
-use Rattle.lfs_model.specs.InDirectory.{Stands}
+use Rattle.lfs_model.specs.InDirectory.{HasNameAtPlace}
 use Rattle.lfs_model.specs.Names.{Name}
 use Rattle.lfs_model.specs.Slots.{Branch, Content, gstate_xor, same_pair}
 use Rattle.lfs_model.specs.Thread.{IsThread, gstate_of, is_hard}
 use Rattle.lfs_model.specs.Tree.{Path}
 use Rattle.lfs_model.specs.Profile.{FitsEntry}
-use Rattle.lfs_model.specs.Steps.{sync_delta, rename_walk, IsTaken}
+use Rattle.lfs_model.specs.Steps.{sync_delta, rename_walk, IsOnlyStep}
 use Rattle.lfs_thread.specs.Kept.{Kept, State}
 use Rattle.lfs_thread.specs.Steps.{HasReported, IsChanged, IsOnlyRead, IsWrittenAs, pair_in, with_pair}
 use Rattle.lfs_operations.specs.Dropping.{HasShrunk}
@@ -30,7 +30,7 @@ rename_over_changes t pair id place name = PutMove (gstate_xor (pair_in t pair).
 -- directory. The entry may be written under that name.
 pub record CanRenameOver (t : Kept) (pair id place : ℕ) (name : Name) : Type 0 where
   pub can : CanEdit t pair id
-  pub target : Stands t.pairs can.first name pair place
+  pub target : HasNameAtPlace t.pairs can.first name pair place
   pub to : ℕ × ℕ
   pub branch : target.stands.slot.struct ≡ Branch to
   pub differs : name ≢ can.name
@@ -46,7 +46,7 @@ pub record IsRenamedOver (old new : Kept) (pair id place : ℕ) (path : Path) (f
   pub thread : IsThread (content_at new.disk) (block_count new.disk) new.pairs
   pub map : new.map ≡ old.map
   pub gstate : gstate_of new.pairs ≡ sync_delta
-  pub taken : IsTaken old.disk old.pairs new.disk new.pairs (renamed (path ++ from ∷ []) (path ++ to ∷ [])) (rename_walk (path ++ from ∷ []) (path ++ to ∷ []))
+  pub taken : IsOnlyStep old.disk old.pairs new.disk new.pairs (renamed (path ++ from ∷ []) (path ++ to ∷ [])) (rename_walk (path ++ from ∷ []) (path ++ to ∷ []))
 
 -- What a step reports that reads a slot first and takes no block: after an error the thread has failed, except that it works on
 -- and is as it was where the slot couldn't be read.

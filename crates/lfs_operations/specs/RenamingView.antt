@@ -5,11 +5,11 @@ use Rattle.lfs_operations.specs.declared.slot_copies.PartCopy.{PartCopy}
 use Rattle.lfs_operations.specs.declared.slot_copies.AttributeCopy.{AttributeCopy}
 use Rattle.lfs_operations.specs.declared.slot_copies.SlotCopy.{SlotCopy}
 
-abbrev pub part_copied : PartCopy → ℕ × List ℕ
-part_copied p = (p.kind, p.bytes.items)
+abbrev pub part_copy_view : PartCopy → ℕ × List ℕ
+part_copy_view p = (p.kind, p.bytes.items)
 
-abbrev pub attribute_copied : AttributeCopy → ℕ × List ℕ
-attribute_copied a = (a.kind, a.bytes.items)
+abbrev pub attribute_copy_view : AttributeCopy → ℕ × List ℕ
+attribute_copy_view a = (a.kind, a.bytes.items)
 
-abbrev pub copied : SlotCopy → Parts
-copied s = record { kind = s.name_kind; struct = part_copied s.structure; attributes = map attribute_copied s.attributes.items }
+abbrev pub slot_copy_view : SlotCopy → Parts
+slot_copy_view s = record { kind = s.name_kind; struct = part_copy_view s.structure; attributes = map attribute_copy_view s.attributes.items }

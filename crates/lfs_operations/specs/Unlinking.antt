@@ -19,10 +19,10 @@ use Rattle.lfs_model.specs.Shown.{tree_in}
 use Rattle.lfs_model.specs.Steps.{IsCompleted, sync_delta}
 use Rattle.lfs_thread.specs.Kept.{Kept, State}
 use Rattle.lfs_thread.specs.Steps.{IsWrittenAs, pair_in, with_pair}
-use Rattle.lfs_operations.specs.Changing.{Alters}
+use Rattle.lfs_operations.specs.Changing.{AltersPair}
 use Rattle.lfs_operations.specs.Dropping.{HasShrunk}
 use Rattle.lfs_operations.specs.Editing.{CanEdit, slot_at}
-use Rattle.lfs_operations.specs.Removing.{goes_whole, without_file}
+use Rattle.lfs_operations.specs.Removing.{drops_pair, without_file}
 
 -- ---- the entry is removed
 
@@ -78,8 +78,8 @@ pub record IsDirectoryRemoved (old new : Kept) (path : Path) (name : Name) : Typ
 -- The pair before the directory's own one doesn't stay with what it held. Nor does the one before the entry's pair, where that is
 -- dropped too.
 pub record AltersInFront (old : Kept) (pair first gone : ℕ) (new : Kept) : Type 0 where
-  pub front : Alters old (gone - 1) new
-  pub entry : goes_whole old pair first ≡ true → Alters old (pair - 1) new
+  pub front : AltersPair old (gone - 1) new
+  pub entry : drops_pair old pair first ≡ true → AltersPair old (pair - 1) new
 
 -- What several steps report that take no block: `Io` comes with a fault of the device, and any other result with none. After an
 -- error the thread has failed.

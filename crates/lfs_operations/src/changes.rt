@@ -5,7 +5,7 @@ ghost use Rattle.lfs_model.specs.History.{reads};
 ghost use Rattle.lfs_model.specs.Slots.{address_of};
 ghost use Rattle.lfs_pair.specs.ChangeView.{changes_view};
 ghost use Rattle.lfs_thread.specs.Device.{StopsLeave};
-ghost use Rattle.lfs_operations.specs.Changing.{AreTwoFree, CanPut, HasTwoFree, IsCut, IsLeftByCut, IsLeftByPut, IsPut, Reports, ReportsPut, WritesIn, flying};
+ghost use Rattle.lfs_operations.specs.Changing.{AreTwoFree, CanPut, HasTwoFree, IsPairCut, IsLeftByCut, IsLeftByPut, IsPut, Reports, ReportsPut, WritesIn, map_with_two_in_flight};
 
 use lfs_device::{BlockDevice, Error};
 use lfs_pair::{Change, Outcome};
@@ -16,7 +16,7 @@ use std::alloc::Global;
 // nothing is taken then.
 pub(crate) fn take_two<D: BlockDevice>(thread: &mut Thread<D>) -> Option<[u32; 2]>
     ensures were_free { IfSome result (λ fresh. AreTwoFree thread.old.kept.map (address_of fresh)) }
-    ensures taken { IfSome result (λ fresh. thread.new ≡ record thread.old { kept = record thread.old.kept { map = flying thread.old.kept.map (address_of fresh) } }) }
+    ensures taken { IfSome result (λ fresh. thread.new ≡ record thread.old { kept = record thread.old.kept { map = map_with_two_in_flight thread.old.kept.map (address_of fresh) } }) }
     ensures none { IfNone result (HasTwoFree thread.old.kept.map → ⊥) }
     ensures same { IfNone result (thread.new ≡ thread.old) }
 {
@@ -40,7 +40,7 @@ fn split_in_two<D: BlockDevice>(
 ) -> Result<(), Error>
     requires works { thread.old.failed ≡ false }
     requires can { CanPut thread.old.kept index (changes_view changes.now) }
-    ensures is_cut { OnOk result (IsCut thread.old.kept index (changes_view changes.now) thread.new.kept) }
+    ensures is_cut { OnOk result (IsPairCut thread.old.kept index (changes_view changes.now) thread.new.kept) }
     ensures errors { Reports thread.old thread.new result }
     ensures device { WritesIn thread.old.kept index thread.new.kept }
     ensures few { reads thread.new.kept.history ≤ reads thread.old.kept.history + 4 }

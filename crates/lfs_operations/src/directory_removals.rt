@@ -8,7 +8,7 @@ ghost use Rattle.lfs_tag.specs.FieldsView.{move_view};
 ghost use Rattle.lfs_thread.specs.Device.{StopsLeave, four_of, two_of};
 ghost use Rattle.lfs_thread.specs.Steps.{Writes, pair_in};
 ghost use Rattle.lfs_operations.specs.Editing.{CanEdit};
-ghost use Rattle.lfs_operations.specs.Removing.{ReportsOfCalls, goes_whole, without_file, written_at};
+ghost use Rattle.lfs_operations.specs.Removing.{ReportsOfCalls, drops_pair, without_file, written_at};
 ghost use Rattle.lfs_operations.specs.Unlinking.{AltersInFront, CanRemoveDirectory, IsDirectoryRemoved, IsLeftByUnlink, IsUnlinked, ReportsOfSteps, number_without};
 
 use crate::drops::drop_at;
@@ -71,7 +71,7 @@ fn remove_beside<D: BlockDevice>(
 ) -> Result<(), Error>
     requires works { thread.old.failed ≡ false }
     requires can { CanRemoveDirectory thread.old.kept pair id first gone }
-    requires stays { goes_whole thread.old.kept pair first ≡ false }
+    requires stays { drops_pair thread.old.kept pair first ≡ false }
     ensures is_removed { OnOk result ((take : CanRemoveDirectory thread.old.kept pair id first gone) → IsDirectoryRemoved thread.old.kept thread.new.kept take.can.path take.can.name) }
     ensures alters { OnOk result (AltersInFront thread.old.kept pair first gone thread.new.kept) }
     ensures errors { ReportsOfSteps thread.old thread.new result }
@@ -95,7 +95,7 @@ fn remove_with_pair<D: BlockDevice>(
 ) -> Result<(), Error>
     requires works { thread.old.failed ≡ false }
     requires can { CanRemoveDirectory thread.old.kept pair id first gone }
-    requires goes { goes_whole thread.old.kept pair first ≡ true }
+    requires goes { drops_pair thread.old.kept pair first ≡ true }
     ensures is_removed { OnOk result ((take : CanRemoveDirectory thread.old.kept pair id first gone) → IsDirectoryRemoved thread.old.kept thread.new.kept take.can.path take.can.name) }
     ensures alters { OnOk result (AltersInFront thread.old.kept pair first gone thread.new.kept) }
     ensures errors { ReportsOfSteps thread.old thread.new result }

@@ -3,7 +3,7 @@
 ghost use Rattle.std.specs.Prelude.{◌≡◌, ◌<◌, ◌-◌, ◌^◌, ◌∷◌, true, false, length, IfOk, OnOk};
 ghost use Rattle.lfs_model.specs.Changes.{Delete, PutMove};
 ghost use Rattle.lfs_model.specs.Slots.{gstate_xor};
-ghost use Rattle.lfs_operations.specs.RenamingView.{copied};
+ghost use Rattle.lfs_operations.specs.RenamingView.{slot_copy_view};
 ghost use Rattle.lfs_operations.specs.RenamingSlots.{slot_changes};
 ghost use Rattle.lfs_model.specs.LoggedContent.{IsAddress};
 ghost use Rattle.lfs_model.specs.PowerLoss.{Survives};
@@ -16,7 +16,7 @@ ghost use Rattle.lfs_thread.specs.Steps.{Writes, pair_in};
 ghost use Rattle.lfs_pair.specs.ChangeView.{changes_view};
 ghost use Rattle.lfs_operations.specs.Altering.{AltersBut};
 ghost use Rattle.lfs_operations.specs.Changing.{CanPut, IsPut, WritesInPairs};
-ghost use Rattle.lfs_operations.specs.MoveEnds.{CanEnd, HasEnded, end_at, move_of, delta_without_move, sync_in};
+ghost use Rattle.lfs_operations.specs.MoveEnds.{CanEndMoveAt, HasEndedMoveAt, end_at, move_of, delta_without_move, sync_in};
 ghost use Rattle.lfs_operations.specs.MovingSteps.{EndsAfter, IsPutAndEnded, SurvivesBoth, ReportsInSteps, WritesInTwo, left_at, place_after};
 ghost use Rattle.lfs_operations.specs.MovingAcross.{CanRenameAcross, IsRenamedAcross, moving_changes, with_moved};
 ghost use Rattle.lfs_operations.specs.MovingOnto.{CanPutOnto, CanReplaceAcross, CanReplaceDirectory, IsMovedOnto, IsReplacedAcross, onto_changes, replacing_changes};
@@ -54,8 +54,8 @@ fn end_in_place<D: BlockDevice>(
     id: u16,
 ) -> Result<(), Error>
     requires works { thread.old.failed ≡ false }
-    requires can { CanEnd thread.old.kept pair id false }
-    ensures ended { OnOk result (HasEnded thread.old.kept pair id false thread.new.kept) }
+    requires can { CanEndMoveAt thread.old.kept pair id false }
+    ensures ended { OnOk result (HasEndedMoveAt thread.old.kept pair id false thread.new.kept) }
     ensures errors { ReportsOfCalls thread.old thread.new result }
     ensures device { Writes (two_of (pair_in thread.old.kept pair).at) thread.old.kept thread.new.kept }
     ensures survives { Survives thread.old.kept.disk thread.old.kept.history thread.new.kept.history
@@ -89,8 +89,8 @@ fn end_with_pair<D: BlockDevice>(
     id: u16,
 ) -> Result<(), Error>
     requires works { thread.old.failed ≡ false }
-    requires can { CanEnd thread.old.kept pair id true }
-    ensures ended { OnOk result (HasEnded thread.old.kept pair id true thread.new.kept) }
+    requires can { CanEndMoveAt thread.old.kept pair id true }
+    ensures ended { OnOk result (HasEndedMoveAt thread.old.kept pair id true thread.new.kept) }
     ensures errors { ReportsOfCalls thread.old thread.new result }
     ensures device { Writes (two_of (pair_in thread.old.kept (pair - 1)).at) thread.old.kept thread.new.kept }
     ensures survives { Survives thread.old.kept.disk thread.old.kept.history thread.new.kept.history
@@ -111,8 +111,8 @@ pub(crate) fn end_move<D: BlockDevice>(
     goes: bool,
 ) -> Result<(), Error>
     requires works { thread.old.failed ≡ false }
-    requires can { CanEnd thread.old.kept pair id goes }
-    ensures ended { OnOk result (HasEnded thread.old.kept pair id goes thread.new.kept) }
+    requires can { CanEndMoveAt thread.old.kept pair id goes }
+    ensures ended { OnOk result (HasEndedMoveAt thread.old.kept pair id goes thread.new.kept) }
     ensures errors { ReportsOfCalls thread.old thread.new result }
     ensures device { Writes (two_of (pair_in thread.old.kept (end_at pair goes)).at) thread.old.kept thread.new.kept }
     ensures survives { Survives thread.old.kept.disk thread.old.kept.history thread.new.kept.history
@@ -194,7 +194,7 @@ fn changes_of<'a>(
     name: &'a [u8],
     copy: &'a SlotCopy,
 ) -> Result<Vec<Change<'a>>, AllocError>
-    ensures { IfOk result (λ changes. changes_view changes.items ≡ PutMove (move_view state) ∷ slot_changes id name.now (copied copy.now)) }
+    ensures { IfOk result (λ changes. changes_view changes.items ≡ PutMove (move_view state) ∷ slot_changes id name.now (slot_copy_view copy.now)) }
 {
     let mut changes = Vec::new(alloc);
     changes.push(Change::Move { state })?;
@@ -254,7 +254,7 @@ fn changes_onto<'a>(
     name: &'a [u8],
     copy: &'a SlotCopy,
 ) -> Result<Vec<Change<'a>>, AllocError>
-    ensures { IfOk result (λ changes. changes_view changes.items ≡ PutMove (move_view state) ∷ Delete id ∷ slot_changes id name.now (copied copy.now)) }
+    ensures { IfOk result (λ changes. changes_view changes.items ≡ PutMove (move_view state) ∷ Delete id ∷ slot_changes id name.now (slot_copy_view copy.now)) }
 {
     let mut changes = Vec::new(alloc);
     changes.push(Change::Move { state })?;

@@ -9,9 +9,9 @@ ghost use Rattle.lfs_model.specs.Shown.{tree_in};
 ghost use Rattle.lfs_model.specs.Steps.{turned};
 ghost use Rattle.lfs_tag.specs.FieldsView.{move_view};
 ghost use Rattle.lfs_thread.specs.Device.{StopsLeave, four_of, two_of};
-ghost use Rattle.lfs_thread.specs.Steps.{CanJoin, HasReportedBeside, IsJoined, IsLeftByJoin, Writes, pair_in};
+ghost use Rattle.lfs_thread.specs.Steps.{CanJoin, HasReportedBeside, IsThreadedIn, IsLeftByJoin, Writes, pair_in};
 ghost use Rattle.lfs_operations.specs.Changing.{CanPut, IsLeftByPut, IsPut, ReportsPut, WritesIn};
-ghost use Rattle.lfs_operations.specs.Making.{AltersUpTo, CanMake, FitsJoined, IsLastFrom, IsMade, ReportsOfSteps, WritesUpTo, entering, naming, threading, with_directory};
+ghost use Rattle.lfs_operations.specs.Making.{AltersUpTo, CanMakeAt, FitsJoined, IsLastFrom, IsDirectoryMade, ReportsOfMaking, WritesUpTo, enter_changes, name_directory_changes, thread_in_changes, with_directory};
 
 use crate::changes::{put, take_two};
 use lfs_device::{BlockDevice, Error};
@@ -66,13 +66,13 @@ fn thread_behind<D: BlockDevice>(
     fresh: [u32; 2],
 ) -> Result<(), Error>
     requires works { thread.old.failed ≡ false }
-    requires can { CanJoin thread.old.kept last (address_of fresh) (threading thread.old.kept last (address_of fresh)) }
+    requires can { CanJoin thread.old.kept last (address_of fresh) (thread_in_changes thread.old.kept last (address_of fresh)) }
     requires fits { FitsJoined thread.old.kept last (address_of fresh) }
-    ensures is_joined { OnOk result (IsJoined thread.old.kept last (address_of fresh) (threading thread.old.kept last (address_of fresh)) thread.new.kept) }
+    ensures is_joined { OnOk result (IsThreadedIn thread.old.kept last (address_of fresh) (thread_in_changes thread.old.kept last (address_of fresh)) thread.new.kept) }
     ensures failed { thread.new.failed ≡ is_err result }
     ensures errors { HasReportedBeside (two_of (address_of fresh)) thread.old.kept thread.new.kept result }
     ensures device { Writes (four_of (pair_in thread.old.kept last).at (address_of fresh)) thread.old.kept thread.new.kept }
-    ensures stops { StopsLeave thread.old.kept.history thread.new.kept.history (IsLeftByJoin thread.old.kept last (address_of fresh) (threading thread.old.kept last (address_of fresh))) }
+    ensures stops { StopsLeave thread.old.kept.history thread.new.kept.history (IsLeftByJoin thread.old.kept last (address_of fresh) (thread_in_changes thread.old.kept last (address_of fresh))) }
 {
     let changes = [
         Change::Tail {
@@ -98,11 +98,11 @@ fn put_entry<'a, D: BlockDevice>(
     branch: &'a [u8],
 ) -> Result<(), Error>
     requires works { thread.old.failed ≡ false }
-    requires can { CanPut thread.old.kept pair (entering thread.old.kept pair id name.now branch.now) }
-    ensures is_put { OnOk result (IsPut thread.old.kept pair (entering thread.old.kept pair id name.now branch.now) thread.new.kept) }
-    ensures errors { ReportsPut thread.old thread.new pair (entering thread.old.kept pair id name.now branch.now) result }
+    requires can { CanPut thread.old.kept pair (enter_changes thread.old.kept pair id name.now branch.now) }
+    ensures is_put { OnOk result (IsPut thread.old.kept pair (enter_changes thread.old.kept pair id name.now branch.now) thread.new.kept) }
+    ensures errors { ReportsPut thread.old thread.new pair (enter_changes thread.old.kept pair id name.now branch.now) result }
     ensures device { WritesIn thread.old.kept pair thread.new.kept }
-    ensures stops { StopsLeave thread.old.kept.history thread.new.kept.history (IsLeftByPut thread.old.kept pair (entering thread.old.kept pair id name.now branch.now)) }
+    ensures stops { StopsLeave thread.old.kept.history thread.new.kept.history (IsLeftByPut thread.old.kept pair (enter_changes thread.old.kept pair id name.now branch.now)) }
 {
     let changes = [
         Change::Create {
@@ -133,11 +133,11 @@ fn name_directory<D: BlockDevice>(
     at: [u32; 2],
 ) -> Result<(), Error>
     requires works { thread.old.failed ≡ false }
-    requires can { CanPut thread.old.kept pair (naming thread.old.kept pair id name.now (address_of at)) }
-    ensures is_put { OnOk result (IsPut thread.old.kept pair (naming thread.old.kept pair id name.now (address_of at)) thread.new.kept) }
-    ensures errors { ReportsPut thread.old thread.new pair (naming thread.old.kept pair id name.now (address_of at)) result }
+    requires can { CanPut thread.old.kept pair (name_directory_changes thread.old.kept pair id name.now (address_of at)) }
+    ensures is_put { OnOk result (IsPut thread.old.kept pair (name_directory_changes thread.old.kept pair id name.now (address_of at)) thread.new.kept) }
+    ensures errors { ReportsPut thread.old thread.new pair (name_directory_changes thread.old.kept pair id name.now (address_of at)) result }
     ensures device { WritesIn thread.old.kept pair thread.new.kept }
-    ensures stops { StopsLeave thread.old.kept.history thread.new.kept.history (IsLeftByPut thread.old.kept pair (naming thread.old.kept pair id name.now (address_of at))) }
+    ensures stops { StopsLeave thread.old.kept.history thread.new.kept.history (IsLeftByPut thread.old.kept pair (name_directory_changes thread.old.kept pair id name.now (address_of at))) }
 {
     let branch = pair_bytes(at);
     put_entry(alloc, thread, pair, id, name, &branch)?;
@@ -161,14 +161,14 @@ pub fn make_directory<D: BlockDevice>(
     name: &[u8],
 ) -> Result<(), Error>
     requires works { thread.old.failed ≡ false }
-    requires can { CanMake thread.old.kept pair id name.now }
-    ensures made { OnOk result ((can : CanMake thread.old.kept pair id name.now) → IsMade thread.old.kept thread.new.kept can.path name.now) }
+    requires can { CanMakeAt thread.old.kept pair id name.now }
+    ensures made { OnOk result ((can : CanMakeAt thread.old.kept pair id name.now) → IsDirectoryMade thread.old.kept thread.new.kept can.path name.now) }
     ensures alters { OnOk result (AltersUpTo thread.old.kept pair thread.new.kept) }
-    ensures errors { ReportsOfSteps thread.old thread.new result }
+    ensures errors { ReportsOfMaking thread.old thread.new result }
     ensures device { WritesUpTo thread.old.kept pair thread.new.kept }
-    ensures stands { result ≡ Err Error.NoMemory → (can : CanMake thread.old.kept pair id name.now) → IsLeftByStop thread.new.kept.disk
+    ensures stands { result ≡ Err Error.NoMemory → (can : CanMakeAt thread.old.kept pair id name.now) → IsLeftByStop thread.new.kept.disk
         (tree_in thread.old.kept.disk thread.old.kept.pairs) (with_directory thread.old.kept can.path name.now) }
-    ensures survives { (can : CanMake thread.old.kept pair id name.now) → Survives thread.old.kept.disk thread.old.kept.history thread.new.kept.history
+    ensures survives { (can : CanMakeAt thread.old.kept pair id name.now) → Survives thread.old.kept.disk thread.old.kept.history thread.new.kept.history
         (tree_in thread.old.kept.disk thread.old.kept.pairs) (with_directory thread.old.kept can.path name.now) }
 {
     let last = last_from(thread, pair);

@@ -4,7 +4,7 @@ ghost use Rattle.std.specs.Prelude.{◌≡◌, ◌≤◌, ◌+◌, false, OnOk};
 ghost use Rattle.lfs_model.specs.History.{reads};
 ghost use Rattle.lfs_model.specs.PowerLoss.{Survives};
 ghost use Rattle.lfs_model.specs.Shown.{tree_in};
-ghost use Rattle.lfs_operations.specs.Changing.{Alters, ReportsPut, WritesIn};
+ghost use Rattle.lfs_operations.specs.Changing.{AltersPair, ReportsPut, WritesIn};
 ghost use Rattle.lfs_operations.specs.Creating.{CanCreate, IsCreated, file_changes, with_file};
 
 use crate::changes::put;
@@ -32,7 +32,7 @@ pub fn create<D: BlockDevice>(
     requires works { thread.old.failed ≡ false }
     requires can { CanCreate thread.old.kept pair id name.now }
     ensures created { OnOk result ((can : CanCreate thread.old.kept pair id name.now) → IsCreated thread.old.kept thread.new.kept can.path name.now) }
-    ensures alters { OnOk result (Alters thread.old.kept pair thread.new.kept) }
+    ensures alters { OnOk result (AltersPair thread.old.kept pair thread.new.kept) }
     ensures errors { ReportsPut thread.old thread.new pair (file_changes id name.now) result }
     ensures device { WritesIn thread.old.kept pair thread.new.kept }
     ensures few { reads thread.new.kept.history ≤ reads thread.old.kept.history + 6 }

@@ -14,9 +14,9 @@ ghost use Rattle.lfs_tag.specs.ContentView.{tail_view};
 ghost use Rattle.lfs_tag.specs.FieldsView.{move_view};
 ghost use Rattle.lfs_thread.specs.Device.{StopsLeave, two_of};
 ghost use Rattle.lfs_thread.specs.Steps.{IsChanged, IsDropped, IsLeftByChange, Writes, pair_in};
-ghost use Rattle.lfs_operations.specs.Deltas.{CanSetState, CanTakeOver, IsAddressIfSome, goes_on_at, setting, delta_of, taking_over, takes_delta, target_of};
-ghost use Rattle.lfs_operations.specs.Recovering.{CanClearSync, CanDropUnreached, HasRecovered, IsCleared, ReportsOfSteps, state_with};
-ghost use Rattle.lfs_operations.specs.EndingMove.{CanEndMove, CanTakeSlot, HasEndedMove, IsMovedAt, is_alone_at, taking, unset};
+ghost use Rattle.lfs_operations.specs.Deltas.{CanSetState, CanTakeOver, IsAddressIfSome, has_tail_at, set_state_changes, delta_of, take_over_changes, takes_delta, target_of};
+ghost use Rattle.lfs_operations.specs.Recovering.{CanClearSync, CanDropUnreached, HasRecovered, IsCleared, ReportsOfRecovery, state_with};
+ghost use Rattle.lfs_operations.specs.EndingMove.{CanEndMove, CanTakeSlot, HasEndedMove, IsMovedAt, is_alone_at, take_slot_changes, gstate_without_move};
 ghost use Rattle.lfs_operations.specs.Removing.{ReportsOfCalls};
 
 use lfs_device::{BlockDevice, Error};
@@ -62,7 +62,7 @@ fn storable(state: MoveState) -> MoveState
 fn goes_on<D: BlockDevice>(thread: &Thread<D>, index: usize) -> bool
     requires works { thread.now.failed ≡ false }
     requires below { index < length thread.now.kept.pairs }
-    ensures { result ≡ goes_on_at thread.now.kept index }
+    ensures { result ≡ has_tail_at thread.now.kept index }
 {
     thread.next(index).is_some()
 }
@@ -83,7 +83,7 @@ fn both_go_on<D: BlockDevice>(thread: &Thread<D>, index: usize, behind: usize) -
     requires works { thread.now.failed ≡ false }
     requires first { index < length thread.now.kept.pairs }
     requires second { behind < length thread.now.kept.pairs }
-    ensures { result ≡ (goes_on_at thread.now.kept index && goes_on_at thread.now.kept behind) }
+    ensures { result ≡ (has_tail_at thread.now.kept index && has_tail_at thread.now.kept behind) }
 {
     goes_on(thread, index) && goes_on(thread, behind)
 }
@@ -97,11 +97,11 @@ fn set_state<D: BlockDevice>(
 ) -> Result<(), Error>
     requires works { thread.old.failed ≡ false }
     requires can { CanSetState thread.old.kept index (move_view wanted.now) }
-    ensures is_set { OnOk result (IsChanged thread.old.kept index (setting thread.old.kept index (move_view wanted.now)) thread.new.kept) }
+    ensures is_set { OnOk result (IsChanged thread.old.kept index (set_state_changes thread.old.kept index (move_view wanted.now)) thread.new.kept) }
     ensures errors { ReportsOfCalls thread.old thread.new result }
     ensures words { IsAddress (delta_of thread.old.kept index (move_view wanted.now)).pair }
     ensures device { Writes (two_of (pair_in thread.old.kept index).at) thread.old.kept thread.new.kept }
-    ensures stops { StopsLeave thread.old.kept.history thread.new.kept.history (IsLeftByChange thread.old.kept index (setting thread.old.kept index (move_view wanted.now))) }
+    ensures stops { StopsLeave thread.old.kept.history thread.new.kept.history (IsLeftByChange thread.old.kept index (set_state_changes thread.old.kept index (move_view wanted.now))) }
 {
     let state = storable(delta_for(thread, index, wanted));
     // The pair has the slots that it had, so the commit is never refused.
@@ -120,11 +120,11 @@ fn drop_behind<D: BlockDevice>(
 ) -> Result<(), Error>
     requires works { thread.old.failed ≡ false }
     requires can { CanTakeOver thread.old.kept index behind (move_view wanted.now) }
-    ensures is_dropped { OnOk result (IsDropped thread.old.kept index (taking_over thread.old.kept index behind (move_view wanted.now)) thread.new.kept) }
+    ensures is_dropped { OnOk result (IsDropped thread.old.kept index (take_over_changes thread.old.kept index behind (move_view wanted.now)) thread.new.kept) }
     ensures errors { ReportsOfCalls thread.old thread.new result }
     ensures words { IsAddress (takes_delta thread.old.kept index behind (move_view wanted.now)).pair × IsAddressIfSome (target_of (pair_in thread.old.kept behind).content.tail) }
     ensures device { Writes (two_of (pair_in thread.old.kept index).at) thread.old.kept thread.new.kept }
-    ensures stops { StopsLeave thread.old.kept.history thread.new.kept.history (IsLeftByChange thread.old.kept index (taking_over thread.old.kept index behind (move_view wanted.now))) }
+    ensures stops { StopsLeave thread.old.kept.history thread.new.kept.history (IsLeftByChange thread.old.kept index (take_over_changes thread.old.kept index behind (move_view wanted.now))) }
 {
     let delta = delta_for(thread, index, wanted);
     let state = storable(with_delta(&delta, &thread.delta(behind)));
@@ -189,7 +189,7 @@ pub fn drop_unreached<D: BlockDevice>(
     requires can { CanDropUnreached thread.old.kept unreached.now }
     ensures nothing { IsRecovered thread.old.kept.pairs → thread.new.kept ≡ thread.old.kept }
     ensures recovered { OnOk result (HasRecovered thread.old.kept unreached.now thread.new.kept) }
-    ensures errors { ReportsOfSteps thread.old thread.new result }
+    ensures errors { ReportsOfRecovery thread.old thread.new result }
     ensures device { Writes (blocks_of thread.old.kept.pairs) thread.old.kept thread.new.kept }
     ensures survives { Survives thread.old.kept.disk thread.old.kept.history thread.new.kept.history
         (tree_in thread.old.kept.disk thread.old.kept.pairs) (tree_in thread.old.kept.disk thread.old.kept.pairs) }
@@ -218,7 +218,7 @@ fn moved_pair<D: BlockDevice>(thread: &Thread<D>, state: &MoveState) -> Option<u
 
 // Returns the global state without a move.
 fn without_move(state: &MoveState) -> MoveState
-    ensures { move_view result ≡ unset (move_view state.now) }
+    ensures { move_view result ≡ gstate_without_move (move_view state.now) }
 {
     MoveState {
         sync: state.sync,
@@ -247,11 +247,11 @@ fn take_slot<D: BlockDevice>(
 ) -> Result<(), Error>
     requires works { thread.old.failed ≡ false }
     requires can { CanTakeSlot thread.old.kept index id (move_view wanted.now) }
-    ensures is_taken { OnOk result (IsChanged thread.old.kept index (taking thread.old.kept index id (move_view wanted.now)) thread.new.kept) }
+    ensures is_taken { OnOk result (IsChanged thread.old.kept index (take_slot_changes thread.old.kept index id (move_view wanted.now)) thread.new.kept) }
     ensures errors { ReportsOfCalls thread.old thread.new result }
     ensures words { IsAddress (delta_of thread.old.kept index (move_view wanted.now)).pair }
     ensures device { Writes (two_of (pair_in thread.old.kept index).at) thread.old.kept thread.new.kept }
-    ensures stops { StopsLeave thread.old.kept.history thread.new.kept.history (IsLeftByChange thread.old.kept index (taking thread.old.kept index id (move_view wanted.now))) }
+    ensures stops { StopsLeave thread.old.kept.history thread.new.kept.history (IsLeftByChange thread.old.kept index (take_slot_changes thread.old.kept index id (move_view wanted.now))) }
 {
     let state = storable(delta_for(thread, index, wanted));
     // The pair has a slot less than before, so the commit is never refused.
@@ -274,7 +274,7 @@ pub fn end_move<D: BlockDevice>(alloc: Global, thread: &mut Thread<D>) -> Result
     requires can { CanEndMove thread.old.kept }
     ensures nothing { HasNoMove (gstate_of thread.old.kept.pairs) → thread.new.kept ≡ thread.old.kept }
     ensures ended { OnOk result (HasEndedMove thread.old.kept thread.new.kept) }
-    ensures errors { ReportsOfSteps thread.old thread.new result }
+    ensures errors { ReportsOfRecovery thread.old thread.new result }
     ensures device { Writes (blocks_of thread.old.kept.pairs) thread.old.kept thread.new.kept }
     ensures survives { Survives thread.old.kept.disk thread.old.kept.history thread.new.kept.history
         (tree_in thread.old.kept.disk thread.old.kept.pairs) (tree_in thread.old.kept.disk thread.old.kept.pairs) }

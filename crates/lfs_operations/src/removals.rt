@@ -5,9 +5,9 @@ ghost use Rattle.lfs_model.specs.PowerLoss.{Survives};
 ghost use Rattle.lfs_model.specs.Shown.{tree_in};
 ghost use Rattle.lfs_thread.specs.Device.{two_of};
 ghost use Rattle.lfs_thread.specs.Steps.{Writes};
-ghost use Rattle.lfs_operations.specs.Changing.{Alters};
+ghost use Rattle.lfs_operations.specs.Changing.{AltersPair};
 ghost use Rattle.lfs_operations.specs.Editing.{slot_at};
-ghost use Rattle.lfs_operations.specs.Removing.{CanRemove, IsRemoved, ReportsOfCalls, goes_whole, without_file, written_at};
+ghost use Rattle.lfs_operations.specs.Removing.{CanRemove, IsRemoved, ReportsOfCalls, drops_pair, without_file, written_at};
 
 use crate::drops::drop_at;
 use lfs_device::{BlockDevice, Error};
@@ -21,7 +21,7 @@ use std::alloc::Global;
 pub(crate) fn goes_with_slot<D: BlockDevice>(thread: &Thread<D>, pair: usize, first: usize) -> bool
     requires works { thread.now.failed ≡ false }
     requires below { pair < length thread.now.kept.pairs }
-    ensures { result ≡ goes_whole thread.now.kept pair first }
+    ensures { result ≡ drops_pair thread.now.kept pair first }
 {
     pair != first && thread.slot_count(pair) == 1
 }
@@ -43,7 +43,7 @@ pub fn remove_file<D: BlockDevice>(
     requires works { thread.old.failed ≡ false }
     requires can { CanRemove thread.old.kept pair id first }
     ensures is_removed { OnOk result ((take : CanRemove thread.old.kept pair id first) → IsRemoved thread.old.kept thread.new.kept take.can.path take.can.name (slot_at take.can).struct) }
-    ensures alters { OnOk result (goes_whole thread.old.kept pair first ≡ true → Alters thread.old.kept (pair - 1) thread.new.kept) }
+    ensures alters { OnOk result (drops_pair thread.old.kept pair first ≡ true → AltersPair thread.old.kept (pair - 1) thread.new.kept) }
     ensures errors { ReportsOfCalls thread.old thread.new result }
     ensures device { Writes (two_of (written_at thread.old.kept pair first)) thread.old.kept thread.new.kept }
     ensures survives { (take : CanRemove thread.old.kept pair id first) → Survives thread.old.kept.disk thread.old.kept.history thread.new.kept.history

@@ -7,7 +7,7 @@ ghost use Rattle.lfs_model.specs.Shown.{tree_in};
 ghost use Rattle.lfs_pair.specs.ChangeView.{changes_view};
 ghost use Rattle.lfs_operations.specs.Changing.{WritesIn};
 ghost use Rattle.lfs_operations.specs.Renaming.{CanRename, CanRenameOnto, IsRenamed, IsRenamedOnto, ReportsMove, place_without, rename_changes, rename_onto_changes, with_renamed};
-ghost use Rattle.lfs_operations.specs.RenamingView.{copied};
+ghost use Rattle.lfs_operations.specs.RenamingView.{slot_copy_view};
 ghost use Rattle.lfs_operations.specs.RenamingSlots.{slot_changes};
 
 use crate::changes::put;
@@ -32,7 +32,7 @@ fn changes_of<'a>(
     name: &'a [u8],
     copy: &'a SlotCopy,
 ) -> Result<Vec<Change<'a>>, AllocError>
-    ensures { IfOk result (λ changes. changes_view changes.items ≡ Delete id ∷ slot_changes (place_without id place) name.now (copied copy.now)) }
+    ensures { IfOk result (λ changes. changes_view changes.items ≡ Delete id ∷ slot_changes (place_without id place) name.now (slot_copy_view copy.now)) }
 {
     let mut changes = Vec::new(alloc);
     changes.push(Change::Delete { id })?;
@@ -81,7 +81,7 @@ fn changes_onto<'a>(
     name: &'a [u8],
     copy: &'a SlotCopy,
 ) -> Result<Vec<Change<'a>>, AllocError>
-    ensures { IfOk result (λ changes. changes_view changes.items ≡ Delete id ∷ Delete (place_without id place) ∷ slot_changes (place_without id place) name.now (copied copy.now)) }
+    ensures { IfOk result (λ changes. changes_view changes.items ≡ Delete id ∷ Delete (place_without id place) ∷ slot_changes (place_without id place) name.now (slot_copy_view copy.now)) }
 {
     let place = place_without(id, place);
     let mut changes = Vec::new(alloc);

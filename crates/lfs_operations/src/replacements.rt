@@ -11,7 +11,7 @@ ghost use Rattle.lfs_thread.specs.Steps.{Writes, pair_in};
 ghost use Rattle.lfs_operations.specs.Altering.{AltersBut};
 ghost use Rattle.lfs_operations.specs.Renaming.{place_without, with_renamed};
 ghost use Rattle.lfs_operations.specs.RenamingOver.{CanRenameOntoDirectory, CanRenameOver, IsRenamedOntoDirectory, IsRenamedOver, ReportsOver, ReportsOverSteps};
-ghost use Rattle.lfs_operations.specs.RenamingView.{copied};
+ghost use Rattle.lfs_operations.specs.RenamingView.{slot_copy_view};
 ghost use Rattle.lfs_operations.specs.RenamingSlots.{slot_changes};
 
 use crate::directory_removals::sync_bit;
@@ -34,7 +34,7 @@ fn changes_over<'a>(
     name: &'a [u8],
     copy: &'a SlotCopy,
 ) -> Result<Vec<Change<'a>>, AllocError>
-    ensures { IfOk result (λ changes. changes_view changes.items ≡ PutMove (move_view state) ∷ Delete id ∷ Delete (place_without id place) ∷ slot_changes (place_without id place) name.now (copied copy.now)) }
+    ensures { IfOk result (λ changes. changes_view changes.items ≡ PutMove (move_view state) ∷ Delete id ∷ Delete (place_without id place) ∷ slot_changes (place_without id place) name.now (slot_copy_view copy.now)) }
 {
     let place = place_without(id, place);
     let mut changes = Vec::new(alloc);

@@ -10,7 +10,7 @@ ghost use Rattle.lfs_tag.specs.ContentView.{attribute_view, part_view, slot_view
 ghost use Rattle.lfs_thread.specs.CachedLog.{IsBlockOf};
 ghost use Rattle.lfs_thread.specs.Steps.{HasReported, IsOnlyRead, pair_in};
 ghost use Rattle.lfs_operations.specs.RenamingSlots.{HasSlot, attribute_changes, parts_at, parts_of, slot_changes};
-ghost use Rattle.lfs_operations.specs.RenamingView.{attribute_copied, copied, part_copied};
+ghost use Rattle.lfs_operations.specs.RenamingView.{attribute_copy_view, slot_copy_view, part_copy_view};
 
 use lfs_device::{BlockDevice, Error};
 use lfs_pair::Change;
@@ -41,7 +41,7 @@ pub(crate) struct SlotCopy {
 }
 
 fn copy_part(alloc: Global, part: &Part<'_>) -> Result<PartCopy, AllocError>
-    ensures { IfOk result (λ copy. part_copied copy ≡ part_view part.now) }
+    ensures { IfOk result (λ copy. part_copy_view copy ≡ part_view part.now) }
 {
     let bytes = Vec::from_slice(alloc, part.bytes)?;
     Ok(PartCopy {
@@ -51,7 +51,7 @@ fn copy_part(alloc: Global, part: &Part<'_>) -> Result<PartCopy, AllocError>
 }
 
 fn copy_attribute(alloc: Global, attribute: &Attribute<'_>) -> Result<AttributeCopy, AllocError>
-    ensures { IfOk result (λ copy. attribute_copied copy ≡ attribute_view attribute.now) }
+    ensures { IfOk result (λ copy. attribute_copy_view copy ≡ attribute_view attribute.now) }
 {
     let bytes = Vec::from_slice(alloc, attribute.bytes)?;
     Ok(AttributeCopy {
@@ -64,7 +64,7 @@ fn copy_attributes(
     alloc: Global,
     attributes: &[Attribute<'_>],
 ) -> Result<Vec<AttributeCopy>, AllocError>
-    ensures { IfOk result (λ copies. map attribute_copied copies.items ≡ map attribute_view attributes.now) }
+    ensures { IfOk result (λ copies. map attribute_copy_view copies.items ≡ map attribute_view attributes.now) }
 {
     let mut copies = Vec::new(alloc);
     for attribute in attributes {
@@ -77,7 +77,7 @@ fn copy_attributes(
 fn copy_slot(alloc: Global, slot: &Slot<'_>) -> Result<SlotCopy, AllocError>
     requires named { IsSome slot.now.name }
     requires structured { IsSome slot.now.structure }
-    ensures { IfOk result (λ copy. copied copy ≡ parts_of (slot_view slot.now)) }
+    ensures { IfOk result (λ copy. slot_copy_view copy ≡ parts_of (slot_view slot.now)) }
 {
     let name_kind = slot.name.unwrap().kind;
     let structure = copy_part(alloc, &slot.structure.unwrap())?;
@@ -92,7 +92,7 @@ fn copy_slot(alloc: Global, slot: &Slot<'_>) -> Result<SlotCopy, AllocError>
 // Copies the slot at an id of a log.
 fn copy_in(alloc: Global, log: &Log<'_>, id: u16) -> Result<SlotCopy, Error>
     requires { (content : ModelContent) × (IsBlockOf log.now content × (id < length content.slots)) }
-    ensures copied { (raw : RawContent) → content_after_all no_content (log_entries log.now) ≡ Some raw → IfOk result (λ copy. copied copy ≡ parts_of (slot_of_id raw.slots id)) }
+    ensures copied { (raw : RawContent) → content_after_all no_content (log_entries log.now) ≡ Some raw → IfOk result (λ copy. slot_copy_view copy ≡ parts_of (slot_of_id raw.slots id)) }
     ensures errors { IfErr result (λ e. e ≡ Error.NoMemory) }
 {
     let content = Content::read(alloc, log)?;
@@ -109,7 +109,7 @@ pub(crate) fn copy_at<D: BlockDevice>(
 ) -> Result<SlotCopy, Error>
     requires works { thread.old.failed ≡ false }
     requires there { HasSlot thread.old.kept pair id }
-    ensures copied { IfOk result (λ copy. copied copy ≡ parts_at thread.old.kept pair id) }
+    ensures copied { IfOk result (λ copy. slot_copy_view copy ≡ parts_at thread.old.kept pair id) }
     ensures only { IsOnlyRead thread.old.kept thread.new.kept }
     ensures works { thread.new.failed ≡ false }
     ensures errors { HasReported thread.old.kept thread.new.kept result }
@@ -126,7 +126,7 @@ pub(crate) fn push_slot<'a>(
     name: &'a [u8],
     copy: &'a SlotCopy,
 ) -> Result<(), AllocError>
-    ensures { OnOk result (changes_view changes.new.items ≡ changes_view changes.old.items ++ slot_changes id name.now (copied copy.now)) }
+    ensures { OnOk result (changes_view changes.new.items ≡ changes_view changes.old.items ++ slot_changes id name.now (slot_copy_view copy.now)) }
 {
     changes.push(Change::Create {
         id,
@@ -147,7 +147,7 @@ fn push_attributes<'a>(
     id: u16,
     attributes: &'a [AttributeCopy],
 ) -> Result<(), AllocError>
-    ensures { OnOk result (changes_view changes.new.items ≡ changes_view changes.old.items ++ attribute_changes id (map attribute_copied attributes.now)) }
+    ensures { OnOk result (changes_view changes.new.items ≡ changes_view changes.old.items ++ attribute_changes id (map attribute_copy_view attributes.now)) }
 {
     for attribute in attributes {
         changes.push(Change::Attr {

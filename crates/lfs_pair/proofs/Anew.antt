@@ -15,17 +15,17 @@ use Rattle.lfs_model.proofs.Pages.{page_positive, page_end-below}
 use Rattle.lfs_model.proofs.WrittenAnew.{entries_of-reads}
 use Rattle.lfs_model.proofs.WrittenSizes.{written_size}
 use Rattle.lfs_tag.specs.Builder.{Building, padded_end}
-use Rattle.lfs_pair.specs.Writing.{with_entries, Gets, HoldsLogContent, LeftByCommit, LeftByWriting, LeftInBlock}
+use Rattle.lfs_pair.specs.Writing.{building_with_entries, GetsCommit, HoldsLogContent, LeftByCommit, LeftByWriting, LeftInBlock}
 use Rattle.lfs_pair.proofs.Committed.{Gets-has_commit}
 
 -- the commit, in a buffer of a block
 abbrev pub anew : (size page revision : ℕ) → RawContent → Building
 anew size page revision c = record { page = page; room = size; previous = 0xffffffff; revision = Some revision; entries = written_entries c }
 
-pub is_anew : {b started : Building} {size page revision room paged previous : ℕ} (c : RawContent) → b ≡ with_entries (written_entries c) started
+pub is_anew : {b started : Building} {size page revision room paged previous : ℕ} (c : RawContent) → b ≡ building_with_entries (written_entries c) started
     → started ≡ record { page = paged; room = room; previous = previous; revision = Some revision; entries = [] } → room ≡ size → paged ≡ page → previous ≡ 0xffffffff → b ≡ anew size page revision c
 is_anew {size = size} {page = page} {revision = revision} {room = room} {paged = paged} {previous = previous} c pushed start long pages before =
-    pushed ∙ ap (with_entries (written_entries c)) (start
+    pushed ∙ ap (building_with_entries (written_entries c)) (start
     ∙ ap (λ n. record { page = paged; room = n; previous = previous; revision = Some revision; entries = [] }) long
     ∙ ap (λ n. record { page = n; room = size; previous = previous; revision = Some revision; entries = [] }) pages
     ∙ ap (λ n. record { page = page; room = size; previous = n; revision = Some revision; entries = [] }) before)
@@ -50,9 +50,9 @@ anew_within {size = size} {page} {count} {revision} {c} is valid fits =
 pub fits_sound : {c : RawContent} {size page : ℕ} → IsLogged c → HaveNames c.slots → FitsRaw size page c → IsSoundContent c
 fits_sound logged names fits = record { logged = logged; names = names; few = omega (arith, fits.count) }
 
-pub anew_holds : {b : Building} {size page revision : ℕ} {c : RawContent} {old : List ℕ} (new : List ℕ) → b ≡ anew size page revision c → IsSoundContent c → Gets b old new → HoldsLogContent revision c new
+pub anew_holds : {b : Building} {size page revision : ℕ} {c : RawContent} {old : List ℕ} (new : List ℕ) → b ≡ anew size page revision c → IsSoundContent c → GetsCommit b old new → HoldsLogContent revision c new
 anew_holds {c = c} {old = old} new is sound gets =
-    let got = subst (λ (d : Building). Gets d old new) is gets in
+    let got = subst (λ (d : Building). GetsCommit d old new) is gets in
     record {
       has_commit = Gets-has_commit got;
       revision_is = got.revision;

@@ -14,7 +14,7 @@ use Rattle.lfs_model.specs.Changes.{Change}
 use Rattle.lfs_model.proofs.Histories.{EachSince-behind, erases-reads, programs-reads}
 use Rattle.lfs_pair.specs.declared.pair.Pair.{Pair}
 use Rattle.lfs_pair.specs.Pair.{address_in}
-use Rattle.lfs_pair.specs.Commit.{Commits, CommitFails, IsFull, made_at}
+use Rattle.lfs_pair.specs.Commit.{Commits, CommitFails, RefusesCommit, made_at}
 use Rattle.lfs_pair.specs.Fresh.{ClearsLogs}
 use Rattle.lfs_pair.specs.Split.{Splits}
 use Rattle.lfs_pair.proofs.Calls.{reads_none, reads_trans}
@@ -54,7 +54,7 @@ commits_behind {disk = disk} {new = new} {before = before} {mid = mid} {history 
       };
     })
 
-pub full_behind : {D : Type 0} {g : Ghosts D} {changes : List Change} {old mid new : D} {was now : Pair} → ReadsOnly g old mid → IsFull g changes mid new was now → IsFull g changes old new was now
+pub full_behind : {D : Type 0} {g : Ghosts D} {changes : List Change} {old mid new : D} {was now : Pair} → ReadsOnly g old mid → RefusesCommit g changes mid new was now → RefusesCommit g changes old new was now
 full_behind {g = g} {changes = changes} {was = was} reads is = record {
   full = λ c made fits. is.full c (ap₂ (λ k b. made_at (disk_of k b) (address_in was) changes) reads.geometry reads.same ∙ made) (subst (λ (k : Geometry). FitsRaw k.block_size k.page c) (sym reads.geometry) fits);
   completed = λ c d made whole fits. is.completed c d (ap₂ (λ k b. made_at (disk_of k b) (address_in was) changes) reads.geometry reads.same ∙ made) whole (subst (λ (k : Geometry). FitsPair k.block_size k.page d) (sym reads.geometry) fits);
@@ -96,7 +96,7 @@ splits_behind {new = new} {before = before} {history = history} {changes = chang
 
 -- what the changes make doesn't fit, and nothing was called
 pub is_full : {D : Type 0} {g : Ghosts D} {changes : List Change} {d : D} {was : Pair} {c : RawContent} → made_at (disk_of (g.geometry d) (g.blocks d)) (address_in was) changes ≡ Some c → IsLogged c
-    → (FitsRaw (g.geometry d).block_size (g.geometry d).page c → ⊥) → IsFull g changes d d was was
+    → (FitsRaw (g.geometry d).block_size (g.geometry d).page c → ⊥) → RefusesCommit g changes d d was was
 is_full {g = g} {d = d} {c = c} made logged full = record {
   full = λ n is fits. full (subst (FitsRaw (g.geometry d).block_size (g.geometry d).page) (sym (some_same (sym made ∙ is))) fits);
   completed = λ n e is whole fits. full (fits_raw (g.geometry d).block_size (g.geometry d).page c e logged (ap completed (some_same (sym made ∙ is)) ∙ whole) fits);

@@ -6,7 +6,7 @@ use Rattle.std.proofs.lemmas.Bool.{lt-ltb, ltb-true}
 use Rattle.lfs_model.specs.Blocks.{Blocks, SameBut, block_in}
 use Rattle.lfs_model.specs.Disk.{Disk, block_at}
 use Rattle.lfs_model.specs.Log.{LogEntry, chain_of, revision_of, log_entries}
-use Rattle.lfs_model.specs.View.{BeginsWith}
+use Rattle.lfs_model.specs.View.{BeginsWithEntry}
 use Rattle.lfs_model.specs.WrittenContent.{FitsRaw, written_entries}
 use Rattle.lfs_model.specs.LoggedContent.{IsLogged}
 use Rattle.std.proofs.lemmas.List.Concat.{flat_map-append}
@@ -18,12 +18,12 @@ use Rattle.lfs_model.proofs.Histories.{StayUnprogrammed-wider}
 use Rattle.lfs_model.proofs.Overwrites.{SameButThese-refl}
 use Rattle.lfs_model.proofs.Commits.{has_commit-end, chain_ends}
 use Rattle.std.specs.Option.{option_and_then}
-use Rattle.lfs_tag.specs.Builder.{Building, earlier}
+use Rattle.lfs_tag.specs.Builder.{Building, commits_before}
 use Rattle.lfs_model.specs.History.{Event, AllUnprogrammed, StayUnprogrammed}
 use Rattle.lfs_pair.specs.declared.pair.Pair.{Pair}
-use Rattle.lfs_pair.specs.Pair.{EndsWith, IsPair, SumsUp, second_holds, active_at, address_in, other_in}
-use Rattle.lfs_pair.specs.Writing.{Gets, HoldsLogContent, IsWritten, LeftByCommit, LeftByWriting, LeftInBlock}
-use Rattle.lfs_pair.specs.Commit.{IsActive, IsAddressOn, IsMade, IsNow, IsStill, KeepsFirst, LeftByChange, LeftWith, NowHolds, OutsideStays, made_of, made_in, made_at}
+use Rattle.lfs_pair.specs.Pair.{EndsWith, IsPair, IsHeaderOf, second_holds, active_at, address_in, other_in}
+use Rattle.lfs_pair.specs.Writing.{GetsCommit, HoldsLogContent, IsWritten, LeftByCommit, LeftByWriting, LeftInBlock}
+use Rattle.lfs_pair.specs.Commit.{IsActive, IsAddressOn, HasChangesMade, HasNewContent, HasSameContent, KeepsFirst, LeftByChange, LeftWith, PairHolds, OutsideStays, made_of, made_in, made_at}
 use Rattle.lfs_pair.proofs.SameLogs.{entries_same}
 use Rattle.lfs_pair.proofs.TwoBlocks.{active_block, Sides, Stays, sides, raw_is, still_active, other_active, stays_same, stays_log, weaker_same, weaker_log, weaker_none, active_is, other_is, outside_one, sides_apart, below_count}
 
@@ -39,18 +39,18 @@ changed_content held new changes h = go (list_all is_storable changes) refl
 -- ---- a commit behind others
 
 pub gets_content : (b : Building) (held new : RawContent) (old left : List ℕ) → b.revision ≡ None
-    → content_after_all no_content (log_entries old) ≡ Some held → content_after_all held b.entries ≡ Some new → Gets b old left
+    → content_after_all no_content (log_entries old) ≡ Some held → content_after_all held b.entries ≡ Some new → GetsCommit b old left
     → content_after_all no_content (log_entries left) ≡ Some new
 gets_content b held new old left none so_far more gets =
-    appended_content left (earlier b.revision old) b.entries gets.checksum held new gets.commits gets.class
-    (ap (λ r. content_after_all no_content (flat_map (λ c. c) (earlier r old))) none ∙ so_far) more
+    appended_content left (commits_before b.revision old) b.entries gets.checksum held new gets.commits gets.class
+    (ap (λ r. content_after_all no_content (flat_map (λ c. c) (commits_before r old))) none ∙ so_far) more
 
-pub gets_commit : (b : Building) (old left : List ℕ) → Gets b old left → has_commit left ≡ true
+pub gets_commit : (b : Building) (old left : List ℕ) → GetsCommit b old left → has_commit left ≡ true
 gets_commit b old left gets =
     ap (λ (cs : List (List LogEntry)). nat_lt 0 (length cs)) gets.commits
-    ∙ lt-ltb 0 (length (earlier b.revision old ++ (b.entries ++ gets.checksum ∷ []) ∷ [])) (omega (arith, length-append (earlier b.revision old) ((b.entries ++ gets.checksum ∷ []) ∷ [])))
+    ∙ lt-ltb 0 (length (commits_before b.revision old ++ (b.entries ++ gets.checksum ∷ []) ∷ [])) (omega (arith, length-append (commits_before b.revision old) ((b.entries ++ gets.checksum ∷ []) ∷ [])))
 
-pub gets_stays : (b : Building) (old left : List ℕ) → b.revision ≡ None → has_commit old ≡ true → Gets b old left → Stays old left
+pub gets_stays : (b : Building) (old left : List ℕ) → b.revision ≡ None → has_commit old ≡ true → GetsCommit b old left → Stays old left
 gets_stays b old left none had gets = record {
   had = had;
   has = gets_commit b old left gets;
@@ -70,20 +70,20 @@ holder_in disk at active is has =
     holder_is (block_at disk at.0) (block_at disk at.1) (sym (ap has_commit same) ∙ has) ∙ ap Some (sym same)
 
 begins_by : (old disk : Disk) (at : ℕ × ℕ) (active now : ℕ) (e : LogEntry) → active ≡ active_at old at → has_commit (block_at old active) ≡ true → now ≡ active_at disk at → has_commit (block_at disk now) ≡ true
-    → (slice_get (log_entries (block_at old active)) 0 ≡ Some e → slice_get (log_entries (block_at disk now)) 0 ≡ Some e) → BeginsWith (holder_at old at) e → BeginsWith (holder_at disk at) e
+    → (slice_get (log_entries (block_at old active)) 0 ≡ Some e → slice_get (log_entries (block_at disk now)) 0 ≡ Some e) → BeginsWithEntry (holder_at old at) e → BeginsWithEntry (holder_at disk at) e
 begins_by old disk at active now e is had now_is has f h =
-    subst (λ o. BeginsWith o e) (sym (holder_in disk at now now_is has)) (f (subst (λ o. BeginsWith o e) (holder_in old at active is had) h))
+    subst (λ o. BeginsWithEntry o e) (sym (holder_in disk at now now_is has)) (f (subst (λ o. BeginsWithEntry o e) (holder_in old at active is had) h))
 
 first_of : (xs ys : List LogEntry) (e : LogEntry) → slice_get xs 0 ≡ Some e → slice_get (xs ++ ys) 0 ≡ Some e
 first_of [] ys e h = absurd (cc)
 first_of (x ∷ xs) ys e h = h
 
-gets_first : (b : Building) (old left : List ℕ) (e : LogEntry) → b.revision ≡ None → Gets b old left → slice_get (log_entries old) 0 ≡ Some e → slice_get (log_entries left) 0 ≡ Some e
+gets_first : (b : Building) (old left : List ℕ) (e : LogEntry) → b.revision ≡ None → GetsCommit b old left → slice_get (log_entries old) 0 ≡ Some e → slice_get (log_entries left) 0 ≡ Some e
 gets_first b old left e none gets h =
     ap (λ (cs : List (List LogEntry)). slice_get (flat_map (λ c. c) cs) 0) gets.commits
-    ∙ ap (λ (es : List LogEntry). slice_get es 0) (flat_map-append (λ (c : List LogEntry). c) (earlier b.revision old) ((b.entries ++ gets.checksum ∷ []) ∷ []))
-    ∙ first_of (flat_map (λ c. c) (earlier b.revision old)) (flat_map (λ c. c) ((b.entries ++ gets.checksum ∷ []) ∷ [])) e
-    (ap (λ r. slice_get (flat_map (λ c. c) (earlier r old)) 0) none ∙ h)
+    ∙ ap (λ (es : List LogEntry). slice_get es 0) (flat_map-append (λ (c : List LogEntry). c) (commits_before b.revision old) ((b.entries ++ gets.checksum ∷ []) ∷ []))
+    ∙ first_of (flat_map (λ c. c) (commits_before b.revision old)) (flat_map (λ c. c) ((b.entries ++ gets.checksum ∷ []) ∷ [])) e
+    (ap (λ r. slice_get (flat_map (λ c. c) (commits_before r old)) 0) none ∙ h)
 
 holds_first : (revision : ℕ) (c : RawContent) (block : List ℕ) (e : LogEntry) → HoldsLogContent revision c block → slice_get (written_entries c) 0 ≡ Some e → slice_get (log_entries block) 0 ≡ Some e
 holds_first revision c block e holds h =
@@ -115,7 +115,7 @@ pub raw_in : (disk : Disk) (at : ℕ × ℕ) (active : ℕ) (c : RawContent) →
 raw_in disk at active c h = raw_is disk at active h.active_is h.has ∙ h.content
 
 pub appended : (disk : Disk) (at : ℕ × ℕ) (active other : ℕ) (held new : RawContent) (b : Building) (left : Blocks) → IsAppending disk at active other held new b
-    → SameBut active disk.blocks left → Gets b (block_at disk active) (block_in left active) → IsIn (record disk { blocks = left }) at active new
+    → SameBut active disk.blocks left → GetsCommit b (block_at disk active) (block_in left active) → IsIn (record disk { blocks = left }) at active new
 appended disk at active other held new b left a same gets = record {
   active_is = appended_active disk at active other held new b left a same (gets_stays b (block_at disk active) (block_in left active) a.no_revision a.had gets);
   has = gets_commit b (block_at disk active) (block_in left active) gets;
@@ -123,7 +123,7 @@ appended disk at active other held new b left a same gets = record {
 }
 
 pub appended_first : (disk : Disk) (at : ℕ × ℕ) (active other : ℕ) (held new : RawContent) (b : Building) (content : Option RawContent) (left : Blocks) → IsAppending disk at active other held new b
-    → SameBut active disk.blocks left → Gets b (block_at disk active) (block_in left active) → KeepsFirst disk at content (record disk { blocks = left })
+    → SameBut active disk.blocks left → GetsCommit b (block_at disk active) (block_in left active) → KeepsFirst disk at content (record disk { blocks = left })
 appended_first disk at active other held new b content left a same gets e begins anew =
     let there = appended disk at active other held new b left a same gets in
     begins_by disk (record disk { blocks = left }) at active active e a.is a.had there.active_is there.has (gets_first b (block_at disk active) (block_in left active) e a.no_revision gets) begins
@@ -135,7 +135,7 @@ left_by_append disk at active other held new b end left a is (same, which) = rec
   content = go which;
 }
   where
-    go : LeftByCommit b end (block_at disk active) (block_in left active) → IsStill disk at (record disk { blocks = left }) ⊎ IsNow disk at new (record disk { blocks = left })
+    go : LeftByCommit b end (block_at disk active) (block_in left active) → HasSameContent disk at (record disk { blocks = left }) ⊎ HasNewContent disk at new (record disk { blocks = left })
     go (inl log) =
         let stays = stays_log (block_at disk active) (block_in left active) a.had log in
         let still = appended_active disk at active other held new b left a same stays in
@@ -189,7 +189,7 @@ left_by_compaction disk at active other revision new left k (same, which) = reco
     stays : block_in left active ≡ block_at disk active
     stays = same.others active k.apart
 
-    before : (active ≡ active_at (record disk { blocks = left }) at) → IsStill disk at (record disk { blocks = left })
+    before : (active ≡ active_at (record disk { blocks = left }) at) → HasSameContent disk at (record disk { blocks = left })
     before still = record {
       content = raw_is (record disk { blocks = left }) at active still (ap has_commit stays ∙ k.had)
           ∙ ap (λ x. content_after_all no_content (log_entries x)) stays ∙ sym (raw_is disk at active k.is k.had);
@@ -197,7 +197,7 @@ left_by_compaction disk at active other revision new left k (same, which) = reco
           (λ was. ap (λ x. slice_get (log_entries x) 0) stays ∙ was) h;
     }
 
-    go : LeftByWriting revision new (block_at disk other) (block_in left other) → IsStill disk at (record disk { blocks = left }) ⊎ IsNow disk at new (record disk { blocks = left })
+    go : LeftByWriting revision new (block_at disk other) (block_in left other) → HasSameContent disk at (record disk { blocks = left }) ⊎ HasNewContent disk at new (record disk { blocks = left })
     go (inl log) =
         inl (before (still_active disk at active other left k.sides (stays_same (block_at disk active) (block_in left active) k.had stays) (weaker_log (block_at disk other) (block_in left other) log)))
     go (inr (inl none)) =
@@ -228,7 +228,7 @@ is_active disk history pair held is = record { active = is.active; holds = is.ho
 -- a pair that was just written
 pub now_holds : (disk : Disk) (history : List Event) (at : ℕ × ℕ) (pair : Pair) (active : ℕ) (c : RawContent) → IsIn disk at active c
     → address_in pair ≡ at → pair.active ≡ active → pair.is_fetched ≡ false → pair.revision ≡ revision_of (block_at disk active)
-    → {end last : ℕ} → EndsWith end last pair → IsWritten disk history active end last → SumsUp c pair → IsLogged c → NowHolds disk history at pair c
+    → {end last : ℕ} → EndsWith end last pair → IsWritten disk history active end last → IsHeaderOf c pair → IsLogged c → PairHolds disk history at pair c
 now_holds disk history at pair active c in_block same is fetched revision ends written sums logged = record {
   is_pair = record {
     active = is ∙ in_block.active_is ∙ ap (active_at disk) (sym same);
@@ -291,7 +291,7 @@ active_below disk history pair held block_count on is count =
 pub some_same : {c d : RawContent} → Some c ≡ Some d → c ≡ d
 some_same e = cc
 
-pub gets_revision : (b : Building) (old left : List ℕ) → b.revision ≡ None → Gets b old left → revision_of left ≡ revision_of old
+pub gets_revision : (b : Building) (old left : List ℕ) → b.revision ≡ None → GetsCommit b old left → revision_of left ≡ revision_of old
 gets_revision b old left none gets = gets.revision ∙ ap (λ r. unwrap_or r (revision_of old)) none
 
 only : (other b k d : ℕ) → k < length (b ∷ []) → b ≢ other → get_or (b ∷ []) k d ≢ other
@@ -325,7 +325,7 @@ pub left_by_change : (disk : Disk) (at : ℕ × ℕ) (changes : List Change) (ne
     → LeftWith disk at new left → LeftByChange disk at changes left
 left_by_change disk at changes new left made fits logged l = record { others = l.others; content = go l.content }
   where
-    go : IsStill disk at (record disk { blocks = left }) ⊎ IsNow disk at new (record disk { blocks = left }) → IsStill disk at (record disk { blocks = left }) ⊎ IsMade disk at changes (record disk { blocks = left })
+    go : HasSameContent disk at (record disk { blocks = left }) ⊎ HasNewContent disk at new (record disk { blocks = left }) → HasSameContent disk at (record disk { blocks = left }) ⊎ HasChangesMade disk at changes (record disk { blocks = left })
     go (inl still) = inl still
     go (inr now) = inr (record { new = new; made = made; fits = fits; logged = logged; now = now })
 

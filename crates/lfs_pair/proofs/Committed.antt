@@ -4,19 +4,19 @@ use Rattle.std.proofs.lemmas.Bool.{lt-ltb}
 use Rattle.lfs_model.specs.Blocks.{Blocks, block_in, overwritten, SameBut}
 use Rattle.lfs_model.specs.Log.{LogEntry, chain_of}
 use Rattle.lfs_model.specs.Content.{has_commit}
-use Rattle.lfs_model.specs.Commit.{next_at}
+use Rattle.lfs_model.specs.Commit.{next_four_bytes}
 use Rattle.lfs_model.specs.Stops.{SameLog, LeftByProgram}
-use Rattle.lfs_tag.specs.Builder.{Building, AreCommitted, GoesTo, earlier, padded_end, checksum_entry}
-use Rattle.lfs_pair.specs.Writing.{Gets, LeftByCommit, LeftInBlock}
+use Rattle.lfs_tag.specs.Builder.{Building, AreCommitted, CommitIsAt, commits_before, padded_end, checksum_entry}
+use Rattle.lfs_pair.specs.Writing.{GetsCommit, LeftByCommit, LeftInBlock}
 use Rattle.lfs_pair.proofs.SameLogs.{commits_same, revision_same}
 
 -- a block that got a commit has one
-pub Gets-has_commit : {b : Building} {old new : List ℕ} → Gets b old new → has_commit new ≡ true
+pub Gets-has_commit : {b : Building} {old new : List ℕ} → GetsCommit b old new → has_commit new ≡ true
 Gets-has_commit {b} {old} {new} gets =
     lt-ltb 0 (length (chain_of new).commits)
-    (omega (arith, ap (λ (cs : List (List LogEntry)). length cs) gets.commits, length-append (earlier b.revision old) ((b.entries ++ gets.checksum ∷ []) ∷ [])))
+    (omega (arith, ap (λ (cs : List (List LogEntry)). length cs) gets.commits, length-append (commits_before b.revision old) ((b.entries ++ gets.checksum ∷ []) ∷ [])))
 
-pub Gets-same : {b : Building} {old new : List ℕ} (left : List ℕ) → Gets b old new → SameLog left new → Gets b old left
+pub Gets-same : {b : Building} {old new : List ℕ} (left : List ℕ) → GetsCommit b old new → SameLog left new → GetsCommit b old left
 Gets-same {b} {old} {new} left gets same = record {
   checksum = gets.checksum;
   class = gets.class;
@@ -27,20 +27,20 @@ Gets-same {b} {old} {new} left gets same = record {
 -- the block has room for the pages, they go there, and it has these bytes behind them
 pub record GoInto (b : Building) (next : Option (List ℕ)) (pages : List ℕ) (at : ℕ) (block : List ℕ) : Type 0 where
   pub commit : AreCommitted b next pages
-  pub goes : GoesTo b.revision b.previous block at
+  pub goes : CommitIsAt b.revision b.previous block at
   pub room : at + length pages ≤ length block
-  pub behind : next_at block (at + length pages) ≡ next
+  pub behind : next_four_bytes block (at + length pages) ≡ next
 
-pub goes_into : {b : Building} {next : Option (List ℕ)} {pages : List ℕ} {at size end : ℕ} {block : List ℕ} → AreCommitted b next pages → length pages ≡ padded_end b → GoesTo b.revision b.previous block at
-    → length block ≡ size → at + padded_end b ≤ size → end ≡ at + padded_end b → next ≡ next_at block end → GoInto b next pages at block
+pub goes_into : {b : Building} {next : Option (List ℕ)} {pages : List ℕ} {at size end : ℕ} {block : List ℕ} → AreCommitted b next pages → length pages ≡ padded_end b → CommitIsAt b.revision b.previous block at
+    → length block ≡ size → at + padded_end b ≤ size → end ≡ at + padded_end b → next ≡ next_four_bytes block end → GoInto b next pages at block
 goes_into {b} {pages = pages} {at = at} {block = block} commit long goes whole ends is next = record {
   commit = commit;
   goes = goes;
   room = omega arith;
-  behind = ap (λ n. next_at block (at + n)) long ∙ ap (next_at block) (sym is) ∙ sym next;
+  behind = ap (λ n. next_four_bytes block (at + n)) long ∙ ap (next_four_bytes block) (sym is) ∙ sym next;
 }
 
-pub gets_commit : {b : Building} {next : Option (List ℕ)} {pages : List ℕ} {at : ℕ} {block : List ℕ} → GoInto b next pages at block → Gets b block (overwritten block at pages)
+pub gets_commit : {b : Building} {next : Option (List ℕ)} {pages : List ℕ} {at : ℕ} {block : List ℕ} → GoInto b next pages at block → GetsCommit b block (overwritten block at pages)
 gets_commit {b} {next} {pages} {at} {block} into = record {
   checksum = checksum_entry b next pages;
   class = into.commit.class;

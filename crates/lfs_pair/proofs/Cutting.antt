@@ -6,7 +6,7 @@ use Rattle.std.proofs.lemmas.List.Sums.{sum_by-cons, sum_by-take-drop, sum_by-ta
 use Rattle.lfs_model.specs.Disk.{pair_capacity, slot_limit}
 use Rattle.lfs_model.specs.Content.{RawSlot}
 use Rattle.lfs_model.specs.WrittenContent.{raw_slot_size}
-use Rattle.lfs_pair.specs.Cut.{FitSlots, IsCut, CanBeCut, IsMiddle}
+use Rattle.lfs_pair.specs.Cut.{FitSlots, IsCutOfSlots, CanBeCut, IsMiddle}
 
 -- a longer front is no smaller
 front_grows : {X : Type 0} (f : X → ℕ) (xs : List X) (a b : ℕ) → a ≤ b → sum_by f (take a xs) ≤ sum_by f (take b xs)
@@ -20,7 +20,7 @@ total_small : (block_size page : ℕ) (slots : List RawSlot) → CanBeCut block_
 total_small block_size page slots can = omega (arith, sum_by-take-drop raw_slot_size slots can.cut, can.is_cut.front.size, can.is_cut.back.size)
 
 -- behind a longer front the back fits too
-cut_after : (block_size page : ℕ) (slots : List RawSlot) (first cut : ℕ) → IsCut block_size page slots first → first ≤ cut → cut ≤ length slots → FitSlots block_size page (take cut slots) → IsCut block_size page slots cut
+cut_after : (block_size page : ℕ) (slots : List RawSlot) (first cut : ℕ) → IsCutOfSlots block_size page slots first → first ≤ cut → cut ≤ length slots → FitSlots block_size page (take cut slots) → IsCutOfSlots block_size page slots cut
 cut_after block_size page slots first cut is before within fits =
     let less = front_grows raw_slot_size slots first cut before in
     record {
@@ -33,7 +33,7 @@ cut_after block_size page slots first cut is before within fits =
     }
 
 -- where a longer front doesn't fit, no cut is later
-not_later : (block_size page : ℕ) (slots : List RawSlot) (cut k : ℕ) → (cut + 1 ≤ slot_limit → sum_by raw_slot_size (take (cut + 1) slots) ≤ pair_capacity block_size page → ⊥) → IsCut block_size page slots k → k ≤ cut
+not_later : (block_size page : ℕ) (slots : List RawSlot) (cut k : ℕ) → (cut + 1 ≤ slot_limit → sum_by raw_slot_size (take (cut + 1) slots) ≤ pair_capacity block_size page → ⊥) → IsCutOfSlots block_size page slots k → k ≤ cut
 not_later block_size page slots cut k full is = elim (cases_lt cut k) [
   | inl later ↦ absurd (full (omega (arith, length-take-le k slots is.within, is.front.count)) (omega (arith, front_grows raw_slot_size slots (cut + 1) k (omega arith), is.front.size)))
   | inr le ↦ le
@@ -41,7 +41,7 @@ not_later block_size page slots cut k full is = elim (cases_lt cut k) [
 
 -- an earlier cut was passed over, since more may stand in front
 abbrev pub Passes : ℕ → ℕ → List RawSlot → ℕ → Type 0
-Passes block_size page slots cut = (k : ℕ) → k < cut → IsCut block_size page slots k → 2 * sum_by raw_slot_size (take cut slots) ≤ sum_by raw_slot_size slots
+Passes block_size page slots cut = (k : ℕ) → k < cut → IsCutOfSlots block_size page slots k → 2 * sum_by raw_slot_size (take cut slots) ≤ sum_by raw_slot_size slots
 
 -- the slots that may stand in front before the cut
 pub record Fronts (block_size page : ℕ) (slots : List RawSlot) (cut : ℕ) : Type 0 where

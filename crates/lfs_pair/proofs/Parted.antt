@@ -20,12 +20,12 @@ use Rattle.lfs_model.proofs.Overwrites.{SameButThese-refl, SameButThese-trans, S
 use Rattle.lfs_model.proofs.Staying.{AreElsewhere, holder_at-stays, raw_at-stays}
 use Rattle.lfs_pair.specs.declared.pair.Pair.{Pair}
 use Rattle.lfs_pair.specs.Pair.{address_in}
-use Rattle.lfs_model.specs.View.{BeginsWith}
-use Rattle.lfs_pair.specs.Commit.{IsNow, IsStill, KeepsFirst, LeftWith, OutsideKeeps, made_in, made_at}
-use Rattle.lfs_pair.specs.Cut.{IsCut}
+use Rattle.lfs_model.specs.View.{BeginsWithEntry}
+use Rattle.lfs_pair.specs.Commit.{HasNewContent, HasSameContent, KeepsFirst, LeftWith, OutsideKeeps, made_in, made_at}
+use Rattle.lfs_pair.specs.Cut.{IsCutOfSlots}
 use Rattle.lfs_pair.specs.Fresh.{ClearsLogs}
 use Rattle.lfs_pair.specs.Writing.{HoldsAnew}
-use Rattle.lfs_pair.specs.Split.{AreApart, AreParts, CanSplit, IsInside, LeftBySplit, OutsideBothKeeps}
+use Rattle.lfs_pair.specs.Split.{AreApart, AreParts, CanSplit, CutsInside, LeftBySplit, OutsideBothKeeps}
 use Rattle.lfs_pair.proofs.Stay.{IsPair-reads}
 use Rattle.lfs_pair.proofs.Changed.{made_here, made_is, some_same}
 
@@ -118,10 +118,10 @@ back_ready {block_size} {page} {whole} parts logged names =
     })
 
 -- where the whole doesn't fit, neither part is empty
-pub cut_inside : {block_size page cut : ℕ} {whole : RawContent} → IsCut block_size page whole.slots cut → IsInside block_size page whole cut
+pub cut_inside : {block_size page cut : ℕ} {whole : RawContent} → IsCutOfSlots block_size page whole.slots cut → CutsInside block_size page whole cut
 cut_inside {block_size} {page} {cut} {whole} is full = (front cut is, back)
   where
-    front : (k : ℕ) → IsCut block_size page whole.slots k → 0 < k
+    front : (k : ℕ) → IsCutOfSlots block_size page whole.slots k → 0 < k
     front zero none = absurd (full (record { size = none.back.size; count = none.back.count }))
     front (suc k) some = omega arith
 
@@ -191,14 +191,14 @@ CanSplit-reads reads can =
 pub left_before : (old : Disk) (at fresh : ℕ × ℕ) (changes : List Change) → LeftBySplit old at fresh changes old.blocks
 left_before old at fresh changes = record { others = SameButThese-refl (at.0 ∷ at.1 ∷ fresh.0 ∷ fresh.1 ∷ []) old.blocks; content = inl (record { content = refl; first = λ e h. h }) }
 
-still_elsewhere : (old : Disk) (at fresh : ℕ × ℕ) (left : Blocks) → AreApart at fresh → OutsideKeeps fresh old.blocks left → IsStill old at (record old { blocks = left })
+still_elsewhere : (old : Disk) (at fresh : ℕ × ℕ) (left : Blocks) → AreApart at fresh → OutsideKeeps fresh old.blocks left → HasSameContent old at (record old { blocks = left })
 still_elsewhere old at fresh left apart same = record {
   content = raw_at-stays old (pair_elsewhere apart) same;
-  first = λ e h. subst (λ o. BeginsWith o e) (sym (holder_at-stays old (pair_elsewhere apart) same)) h;
+  first = λ e h. subst (λ o. BeginsWithEntry o e) (sym (holder_at-stays old (pair_elsewhere apart) same)) h;
 }
 
-pub first_while_fresh : (old : Disk) (at fresh : ℕ × ℕ) (left : Blocks) → AreApart at fresh → OutsideKeeps fresh old.blocks left → (e : LogEntry) → BeginsWith (holder_at old at) e
-    → BeginsWith (holder_at (record old { blocks = left }) at) e
+pub first_while_fresh : (old : Disk) (at fresh : ℕ × ℕ) (left : Blocks) → AreApart at fresh → OutsideKeeps fresh old.blocks left → (e : LogEntry) → BeginsWithEntry (holder_at old at) e
+    → BeginsWithEntry (holder_at (record old { blocks = left }) at) e
 first_while_fresh old at fresh left apart same = (still_elsewhere old at fresh left apart same).first
 
 -- the first entry stays where the fresh pair was written first
@@ -226,7 +226,7 @@ left_while_old old at fresh changes mid left {whole} {front} apart same made log
       cut = parts.cut;
       is_cut = parts.is_cut;
       inside = cut_inside parts.is_cut;
-      front = subst (λ c. IsNow old at c (record old { blocks = left })) parts.front_is (record { content = is.content; first = first_behind old at fresh mid left front apart same is.first });
+      front = subst (λ c. HasNewContent old at c (record old { blocks = left })) parts.front_is (record { content = is.content; first = first_behind old at fresh mid left front apart same is.first });
       back = raw_at-stays (record old { blocks = mid }) (fresh_elsewhere apart) stopped.others ∙ held ∙ ap Some parts.back_is;
     })
   ];

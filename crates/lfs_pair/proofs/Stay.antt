@@ -9,8 +9,8 @@ use Rattle.lfs_model.specs.Content.{RawContent}
 use Rattle.lfs_model.proofs.Histories.{AllUnprogrammed-reads, AllUnprogrammed-stays}
 use Rattle.lfs_model.proofs.Staying.{AreElsewhere, holder_at-stays, raw_at-stays}
 use Rattle.lfs_pair.specs.declared.pair.Pair.{Pair}
-use Rattle.lfs_pair.specs.Pair.{IsPair, Describes, second_holds, active_at, address_in}
-use Rattle.lfs_pair.specs.Commit.{IsActive, NowHolds}
+use Rattle.lfs_pair.specs.Pair.{IsPair, DescribesLog, second_holds, active_at, address_in}
+use Rattle.lfs_pair.specs.Commit.{IsActive, PairHolds}
 
 -- ---- on the disk
 
@@ -47,14 +47,14 @@ IsPair-stays {disk = disk} {pair = pair} {held} elsewhere same stay is =
     record {
       active = is.active ∙ sym (active_at-stays disk elsewhere same);
       holds = holder_at-stays disk elsewhere same ∙ is.holds ∙ ap Some (sym block);
-      describes = subst (λ b. Describes b pair held) (sym block) is.describes;
+      describes = subst (λ b. DescribesLog b pair held) (sym block) is.describes;
       whole_pages = is.whole_pages;
       unprogrammed = λ written. AllUnprogrammed-stays pair.active stay apart (is.unprogrammed written);
     }
 
 -- a pair's address is that of its blocks
 pub NowHolds-stays : {at : ℕ × ℕ} {bs : List ℕ} {disk : Disk} {blocks : Blocks} {before after : List Event} {pair : Pair} {held : RawContent}
-    → AreElsewhere at bs → SameButThese bs disk.blocks blocks → StayUnprogrammed bs before after → NowHolds disk before at pair held → NowHolds (record disk { blocks = blocks }) after at pair held
+    → AreElsewhere at bs → SameButThese bs disk.blocks blocks → StayUnprogrammed bs before after → PairHolds disk before at pair held → PairHolds (record disk { blocks = blocks }) after at pair held
 NowHolds-stays {bs = bs} {disk = disk} elsewhere same stay holds = record {
   is_pair = IsPair-stays (subst (λ a. AreElsewhere a bs) (sym holds.same) elsewhere) same stay holds.is_pair;
   same = holds.same;

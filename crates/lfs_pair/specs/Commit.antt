@@ -13,7 +13,7 @@ use Rattle.lfs_model.specs.Log.{LogEntry, chain_of, log_entries, revision_of}
 use Rattle.lfs_model.specs.LoggedContent.{HaveNames, IsLogged}
 use Rattle.lfs_model.specs.Slots.{Content, FitsPair}
 use Rattle.lfs_model.specs.Content.{RawContent, completed, holder_at, raw_at, content_after_all, no_content}
-use Rattle.lfs_model.specs.View.{BeginsWith}
+use Rattle.lfs_model.specs.View.{BeginsWithEntry}
 use Rattle.lfs_model.specs.Changes.{Change, changed_by, entries_of_changes}
 use Rattle.lfs_model.specs.Commit.{entries_size, page_end}
 use Rattle.lfs_model.specs.WrittenContent.{FitsRaw, written_entries}
@@ -30,15 +30,15 @@ BeginsAnew (Some c) e = slice_get (written_entries c) 0 ≡ Some e
 -- if the log at the address began with an entry, and so does the new content written anew, then the log on the new disk begins
 -- with it
 abbrev pub KeepsFirst : Disk → ℕ × ℕ → Option RawContent → Disk → Type 0
-KeepsFirst old at new disk = (e : LogEntry) → BeginsWith (holder_at old at) e → BeginsAnew new e → BeginsWith (holder_at disk at) e
+KeepsFirst old at new disk = (e : LogEntry) → BeginsWithEntry (holder_at old at) e → BeginsAnew new e → BeginsWithEntry (holder_at disk at) e
 
 -- the pair has the content that it had, and its log still begins with the same entry
-pub record IsStill (old : Disk) (at : ℕ × ℕ) (disk : Disk) : Type 0 where
+pub record HasSameContent (old : Disk) (at : ℕ × ℕ) (disk : Disk) : Type 0 where
   pub content : raw_at disk at ≡ raw_at old at
-  pub first : (e : LogEntry) → BeginsWith (holder_at old at) e → BeginsWith (holder_at disk at) e
+  pub first : (e : LogEntry) → BeginsWithEntry (holder_at old at) e → BeginsWithEntry (holder_at disk at) e
 
 -- the pair has the new content
-pub record IsNow (old : Disk) (at : ℕ × ℕ) (new : RawContent) (disk : Disk) : Type 0 where
+pub record HasNewContent (old : Disk) (at : ℕ × ℕ) (new : RawContent) (disk : Disk) : Type 0 where
   pub content : raw_at disk at ≡ Some new
   pub first : KeepsFirst old at (Some new) disk
 
@@ -74,7 +74,7 @@ pub record IsActive (disk : Disk) (pair : Pair) : Type 0 where
   pub revision_is : pair.revision ≡ revision_of (block_at disk pair.active)
 
 -- the pair at the address has that content, and its active block was written since the last fetch
-pub record NowHolds (disk : Disk) (history : List Event) (at : ℕ × ℕ) (pair : Pair) (held : RawContent) : Type 0 where
+pub record PairHolds (disk : Disk) (history : List Event) (at : ℕ × ℕ) (pair : Pair) (held : RawContent) : Type 0 where
   pub is_pair : IsPair disk history pair held
   pub same : address_in pair ≡ at
   pub content : raw_at disk at ≡ Some held
@@ -111,7 +111,7 @@ pub record IsCompacted (page : ℕ) (was : Pair) (c : RawContent) (old new : Blo
 
 -- The changes could be appended, and they were: the pair has the new content, and its log begins as before.
 pub record AppendsNow (old : Disk) (before : List Event) (was : Pair) (changes : List Change) (c : RawContent) (disk : Disk) (history : List Event) (pair : Pair) : Type 0 where
-  pub holds : NowHolds disk history (address_in was) pair c
+  pub holds : PairHolds disk history (address_in was) pair c
   pub first : KeepsFirst old (address_in was) (Some c) disk
   pub appends : Appends old was changes
   pub appended : IsAppended old.page was changes old.blocks disk.blocks before history pair
@@ -124,7 +124,7 @@ pub record HasNoRoom {D : Type 0} (g : Ghosts D) (changes : List Change) (old ne
 
 -- The content was written anew: the pair has it, and its log begins as before.
 pub record CompactsNow (old : Disk) (before : List Event) (was : Pair) (c : RawContent) (disk : Disk) (history : List Event) (pair : Pair) : Type 0 where
-  pub holds : NowHolds disk history (address_in was) pair c
+  pub holds : PairHolds disk history (address_in was) pair c
   pub first : KeepsFirst old (address_in was) (Some c) disk
   pub compacted : IsCompacted old.page was c old.blocks disk.blocks before history pair
 
@@ -135,14 +135,14 @@ pub record Commits (old : Disk) (before : List Event) (changes : List Change) (w
   pub made : made_at old (address_in was) changes ≡ Some new
   pub fits : FitsRaw old.block_size old.page new
   pub logged : IsLogged new
-  pub holds : NowHolds disk history (address_in was) pair new
+  pub holds : PairHolds disk history (address_in was) pair new
   pub first : KeepsFirst old (address_in was) (Some new) disk
   pub appended : Appends old was changes → IsAppended old.page was changes old.blocks disk.blocks before history pair
   pub compacted : (Appends old was changes → ⊥) → IsCompacted old.page was new old.blocks disk.blocks before history pair
 
 -- A commit that is refused: what the changes make doesn't fit the pair, neither as a log's content nor, where each slot is
 -- complete, as slots. The header is as before, and nothing was written.
-pub record IsFull {D : Type 0} (g : Ghosts D) (changes : List Change) (old new : D) (was now : Pair) : Type 0 where
+pub record RefusesCommit {D : Type 0} (g : Ghosts D) (changes : List Change) (old new : D) (was now : Pair) : Type 0 where
   pub full : (c : RawContent) → made_at (disk_of (g.geometry old) (g.blocks old)) (address_in was) changes ≡ Some c → FitsRaw (g.geometry old).block_size (g.geometry old).page c → ⊥
   pub completed : (c : RawContent) (d : Content) → made_at (disk_of (g.geometry old) (g.blocks old)) (address_in was) changes ≡ Some c → completed c ≡ Some d
       → FitsPair (g.geometry old).block_size (g.geometry old).page d → ⊥
@@ -170,17 +170,17 @@ OutsideStays at old new = StayUnprogrammed (both_blocks at) old new
 -- What a stop leaves: other blocks as they were, and the pair with its old content or with that new one.
 pub record LeftWith (old : Disk) (at : ℕ × ℕ) (new : RawContent) (left : Blocks) : Type 0 where
   pub others : OutsideKeeps at old.blocks left
-  pub content : IsStill old at (record old { blocks = left }) ⊎ IsNow old at new (record old { blocks = left })
+  pub content : HasSameContent old at (record old { blocks = left }) ⊎ HasNewContent old at new (record old { blocks = left })
 
 -- the pair has what the changes make, and that fits
-pub record IsMade (old : Disk) (at : ℕ × ℕ) (changes : List Change) (disk : Disk) : Type 0 where
+pub record HasChangesMade (old : Disk) (at : ℕ × ℕ) (changes : List Change) (disk : Disk) : Type 0 where
   pub new : RawContent
   pub made : made_at old at changes ≡ Some new
   pub fits : FitsRaw old.block_size old.page new
   pub logged : IsLogged new
-  pub now : IsNow old at new disk
+  pub now : HasNewContent old at new disk
 
 -- What a stop leaves of a commit: other blocks as they were, and the pair with its old content or with what the changes make.
 pub record LeftByChange (old : Disk) (at : ℕ × ℕ) (changes : List Change) (left : Blocks) : Type 0 where
   pub others : OutsideKeeps at old.blocks left
-  pub content : IsStill old at (record old { blocks = left }) ⊎ IsMade old at changes (record old { blocks = left })
+  pub content : HasSameContent old at (record old { blocks = left }) ⊎ HasChangesMade old at changes (record old { blocks = left })

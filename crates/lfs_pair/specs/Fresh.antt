@@ -11,7 +11,7 @@ use Rattle.lfs_model.specs.Changes.{Change, changed_by}
 use Rattle.lfs_model.specs.WrittenContent.{FitsRaw}
 use Rattle.lfs_pair.specs.declared.pair.Pair.{Pair}
 use Rattle.lfs_pair.specs.Writing.{HoldsLogContent}
-use Rattle.lfs_pair.specs.Commit.{IsAddressOn, NowHolds}
+use Rattle.lfs_pair.specs.Commit.{IsAddressOn, PairHolds}
 
 -- the premises: two blocks of the disk, and changes whose content fits a pair
 pub record CanBeFresh (disk : Disk) (at : ℕ × ℕ) (changes : List Change) : Type 0 where
@@ -46,10 +46,10 @@ pub record HoldsFresh (c : RawContent) (disk : Disk) (at : ℕ × ℕ) (pair : P
   pub cleared : has_commit (block_at disk at.1) ≡ false
 
 -- the pair's first block has what the changes make of an empty log
-pub record IsFresh (before : List Event) (changes : List Change) (disk : Disk) (history : List Event) (at : ℕ × ℕ) (pair : Pair) : Type 0 where
+pub record IsFreshPair (before : List Event) (changes : List Change) (disk : Disk) (history : List Event) (at : ℕ × ℕ) (pair : Pair) : Type 0 where
   pub new : RawContent
   pub made : changed_by no_content changes ≡ Some new
-  pub holds : NowHolds disk history at pair new
+  pub holds : PairHolds disk history at pair new
   pub fresh : HoldsFresh new disk at pair
   pub clears : ClearsLogs 1 before history
 

@@ -24,7 +24,7 @@ other_in pair = other_of (address_in pair) pair.active
 
 -- The header counts the content's slots, says whether each is complete, and has the content's tail and its delta of the global
 -- state.
-pub record SumsUp (c : RawContent) (pair : Pair) : Type 0 where
+pub record IsHeaderOf (c : RawContent) (pair : Pair) : Type 0 where
   pub slot_count : pair.slot_count ≡ length c.slots
   pub tail : option_map tail_view pair.tail ≡ c.tail
   pub move : move_view pair.move_state ≡ c.move
@@ -36,12 +36,12 @@ pub record EndsWith (end last : ℕ) (pair : Pair) : Type 0 where
   pub last_is : pair.last ≡ last
 
 -- a block's log comes to that content, and the header describes it
-pub record Describes (block : List ℕ) (pair : Pair) (held : RawContent) : Type 0 where
+pub record DescribesLog (block : List ℕ) (pair : Pair) (held : RawContent) : Type 0 where
   pub content : content_after_all no_content (log_entries block) ≡ Some held
   pub end : pair.end ≡ (chain_of block).end
   pub last : pair.last ≡ (chain_of block).last
   pub revision : pair.revision ≡ revision_of block
-  pub sums : SumsUp held pair
+  pub sums : IsHeaderOf held pair
   pub logged : IsLogged held
 
 -- The second of two blocks is the active one: it has a commit, and the first has none or an earlier revision.
@@ -57,7 +57,7 @@ active_at disk at = if second_holds (block_at disk at.0) (block_at disk at.1) th
 pub record IsPair (disk : Disk) (history : List Event) (pair : Pair) (held : RawContent) : Type 0 where
   pub active : pair.active ≡ active_at disk (address_in pair)
   pub holds : holder_at disk (address_in pair) ≡ Some (block_at disk pair.active)
-  pub describes : Describes (block_at disk pair.active) pair held
+  pub describes : DescribesLog (block_at disk pair.active) pair held
   pub whole_pages : pair.is_fetched ≡ false → pair.end % disk.page ≡ 0
   pub unprogrammed : pair.is_fetched ≡ false → AllUnprogrammed history pair.active pair.end disk.block_size
 

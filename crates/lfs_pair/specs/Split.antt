@@ -11,9 +11,9 @@ use Rattle.lfs_model.specs.WrittenContent.{FitsRaw}
 use Rattle.lfs_pair.specs.Fresh.{ClearsLogs, HoldsFresh}
 use Rattle.lfs_pair.specs.declared.pair.Pair.{Pair}
 use Rattle.lfs_pair.specs.Pair.{address_in}
-use Rattle.lfs_pair.specs.Commit.{IsAddressOn, CanCommit, IsNow, IsStill, KeepsFirst, NowHolds, made_at}
+use Rattle.lfs_pair.specs.Commit.{IsAddressOn, CanCommit, HasNewContent, HasSameContent, KeepsFirst, PairHolds, made_at}
 use Rattle.lfs_pair.specs.Writing.{HoldsLogContent}
-use Rattle.lfs_pair.specs.Cut.{CanBeCut, IsCut}
+use Rattle.lfs_pair.specs.Cut.{CanBeCut, IsCutOfSlots}
 
 -- two pairs have no block in common
 pub record AreApart (at fresh : ℕ × ℕ) : Type 0 where
@@ -31,23 +31,23 @@ pub record CanSplit (disk : Disk) (history : List Event) (pair : Pair) (fresh : 
   pub cut : CanBeCut disk.block_size disk.page commit.new.slots
 
 -- the old pair's new content: the first slots, a hard tail to the fresh pair, and the delta of the global state
-abbrev pub front_of : RawContent → ℕ → ℕ × ℕ → RawContent
-front_of c cut fresh = record { slots = take cut c.slots; tail = Some (record { hard = true; to = fresh }); move = c.move }
+abbrev pub front_content : RawContent → ℕ → ℕ × ℕ → RawContent
+front_content c cut fresh = record { slots = take cut c.slots; tail = Some (record { hard = true; to = fresh }); move = c.move }
 
 -- the fresh pair's content: the other slots, and the old tail
-abbrev pub back_of : RawContent → ℕ → RawContent
-back_of c cut = record { slots = drop cut c.slots; tail = c.tail; move = no_gstate }
+abbrev pub back_content : RawContent → ℕ → RawContent
+back_content c cut = record { slots = drop cut c.slots; tail = c.tail; move = no_gstate }
 
 -- where the whole doesn't fit one pair, both parts have slots, and so the first slot stays in the old pair
-abbrev pub IsInside : ℕ → ℕ → RawContent → ℕ → Type 0
-IsInside block_size page whole cut = (FitsRaw block_size page whole → ⊥) → (0 < cut) × (cut < length whole.slots)
+abbrev pub CutsInside : ℕ → ℕ → RawContent → ℕ → Type 0
+CutsInside block_size page whole cut = (FitsRaw block_size page whole → ⊥) → (0 < cut) × (cut < length whole.slots)
 
 -- a content is cut into these two parts
 pub record AreParts (block_size page : ℕ) (whole : RawContent) (fresh : ℕ × ℕ) (front back : RawContent) : Type 0 where
   pub cut : ℕ
-  pub is_cut : IsCut block_size page whole.slots cut
-  pub front_is : front ≡ front_of whole cut fresh
-  pub back_is : back ≡ back_of whole cut
+  pub is_cut : IsCutOfSlots block_size page whole.slots cut
+  pub front_is : front ≡ front_content whole cut fresh
+  pub back_is : back ≡ back_content whole cut
 
 -- A split that is done: each pair has its part of what the changes make, and each part fits.
 pub record Splits (old : Disk) (before : List Event) (changes : List Change) (was : Pair) (fresh : ℕ × ℕ) (disk : Disk) (history : List Event) (pair fresh_pair : Pair) : Type 0 where
@@ -55,29 +55,29 @@ pub record Splits (old : Disk) (before : List Event) (changes : List Change) (wa
   pub made : made_at old (address_in was) changes ≡ Some new
   pub logged : IsLogged new
   pub cut : ℕ
-  pub is_cut : IsCut old.block_size old.page new.slots cut
-  pub inside : IsInside old.block_size old.page new cut
-  pub front : NowHolds disk history (address_in was) pair (front_of new cut fresh)
-  pub back : NowHolds disk history fresh fresh_pair (back_of new cut)
-  pub first : KeepsFirst old (address_in was) (Some (front_of new cut fresh)) disk
+  pub is_cut : IsCutOfSlots old.block_size old.page new.slots cut
+  pub inside : CutsInside old.block_size old.page new cut
+  pub front : PairHolds disk history (address_in was) pair (front_content new cut fresh)
+  pub back : PairHolds disk history fresh fresh_pair (back_content new cut)
+  pub first : KeepsFirst old (address_in was) (Some (front_content new cut fresh)) disk
   -- The old pair's part is written into the block that wasn't active, with the next revision. The block that was active stays as
   -- it was.
   pub moved : pair.active ≢ was.active
   pub kept : block_at disk was.active ≡ block_at old was.active
-  pub front_anew : HoldsLogContent ((was.revision + 1) % 2 ^ 32) (front_of new cut fresh) (block_at disk pair.active)
-  pub back_fresh : HoldsFresh (back_of new cut) disk fresh fresh_pair
+  pub front_anew : HoldsLogContent ((was.revision + 1) % 2 ^ 32) (front_content new cut fresh) (block_at disk pair.active)
+  pub back_fresh : HoldsFresh (back_content new cut) disk fresh fresh_pair
   pub clears : ClearsLogs 2 before history
 
 -- each pair on the disk has its part
-pub record AreParted (old : Disk) (at fresh : ℕ × ℕ) (changes : List Change) (disk : Disk) : Type 0 where
+pub record PairsHaveParts (old : Disk) (at fresh : ℕ × ℕ) (changes : List Change) (disk : Disk) : Type 0 where
   pub new : RawContent
   pub made : made_at old at changes ≡ Some new
   pub logged : IsLogged new
   pub cut : ℕ
-  pub is_cut : IsCut old.block_size old.page new.slots cut
-  pub inside : IsInside old.block_size old.page new cut
-  pub front : IsNow old at (front_of new cut fresh) disk
-  pub back : raw_at disk fresh ≡ Some (back_of new cut)
+  pub is_cut : IsCutOfSlots old.block_size old.page new.slots cut
+  pub inside : CutsInside old.block_size old.page new cut
+  pub front : HasNewContent old at (front_content new cut fresh) disk
+  pub back : raw_at disk fresh ≡ Some (back_content new cut)
 
 -- the blocks of both pairs
 abbrev pub blocks_of_both : ℕ × ℕ → ℕ × ℕ → List ℕ
@@ -94,4 +94,4 @@ OutsideBothStays at fresh old new = StayUnprogrammed (blocks_of_both at fresh) o
 -- What a stop leaves of a split: the old pair with its old content, or both pairs with their parts.
 pub record LeftBySplit (old : Disk) (at fresh : ℕ × ℕ) (changes : List Change) (left : Blocks) : Type 0 where
   pub others : OutsideBothKeeps at fresh old.blocks left
-  pub content : IsStill old at (record old { blocks = left }) ⊎ AreParted old at fresh changes (record old { blocks = left })
+  pub content : HasSameContent old at (record old { blocks = left }) ⊎ PairsHaveParts old at fresh changes (record old { blocks = left })

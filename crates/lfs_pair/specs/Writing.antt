@@ -12,11 +12,11 @@ use Rattle.lfs_model.specs.Log.{LogEntry, chain_of, revision_of, log_entries}
 use Rattle.lfs_model.specs.Content.{RawContent, has_commit, content_after_all, no_content}
 use Rattle.lfs_model.specs.WrittenContent.{written_entries}
 use Rattle.lfs_model.specs.Stops.{SameLog, HasNoLog}
-use Rattle.lfs_tag.specs.Builder.{Building, earlier, padded_end}
+use Rattle.lfs_tag.specs.Builder.{Building, commits_before, padded_end}
 
 -- a commit that is built, with more entries
-abbrev pub with_entries : List LogEntry → Building → Building
-with_entries es b = record b { entries = b.entries ++ es }
+abbrev pub building_with_entries : List LogEntry → Building → Building
+building_with_entries es b = record b { entries = b.entries ++ es }
 
 -- A block's log ends at this place, which is a page boundary, with this last tag. Nothing is programmed after it.
 pub record IsWritten (disk : Disk) (history : List Event) (block end last : ℕ) : Type 0 where
@@ -26,22 +26,22 @@ pub record IsWritten (disk : Disk) (history : List Event) (block end last : ℕ)
   pub unprogrammed : AllUnprogrammed history block end disk.block_size
 
 -- a block's new log has the commits from before, and then this one
-pub record Gets (b : Building) (old new : List ℕ) : Type 0 where
+pub record GetsCommit (b : Building) (old new : List ℕ) : Type 0 where
   pub checksum : LogEntry
   pub class : class_of checksum.tag ≡ 5
-  pub commits : (chain_of new).commits ≡ earlier b.revision old ++ (b.entries ++ checksum ∷ []) ∷ []
+  pub commits : (chain_of new).commits ≡ commits_before b.revision old ++ (b.entries ++ checksum ∷ []) ∷ []
   pub revision : revision_of new ≡ unwrap_or b.revision (revision_of old)
 
 -- A block gets a commit at an offset, which ends at `end`. It keeps its bytes before the offset.
-pub record Adds (b : Building) (at end : ℕ) (old new : List ℕ) : Type 0 where
-  pub commit : Gets b old new
+pub record AddsCommit (b : Building) (at end : ℕ) (old new : List ℕ) : Type 0 where
+  pub commit : GetsCommit b old new
   pub end_is : end ≡ at + padded_end b
   pub kept : take at new ≡ take at old
 
 -- What a stop leaves of a commit that is programmed at an offset: the log from before, or the one with the commit. At the block's
 -- beginning it may also leave none.
 abbrev pub LeftByCommit : Building → ℕ → List ℕ → List ℕ → Type 0
-LeftByCommit b off old left = SameLog left old ⊎ (((off ≡ 0) × HasNoLog left) ⊎ Gets b old left)
+LeftByCommit b off old left = SameLog left old ⊎ (((off ≡ 0) × HasNoLog left) ⊎ GetsCommit b old left)
 
 -- A block's log is one commit, of the entries that write the content anew, and comes to that content.
 pub record HoldsLogContent (revision : ℕ) (c : RawContent) (block : List ℕ) : Type 0 where

@@ -9,7 +9,7 @@ ghost use Rattle.lfs_model.specs.EntryTypes.{tail_with as tail_with_pair};
 ghost use Rattle.lfs_model.specs.WrittenContent.{entry_with, named_pair};
 ghost use Rattle.lfs_model.specs.Changes.{entries_of_change, entries_of_changes, is_storable, RemoveAttribute};
 ghost use Rattle.lfs_tag.specs.ContentView.{content_view, tail_view};
-ghost use Rattle.lfs_tag.specs.ContentGives.{Gives};
+ghost use Rattle.lfs_tag.specs.ContentGives.{GivesValue};
 ghost use Rattle.lfs_pair.specs.ChangeView.{change_view, changes_view};
 
 use lfs_tag::kinds::{ATTRIBUTE, CREATE, DELETE};
@@ -47,7 +47,7 @@ fn put<'a>(
     requires kind { kind < 2 ^ 11 }
     requires id { id < 2 ^ 10 }
     requires bytes { length bytes.now ≤ 1022 }
-    ensures { Gives (λ _. content_view content.new) result (content_after (content_view content.old) (entry_with kind id bytes.now)) }
+    ensures { GivesValue (λ _. content_view content.new) result (content_after (content_view content.old) (entry_with kind id bytes.now)) }
 {
     let tag = Tag::new(kind, id, bytes.len() as u16);
     content.take(alloc, &Entry { tag, bytes })?;
@@ -62,7 +62,7 @@ fn put_removal(
     attr: u8,
 ) -> Result<(), ContentError>
     requires { id < 2 ^ 10 }
-    ensures { Gives (λ _. content_view content.new) result (content_after_all (content_view content.old) (entries_of_change (RemoveAttribute id attr))) }
+    ensures { GivesValue (λ _. content_view content.new) result (content_after_all (content_view content.old) (entries_of_change (RemoveAttribute id attr))) }
 {
     let tag = Tag::new(ATTRIBUTE + u16::from(attr), id, 0x3ff);
     content.take(alloc, &Entry { tag, bytes: &[] })?;
@@ -92,7 +92,7 @@ pub(crate) fn apply<'a>(
     change: &Change<'a>,
 ) -> Result<(), ContentError>
     requires { is_storable (change_view change.now) ≡ true }
-    ensures { Gives (λ _. content_view content.new) result (content_after_all (content_view content.old) (entries_of_change (change_view change.now))) }
+    ensures { GivesValue (λ _. content_view content.new) result (content_after_all (content_view content.old) (entries_of_change (change_view change.now))) }
 {
     match *change {
         Change::Create { id, kind, name } => {
@@ -141,7 +141,7 @@ pub fn apply_all<'a>(
     changes: &[Change<'a>],
 ) -> Result<(), ContentError>
     requires { list_all is_storable (changes_view changes.now) ≡ true }
-    ensures { Gives (λ _. content_view content.new) result (content_after_all (content_view content.old) (entries_of_changes (changes_view changes.now))) }
+    ensures { GivesValue (λ _. content_view content.new) result (content_after_all (content_view content.old) (entries_of_changes (changes_view changes.now))) }
 {
     for change in changes {
         match apply(alloc, content, change) {

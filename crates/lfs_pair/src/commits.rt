@@ -11,7 +11,7 @@ ghost use Rattle.lfs_model.specs.LoggedContent.{HaveNames, IsLogged};
 ghost use Rattle.lfs_tag.specs.ContentView.{content_view};
 ghost use Rattle.lfs_pair.specs.Pair.{address_in};
 ghost use Rattle.lfs_pair.specs.ChangeView.{changes_view};
-ghost use Rattle.lfs_pair.specs.Commit.{made_at, both_blocks, AppendsNow, CanCommit, Commits, CompactsNow, CommitFails, HasNoRoom, IsFull, IsAddressOn, IsActive, LeftByChange, LeftWith};
+ghost use Rattle.lfs_pair.specs.Commit.{made_at, both_blocks, AppendsNow, CanCommit, Commits, CompactsNow, CommitFails, HasNoRoom, RefusesCommit, IsAddressOn, IsActive, LeftByChange, LeftWith};
 ghost use Rattle.lfs_pair.specs.Writing.{ChangesReading, WritesOnly};
 
 use crate::change::Change;
@@ -64,7 +64,7 @@ pub fn commit<D: BlockDevice>(
 
     ensures done { result ≡ Ok Outcome.Done
         → Commits (disk_of (D.geometry dev.old) (D.blocks dev.old)) (D.history dev.old) (changes_view changes.now) pair.old (disk_of (D.geometry dev.new) (D.blocks dev.new)) (D.history dev.new) pair.new }
-    ensures full { result ≡ Ok Outcome.Full → IsFull D.BlockDevice (changes_view changes.now) dev.old dev.new pair.old pair.new }
+    ensures full { result ≡ Ok Outcome.Full → RefusesCommit D.BlockDevice (changes_view changes.now) dev.old dev.new pair.old pair.new }
     ensures error { IfErr result (λ e. CommitFails D.BlockDevice dev.old dev.new pair.old pair.new e) }
     ensures device { ChangesReading D.BlockDevice 2 (both_blocks (address_in pair.old)) dev.old dev.new }
     ensures faults { ReportsFaults D.BlockDevice dev.old dev.new result }
@@ -93,7 +93,7 @@ pub fn commit_in<'a, 'b: 'a, D: BlockDevice>(
 
     ensures done { result ≡ Ok Outcome.Done
         → Commits (disk_of (D.geometry dev.old) (D.blocks dev.old)) (D.history dev.old) (changes_view changes.now) pair.old (disk_of (D.geometry dev.new) (D.blocks dev.new)) (D.history dev.new) pair.new }
-    ensures full { result ≡ Ok Outcome.Full → IsFull D.BlockDevice (changes_view changes.now) dev.old dev.new pair.old pair.new }
+    ensures full { result ≡ Ok Outcome.Full → RefusesCommit D.BlockDevice (changes_view changes.now) dev.old dev.new pair.old pair.new }
     ensures error { IfErr result (λ e. CommitFails D.BlockDevice dev.old dev.new pair.old pair.new e) }
     ensures device { ChangesReading D.BlockDevice 1 (both_blocks (address_in pair.old)) dev.old dev.new }
     ensures faults { ReportsFaults D.BlockDevice dev.old dev.new result }

@@ -10,7 +10,7 @@ ghost use Rattle.lfs_model.specs.Changes.{entries_of_change, entries_of_changes,
 ghost use Rattle.lfs_tag.specs.ContentView.{part_view, attribute_view, slot_view, tail_view, content_view};
 ghost use Rattle.lfs_tag.specs.FieldsView.{move_view};
 ghost use Rattle.lfs_pair.specs.ChangeView.{change_view, changes_view};
-ghost use Rattle.lfs_pair.specs.Writing.{with_entries};
+ghost use Rattle.lfs_pair.specs.Writing.{building_with_entries};
 
 use crate::change::Change;
 use lfs_tag::kinds::{ATTRIBUTE, CREATE, DELETE, HARD_TAIL, MOVE_STATE, SOFT_TAIL};
@@ -25,7 +25,7 @@ fn push(builder: &mut CommitBuilder<'_>, kind: u16, id: u16, bytes: &[u8])
     requires other { kind / 2 ^ 8 ≢ 5 }
     requires id { id < 2 ^ 10 }
     requires bytes { length bytes.now ≤ 1022 }
-    ensures { builder.new ≡ with_entries (entry_with kind id bytes.now ∷ []) builder.old }
+    ensures { builder.new ≡ building_with_entries (entry_with kind id bytes.now ∷ []) builder.old }
 {
     builder.push(Tag::new(kind, id, bytes.len() as u16), bytes);
 }
@@ -33,14 +33,14 @@ fn push(builder: &mut CommitBuilder<'_>, kind: u16, id: u16, bytes: &[u8])
 // Adds an entry that removes an attribute.
 fn push_removal(builder: &mut CommitBuilder<'_>, id: u16, attr: u8)
     requires { id < 2 ^ 10 }
-    ensures { builder.new ≡ with_entries (entries_of_change (RemoveAttribute id attr)) builder.old }
+    ensures { builder.new ≡ building_with_entries (entries_of_change (RemoveAttribute id attr)) builder.old }
 {
     builder.push(Tag::new(ATTRIBUTE + u16::from(attr), id, Tag::REMOVED), &[]);
 }
 
 // Adds a tail; without a pair it is two null addresses.
 fn push_tail(builder: &mut CommitBuilder<'_>, hard: bool, pair: Option<[u32; 2]>)
-    ensures { builder.new ≡ with_entries (tail_entry hard (option_map address_of pair) ∷ []) builder.old }
+    ensures { builder.new ≡ building_with_entries (tail_entry hard (option_map address_of pair) ∷ []) builder.old }
 {
     let kind = if hard { HARD_TAIL } else { SOFT_TAIL };
     let pair = pair.unwrap_or([NULL_ADDRESS, NULL_ADDRESS]);
@@ -50,7 +50,7 @@ fn push_tail(builder: &mut CommitBuilder<'_>, hard: bool, pair: Option<[u32; 2]>
 // Adds a move state.
 fn push_move(builder: &mut CommitBuilder<'_>, state: &MoveState)
     requires { IsMoveState (move_view state.now) }
-    ensures { builder.new ≡ with_entries (move_entry (move_view state.now) ∷ []) builder.old }
+    ensures { builder.new ≡ building_with_entries (move_entry (move_view state.now) ∷ []) builder.old }
 {
     push(builder, MOVE_STATE, Tag::NO_ID, &move_bytes(state));
 }
@@ -60,7 +60,7 @@ fn push_move(builder: &mut CommitBuilder<'_>, state: &MoveState)
 // Adds the entries of a change.
 fn push_change(builder: &mut CommitBuilder<'_>, change: &Change<'_>)
     requires { is_storable (change_view change.now) ≡ true }
-    ensures { builder.new ≡ with_entries (entries_of_change (change_view change.now)) builder.old }
+    ensures { builder.new ≡ building_with_entries (entries_of_change (change_view change.now)) builder.old }
 {
     match *change {
         Change::Create { id, kind, name } => {
@@ -81,7 +81,7 @@ fn push_change(builder: &mut CommitBuilder<'_>, change: &Change<'_>)
 // Adds the entries of all changes, in order.
 pub(crate) fn push_changes(builder: &mut CommitBuilder<'_>, changes: &[Change<'_>])
     requires { list_all is_storable (changes_view changes.now) ≡ true }
-    ensures { builder.new ≡ with_entries (entries_of_changes (changes_view changes.now)) builder.old }
+    ensures { builder.new ≡ building_with_entries (entries_of_changes (changes_view changes.now)) builder.old }
 {
     for change in changes {
         push_change(builder, change);
@@ -95,7 +95,7 @@ fn push_part(builder: &mut CommitBuilder<'_>, id: u16, part: &Option<Part<'_>>, 
     requires id { id < 2 ^ 10 }
     requires class { class < 5 }
     requires part { IsPartIfSome class (option_map part_view part.now) }
-    ensures { builder.new ≡ with_entries (part_entries id (option_map part_view part.now)) builder.old }
+    ensures { builder.new ≡ building_with_entries (part_entries id (option_map part_view part.now)) builder.old }
 {
     if let Some(part) = part {
         push(builder, part.kind, id, part.bytes);
@@ -106,7 +106,7 @@ fn push_part(builder: &mut CommitBuilder<'_>, id: u16, part: &Option<Part<'_>>, 
 fn push_attributes(builder: &mut CommitBuilder<'_>, id: u16, attributes: &[Attribute<'_>])
     requires id { id < 2 ^ 10 }
     requires attributes { Ascend 0 (map attribute_view attributes.now) }
-    ensures { builder.new ≡ with_entries (attribute_entries id (map attribute_view attributes.now)) builder.old }
+    ensures { builder.new ≡ building_with_entries (attribute_entries id (map attribute_view attributes.now)) builder.old }
 {
     for attribute in attributes {
         push(
@@ -122,7 +122,7 @@ fn push_attributes(builder: &mut CommitBuilder<'_>, id: u16, attributes: &[Attri
 fn push_slot(builder: &mut CommitBuilder<'_>, id: u16, slot: &Slot<'_>)
     requires id { id < 2 ^ 10 }
     requires parts { HasParts (slot_view slot.now) }
-    ensures { builder.new ≡ with_entries (entries_of_slot id (slot_view slot.now)) builder.old }
+    ensures { builder.new ≡ building_with_entries (entries_of_slot id (slot_view slot.now)) builder.old }
 {
     push_part(builder, id, &slot.name, 0);
     push_part(builder, id, &slot.structure, 2);
@@ -133,7 +133,7 @@ fn push_slot(builder: &mut CommitBuilder<'_>, id: u16, slot: &Slot<'_>)
 fn push_slots(builder: &mut CommitBuilder<'_>, slots: &[Slot<'_>])
     requires few { length slots.now < 0x3ff }
     requires parts { HaveParts (map slot_view slots.now) }
-    ensures { builder.new ≡ with_entries (entries_of_slots 0 (map slot_view slots.now)) builder.old }
+    ensures { builder.new ≡ building_with_entries (entries_of_slots 0 (map slot_view slots.now)) builder.old }
 {
     let mut id = 0;
     for slot in slots {
@@ -144,7 +144,7 @@ fn push_slots(builder: &mut CommitBuilder<'_>, slots: &[Slot<'_>])
 
 // Adds a tail, if there is one.
 fn push_tail_if_some(builder: &mut CommitBuilder<'_>, tail: &Option<Tail>)
-    ensures { builder.new ≡ with_entries (tail_entries (option_map tail_view tail.now)) builder.old }
+    ensures { builder.new ≡ building_with_entries (tail_entries (option_map tail_view tail.now)) builder.old }
 {
     if let Some(tail) = tail {
         push_tail(builder, tail.hard, Some(tail.pair));
@@ -154,7 +154,7 @@ fn push_tail_if_some(builder: &mut CommitBuilder<'_>, tail: &Option<Tail>)
 // Adds a move state, unless it is zero.
 fn push_move_if_any(builder: &mut CommitBuilder<'_>, state: &MoveState)
     requires { IsMoveState (move_view state.now) }
-    ensures { builder.new ≡ with_entries (move_entries (move_view state.now)) builder.old }
+    ensures { builder.new ≡ building_with_entries (move_entries (move_view state.now)) builder.old }
 {
     if !state.is_none() {
         push_move(builder, state);
@@ -166,7 +166,7 @@ fn push_move_if_any(builder: &mut CommitBuilder<'_>, state: &MoveState)
 pub(crate) fn push_content(builder: &mut CommitBuilder<'_>, content: &Content<'_>)
     requires logged { IsLogged (content_view content.now) }
     requires few { length (content_view content.now).slots < 0x3ff }
-    ensures { builder.new ≡ with_entries (written_entries (content_view content.now)) builder.old }
+    ensures { builder.new ≡ building_with_entries (written_entries (content_view content.now)) builder.old }
 {
     push_slots(builder, &content.slots);
     push_tail_if_some(builder, &content.tail);

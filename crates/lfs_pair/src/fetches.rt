@@ -7,7 +7,7 @@ ghost use Rattle.lfs_model.specs.History.{reads};
 ghost use Rattle.lfs_model.specs.Slots.{address_of};
 ghost use Rattle.lfs_model.specs.Log.{chain_of, log_entries, revision_of};
 ghost use Rattle.lfs_model.specs.Content.{raw_at, content_after_all, no_content, RawContent};
-ghost use Rattle.lfs_pair.specs.Pair.{Describes, Fetches};
+ghost use Rattle.lfs_pair.specs.Pair.{DescribesLog, Fetches};
 
 use crate::heads::Head;
 use crate::pair::Pair;
@@ -26,7 +26,7 @@ fn header_of(
     requires end { head.end ≡ (chain_of bytes.now).end }
     requires last { head.last ≡ (chain_of bytes.now).last }
     requires revision { head.revision ≡ revision_of bytes.now }
-    ensures describes { IfOk result (λ pair. (held : RawContent) × Describes bytes.now pair held) }
+    ensures describes { IfOk result (λ pair. (held : RawContent) × DescribesLog bytes.now pair held) }
     ensures blocks { IfOk result (λ pair. pair.blocks ≡ blocks) }
     ensures active { IfOk result (λ pair. pair.active ≡ active) }
     ensures fetched { IfOk result (λ pair. pair.is_fetched ≡ true) }

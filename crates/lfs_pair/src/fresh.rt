@@ -10,9 +10,9 @@ ghost use Rattle.lfs_model.specs.Slots.{address_of};
 ghost use Rattle.lfs_model.specs.WrittenContent.{FitsRaw};
 ghost use Rattle.lfs_tag.specs.ContentView.{content_view};
 ghost use Rattle.lfs_pair.specs.ChangeView.{changes_view};
-ghost use Rattle.lfs_pair.specs.Commit.{IsAddressOn, NowHolds, both_blocks};
+ghost use Rattle.lfs_pair.specs.Commit.{IsAddressOn, PairHolds, both_blocks};
 ghost use Rattle.lfs_pair.specs.Writing.{ChangesReading, WritesBlock, WritesOnly};
-ghost use Rattle.lfs_pair.specs.Fresh.{CanBeFresh, ClearsLogs, FailsUntouched, HoldsFresh, IsFresh};
+ghost use Rattle.lfs_pair.specs.Fresh.{CanBeFresh, ClearsLogs, FailsUntouched, HoldsFresh, IsFreshPair};
 
 use crate::change::Change;
 use crate::contents::made_of_nothing;
@@ -60,7 +60,7 @@ pub(crate) fn write_fresh<D: BlockDevice>(
     requires names { HaveNames (content_view content.now).slots }
     requires fits { FitsRaw (D.geometry dev.old).block_size (D.geometry dev.old).page (content_view content.now) }
 
-    ensures holds { IfOk result (λ pair. NowHolds (disk_of (D.geometry dev.new) (D.blocks dev.new)) (D.history dev.new) (address_of blocks) pair (content_view content.now)) }
+    ensures holds { IfOk result (λ pair. PairHolds (disk_of (D.geometry dev.new) (D.blocks dev.new)) (D.history dev.new) (address_of blocks) pair (content_view content.now)) }
     ensures fresh { IfOk result (λ pair. HoldsFresh (content_view content.now) (disk_of (D.geometry dev.new) (D.blocks dev.new)) (address_of blocks) pair) }
     ensures buf { length buf.new ≡ length buf.old }
     ensures clears { OnOk result (ClearsLogs 1 (D.history dev.old) (D.history dev.new)) }
@@ -95,7 +95,7 @@ impl Pair {
     ) -> Result<Pair, Error>
         requires { CanBeFresh (disk_of (D.geometry dev.old) (D.blocks dev.old)) (address_of blocks) (changes_view changes.now) }
 
-        ensures fresh { IfOk result (λ pair. IsFresh (D.history dev.old) (changes_view changes.now) (disk_of (D.geometry dev.new) (D.blocks dev.new)) (D.history dev.new) (address_of blocks) pair) }
+        ensures fresh { IfOk result (λ pair. IsFreshPair (D.history dev.old) (changes_view changes.now) (disk_of (D.geometry dev.new) (D.blocks dev.new)) (D.history dev.new) (address_of blocks) pair) }
         ensures error { IfErr result (λ e. FailsUntouched dev.old dev.new e) }
         ensures device { ChangesReading D.BlockDevice 2 (both_blocks (address_of blocks)) dev.old dev.new }
         ensures faults { ReportsFaults D.BlockDevice dev.old dev.new result }

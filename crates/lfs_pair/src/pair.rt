@@ -4,7 +4,7 @@ ghost use Rattle.std.specs.Prelude.{◌≡◌, false, is_some, map};
 ghost use Rattle.lfs_model.specs.Content.{complete_all};
 ghost use Rattle.lfs_model.specs.Slots.{address_of, same_pair};
 ghost use Rattle.lfs_tag.specs.ContentView.{content_view, slot_view};
-ghost use Rattle.lfs_pair.specs.Pair.{EndsWith, SumsUp, other_in};
+ghost use Rattle.lfs_pair.specs.Pair.{EndsWith, IsHeaderOf, other_in};
 
 use crate::programs::Written;
 use lfs_tag::{Content, MoveState, Slot, Tag, Tail};
@@ -81,7 +81,7 @@ impl Pair {
         ensures active { result.active ≡ active }
         ensures revision { result.revision ≡ revision }
         ensures ends { EndsWith written.end written.last result }
-        ensures sums { SumsUp (content_view content.now) result }
+        ensures sums { IsHeaderOf (content_view content.now) result }
         ensures fetched { result.is_fetched ≡ false }
     {
         Pair {

@@ -6,12 +6,12 @@ ghost use Rattle.lfs_device.specs.Calls.{ReadsOnly, ReportsFaults};
 ghost use Rattle.lfs_model.specs.Blocks.{block_in};
 ghost use Rattle.lfs_model.specs.History.{AllUnprogrammed, EachSince, LeavesOnly, erases, programs, reads};
 ghost use Rattle.lfs_model.specs.LoggedContent.{HaveNames, IsLogged};
-ghost use Rattle.lfs_model.specs.Commit.{entries_size, next_at, page_end};
+ghost use Rattle.lfs_model.specs.Commit.{entries_size, next_four_bytes, page_end};
 ghost use Rattle.lfs_model.specs.Stops.{ErasesCleanly, Stops};
 ghost use Rattle.lfs_model.specs.WrittenContent.{FitsRaw, written_entries};
-ghost use Rattle.lfs_tag.specs.Builder.{GoesTo, padded_end};
+ghost use Rattle.lfs_tag.specs.Builder.{CommitIsAt, padded_end};
 ghost use Rattle.lfs_tag.specs.ContentView.{content_view};
-ghost use Rattle.lfs_pair.specs.Writing.{Adds, HoldsAnew, IsWritten, LeftByCommit, LeftByWriting, LeftInBlock, WritesBlock};
+ghost use Rattle.lfs_pair.specs.Writing.{AddsCommit, HoldsAnew, IsWritten, LeftByCommit, LeftByWriting, LeftInBlock, WritesBlock};
 
 use crate::entries::push_content;
 use lfs_device::{BlockDevice, Error};
@@ -30,7 +30,7 @@ pub(crate) struct Written {
 fn next_bytes<D: BlockDevice>(dev: &mut D, block: u32, at: u32) -> Result<Option<[u8; 4]>, Error>
     requires in_device { block < (D.geometry dev.old).block_count }
     requires in_block { at ≤ (D.geometry dev.old).block_size }
-    ensures bytes { IfOk result (λ next. next ≡ next_at (block_in (D.blocks dev.old) block) at) }
+    ensures bytes { IfOk result (λ next. next ≡ next_four_bytes (block_in (D.blocks dev.old) block) at) }
     ensures device { ReadsOnly D.BlockDevice dev.old dev.new }
     ensures errors { IfErr result (λ e. e ≡ Error.Io) }
     ensures faults { ReportsFaults D.BlockDevice dev.old dev.new result }
@@ -56,10 +56,10 @@ pub(crate) fn program<D: BlockDevice>(
     requires page { builder.page ≡ (D.geometry dev.old).page }
     requires room { padded_end builder ≤ builder.room }
     requires ends { at + padded_end builder ≤ (D.geometry dev.old).block_size }
-    requires goes { GoesTo builder.revision builder.previous (block_in (D.blocks dev.old) block) at }
+    requires goes { CommitIsAt builder.revision builder.previous (block_in (D.blocks dev.old) block) at }
     requires unprogrammed { AllUnprogrammed (D.history dev.old) block at (D.geometry dev.old).block_size }
 
-    ensures adds { IfOk result (λ written. Adds builder.entry at written.end (block_in (D.blocks dev.old) block) (block_in (D.blocks dev.new) block)) }
+    ensures adds { IfOk result (λ written. AddsCommit builder.entry at written.end (block_in (D.blocks dev.old) block) (block_in (D.blocks dev.new) block)) }
     ensures written { IfOk result (λ written. IsWritten (disk_of (D.geometry dev.new) (D.blocks dev.new)) (D.history dev.new) block written.end written.last) }
     ensures writes { WritesBlock D.BlockDevice 1 block dev.old dev.new result }
     ensures erases { erases (D.history dev.new) ≡ erases (D.history dev.old) }

@@ -1,4 +1,4 @@
-pub mod Answered
-pub mod InHand
+pub mod SessionAnswers
+pub mod Hands
 pub mod OperationView
-pub mod Performed
+pub mod PerformedOperations

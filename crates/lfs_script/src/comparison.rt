@@ -146,7 +146,7 @@ fn is_same_attribute(
 }
 
 // Returns the first type, from one to another, of which the attributes differ.
-fn different_kind(
+fn first_different_type(
     alloc: Global,
     session: &mut Session<Device>,
     other: &mut Session<Device>,
@@ -176,7 +176,7 @@ fn difference_at(
         Scope::Kind(kind) => (kind, kind),
         Scope::Entries => return Ok(None),
     };
-    if let Some(kind) = different_kind(alloc, session, other, path, first, last)? {
+    if let Some(kind) = first_different_type(alloc, session, other, path, first, last)? {
         return Ok(Some(Difference::Attribute(Vec::from_slice(alloc, path)?, kind)));
     }
     if kind == Kind::File && !hold_same(alloc, session, other, path)? {

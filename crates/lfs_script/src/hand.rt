@@ -2,9 +2,9 @@
 
 ghost use Rattle.std.specs.Prelude.{◌≡◌, ◌↔◌, [], IfSome, None};
 ghost use Rattle.lfs_device.specs.FaultDevice.{fault_of, history_of, inner_of};
-ghost use Rattle.lfs_script.specs.InHand.{IsLeftBy, counted};
+ghost use Rattle.lfs_script.specs.Hands.{IsLeftBy, counted};
 
-use crate::counted::Counted;
+use crate::counted_device::Counted;
 use lfs_device::{Extent, Fault, FaultDevice, RamDevice, Which};
 use lfs_fs::Session;
 use lfs_script_lines::Calls;

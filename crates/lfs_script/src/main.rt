@@ -3,16 +3,16 @@
 #![tactic(auto)]
 
 mod comparison;
-mod counted;
+mod counted_device;
 mod hand;
 mod help;
 mod images;
-mod performing;
-mod running;
+mod operation_calls;
 mod script;
+mod script_run;
 
 use help::HELP;
-use running::{End, run};
+use script_run::{End, run};
 use std::io::BufReader;
 use std::process::ExitCode;
 use std::{env, io};

@@ -1,13 +1,13 @@
 // The commands of a script on the device in hand.
 
 ghost use Rattle.std.specs.Prelude.{◌≡◌, IfErr, IfOk};
-ghost use Rattle.lfs_script.specs.InHand.{IsCompared, IsUnmounted, calls_answer, calls_in};
-ghost use Rattle.lfs_script.specs.Performed.{IsPerformed};
+ghost use Rattle.lfs_script.specs.Hands.{IsCompared, IsUnmounted, calls_answer, calls_in};
+ghost use Rattle.lfs_script.specs.PerformedOperations.{IsPerformedInHand};
 
 use crate::comparison::{compare, compare_with};
 use crate::hand::{Device, Hand, NO_FAULT, calls_of, with_fault};
 use crate::images::{blank, device_of, read_file, write_file};
-use crate::performing::perform;
+use crate::operation_calls::perform;
 use lfs_device::{Erased, Error, Fault, NameOrder, RamDevice};
 use lfs_fs::{Reply, Session, format_ordered, mount};
 use lfs_script_lines::{Answer, Command, Operation, Scope};
@@ -153,7 +153,7 @@ impl<'a, R: Files + AllocGlobal> Script<'a, R> {
     }
 
     fn operate(&mut self, operation: &Operation) -> Answer
-        ensures { IsPerformed self.old.hand operation.now result self.new.hand }
+        ensures { IsPerformedInHand self.old.hand operation.now result self.new.hand }
     {
         match &mut self.hand {
             Hand::Session(session) => perform(self.rt.alloc(), session, operation),
@@ -166,7 +166,7 @@ impl<'a, R: Files + AllocGlobal> Script<'a, R> {
     /// An operation is one of the session. Without a session the answer to it, and to a comparison,
     /// is `Nothing`. `Calls` and `Save` leave the device and the session.
     pub fn carry_out(&mut self, command: &Command) -> Answer
-        ensures performed { (op : _) → command.now ≡ Command.Perform op → IsPerformed self.old.hand op result self.new.hand }
+        ensures performed { (op : _) → command.now ≡ Command.Perform op → IsPerformedInHand self.old.hand op result self.new.hand }
         ensures unmounted { command.now ≡ Command.Unmount → IsUnmounted self.old.hand result self.new.hand }
         ensures calls { command.now ≡ Command.Calls → (result ≡ calls_answer (calls_in self.old.hand)) × (self.new.hand ≡ self.old.hand) }
         ensures compared { (scope : _) → command.now ≡ Command.Compare scope → IsCompared self.old.hand result self.new.hand }

@@ -28,8 +28,8 @@ first_colon (d ∷ ds) rest digits =
     ap (λ t. cond (not t) (1 + position_or_len (λ b. nat_eq b 0x3a) (ds ++ 0x3a ∷ rest)) 0) (no_colon d digits.0) ∙ more
 
 -- no digit is a colon
-pub colon-decimal : (n : ℕ) (rest : List ℕ) → n < 2 ^ 32 → position (λ b. nat_eq b 0x3a) (decimal n ++ 0x3a ∷ rest) ≡ Some (length (decimal n))
-colon-decimal n rest small =
+pub find_colon-decimal : (n : ℕ) (rest : List ℕ) → n < 2 ^ 32 → position (λ b. nat_eq b 0x3a) (decimal n ++ 0x3a ∷ rest) ≡ Some (length (decimal n))
+find_colon-decimal n rest small =
     let at = first_colon (decimal n) rest (decimal_is_IsNumeral n (omega arith)).0.1 in
     let long : length (decimal n) < length (decimal n ++ 0x3a ∷ rest) = simp length-append (omega arith) in
     rw (at, lt-ltb _ _ long) refl
@@ -46,7 +46,7 @@ same_value o a b one other = cc
 pub parted : (n end : ℕ) (text rest : List ℕ) → n < 2 ^ 32 → text ≡ decimal n ++ 0x3a ∷ rest → Some end ≡ position (λ b. nat_eq b 0x3a) text
     → (take end text ≡ decimal n) × (take (length text - (end + 1)) (drop (end + 1) text) ≡ rest)
 parted n end text rest small is found =
-    let at : length (decimal n) ≡ end = same_value _ _ _ (ap (position (λ b. nat_eq b 0x3a)) is ∙ colon-decimal n rest small) (sym found) in
+    let at : length (decimal n) ≡ end = same_value _ _ _ (ap (position (λ b. nat_eq b 0x3a)) is ∙ find_colon-decimal n rest small) (sym found) in
     let past : length (decimal n ++ 0x3a ∷ []) ≡ end + 1 = simp length-append (omega arith) in
     let behind : drop (end + 1) text ≡ rest = ap (drop (end + 1)) (is ∙ sym (append_assoc (decimal n) (0x3a ∷ []) rest)) ∙ drop_at (decimal n ++ 0x3a ∷ []) rest (end + 1) past in
     (ap (take end) is ∙ take_at (decimal n) (0x3a ∷ rest) end at, take_rest text (end + 1) ∙ behind)

@@ -6,7 +6,7 @@ use Rattle.std.proofs.lemmas.Bool.Decides.{nat_tests}
 use Rattle.std.proofs.lemmas.List.Elements.{All-head, All-tail}
 use Rattle.std.proofs.lemmas.Slice.Eq.{bytes_eq-Decides}
 use Rattle.lfs_model.specs.Listing.{hex_digit}
-use Rattle.lfs_script_lines.specs.Words.{AreBytes, AreCounts, IsSpelling, byte_of, followed, hex_value, is_plain, shown, spelled, starred, text_bytes, times_in, word_bytes, written}
+use Rattle.lfs_script_lines.specs.Words.{AreBytes, AreCounts, IsSpelling, byte_of, after_step, hex_value, is_plain, escaped_byte, spelled_bytes, starred, text_bytes, times_in, word_bytes, written}
 use Rattle.lfs_script_lines.specs.declared.words.Part.TheVariants.{Backslash}
 use Rattle.lfs_script_lines.specs.declared.words.Step.TheVariants.{Byte, Never, To}
 
@@ -16,7 +16,7 @@ hex_value-digit d small = grind (arith, nat_tests)
 -- an escaped byte is read as it
 text_bytes-escaped : (b : ℕ) (rest : List ℕ) → b < 256 → text_bytes ((0x5c ∷ 0x78 ∷ hex_digit (b / 16) ∷ hex_digit (b % 16) ∷ []) ++ rest) ≡ option_map (λ bytes. b ∷ bytes) (text_bytes rest)
 text_bytes-escaped b rest small =
-    ap (λ step. followed step (λ p. spelled p rest)) (ap (λ high. byte_of high (hex_value (hex_digit (b % 16)))) (hex_value-digit (b / 16) (omega arith))
+    ap (λ step. after_step step (λ p. spelled_bytes p rest)) (ap (λ high. byte_of high (hex_value (hex_digit (b % 16)))) (hex_value-digit (b / 16) (omega arith))
     ∙ ap (λ low. byte_of (Some (b / 16)) low) (hex_value-digit (b % 16) (omega arith))
     ∙ ap Byte (let e : b / 16 * 16 + b % 16 ≡ b = omega arith in e))
 
@@ -28,13 +28,13 @@ and_left false b both = both
 text_bytes-plain : (b : ℕ) (rest : List ℕ) → is_plain b ≡ true → text_bytes (b ∷ rest) ≡ option_map (λ bytes. b ∷ bytes) (text_bytes rest)
 text_bytes-plain b rest plain =
     let other : nat_eq b 0x5c ≡ false = grind (arith, nat_tests) in
-    ap (λ step. followed step (λ p. spelled p rest)) (ap (λ t. cond t (To Backslash) (cond (is_plain b) (Byte b) Never)) other ∙ ap (λ t. cond t (Byte b) Never) plain)
+    ap (λ step. after_step step (λ p. spelled_bytes p rest)) (ap (λ t. cond t (To Backslash) (cond (is_plain b) (Byte b) Never)) other ∙ ap (λ t. cond t (Byte b) Never) plain)
 
 -- a byte is read from what it is written as
-text_bytes-shown : (b : ℕ) (rest : List ℕ) → b < 256 → text_bytes (shown b ++ rest) ≡ option_map (λ bytes. b ∷ bytes) (text_bytes rest)
-text_bytes-shown b rest small = split (is_plain b && not (nat_eq b 0x2a)) refl
+text_bytes-escaped_byte : (b : ℕ) (rest : List ℕ) → b < 256 → text_bytes (escaped_byte b ++ rest) ≡ option_map (λ bytes. b ∷ bytes) (text_bytes rest)
+text_bytes-escaped_byte b rest small = split (is_plain b && not (nat_eq b 0x2a)) refl
   where
-    split : (test : Bool) → (is_plain b && not (nat_eq b 0x2a)) ≡ test → text_bytes (shown b ++ rest) ≡ option_map (λ bytes. b ∷ bytes) (text_bytes rest)
+    split : (test : Bool) → (is_plain b && not (nat_eq b 0x2a)) ≡ test → text_bytes (escaped_byte b ++ rest) ≡ option_map (λ bytes. b ∷ bytes) (text_bytes rest)
     split true is =
         ap (λ t. text_bytes (cond t (b ∷ []) (0x5c ∷ 0x78 ∷ hex_digit (b / 16) ∷ hex_digit (b % 16) ∷ []) ++ rest)) is
         ∙ text_bytes-plain b rest (and_left (is_plain b) (not (nat_eq b 0x2a)) is)
@@ -42,20 +42,20 @@ text_bytes-shown b rest small = split (is_plain b && not (nat_eq b 0x2a)) refl
         ap (λ t. text_bytes (cond t (b ∷ []) (0x5c ∷ 0x78 ∷ hex_digit (b / 16) ∷ hex_digit (b % 16) ∷ []) ++ rest)) is
         ∙ text_bytes-escaped b rest small
 
-text_bytes-flat_map : (bytes : List ℕ) → AreBytes bytes → text_bytes (flat_map shown bytes) ≡ Some bytes
+text_bytes-flat_map : (bytes : List ℕ) → AreBytes bytes → text_bytes (flat_map escaped_byte bytes) ≡ Some bytes
 text_bytes-flat_map [] are = refl
 text_bytes-flat_map (b ∷ bytes) are =
-    text_bytes-shown b (flat_map shown bytes) (All-head (λ b. b < 256) b bytes are)
+    text_bytes-escaped_byte b (flat_map escaped_byte bytes) (All-head (λ b. b < 256) b bytes are)
     ∙ ap (λ o. option_map (λ bytes. b ∷ bytes) o) (text_bytes-flat_map bytes (All-tail (λ b. b < 256) b bytes are))
 
 -- it isn't the word for no bytes
-not_mark : (bytes : List ℕ) → AreBytes bytes → bytes_eq (flat_map shown bytes) (0x5c ∷ 0x65 ∷ []) ≡ false
-not_mark bytes are = split (bytes_eq (flat_map shown bytes) (0x5c ∷ 0x65 ∷ [])) refl
+not_mark : (bytes : List ℕ) → AreBytes bytes → bytes_eq (flat_map escaped_byte bytes) (0x5c ∷ 0x65 ∷ []) ≡ false
+not_mark bytes are = split (bytes_eq (flat_map escaped_byte bytes) (0x5c ∷ 0x65 ∷ [])) refl
   where
-    split : (test : Bool) → bytes_eq (flat_map shown bytes) (0x5c ∷ 0x65 ∷ []) ≡ test → bytes_eq (flat_map shown bytes) (0x5c ∷ 0x65 ∷ []) ≡ false
+    split : (test : Bool) → bytes_eq (flat_map escaped_byte bytes) (0x5c ∷ 0x65 ∷ []) ≡ test → bytes_eq (flat_map escaped_byte bytes) (0x5c ∷ 0x65 ∷ []) ≡ false
     split false is = is
     split true is =
-        let mark : flat_map shown bytes ≡ 0x5c ∷ 0x65 ∷ [] = (bytes_eq-Decides (flat_map shown bytes) (0x5c ∷ 0x65 ∷ [])).0 is in
+        let mark : flat_map escaped_byte bytes ≡ 0x5c ∷ 0x65 ∷ [] = (bytes_eq-Decides (flat_map escaped_byte bytes) (0x5c ∷ 0x65 ∷ [])).0 is in
         let none : None ≡ Some bytes = sym (ap text_bytes mark) ∙ text_bytes-flat_map bytes are in
         absurd (cc)
 
@@ -66,19 +66,19 @@ no_star-written (b ∷ bytes) star = split (is_plain b && not (nat_eq b 0x2a)) r
   where
     split : (test : Bool) → (is_plain b && not (nat_eq b 0x2a)) ≡ test → ⊥
     split true is =
-        let first : get_or (shown b ++ flat_map shown bytes) 0 0 ≡ b =
-        ap (λ t. get_or (cond t (b ∷ []) (0x5c ∷ 0x78 ∷ hex_digit (b / 16) ∷ hex_digit (b % 16) ∷ []) ++ flat_map shown bytes) 0 0) is in
+        let first : get_or (escaped_byte b ++ flat_map escaped_byte bytes) 0 0 ≡ b =
+        ap (λ t. get_or (cond t (b ∷ []) (0x5c ∷ 0x78 ∷ hex_digit (b / 16) ∷ hex_digit (b % 16) ∷ []) ++ flat_map escaped_byte bytes) 0 0) is in
         let same : b ≡ 0x2a = sym first ∙ star in
         grind (arith, nat_tests)
     split false is =
-        let first : get_or (shown b ++ flat_map shown bytes) 0 0 ≡ 0x5c =
-        ap (λ t. get_or (cond t (b ∷ []) (0x5c ∷ 0x78 ∷ hex_digit (b / 16) ∷ hex_digit (b % 16) ∷ []) ++ flat_map shown bytes) 0 0) is in
+        let first : get_or (escaped_byte b ++ flat_map escaped_byte bytes) 0 0 ≡ 0x5c =
+        ap (λ t. get_or (cond t (b ∷ []) (0x5c ∷ 0x78 ∷ hex_digit (b / 16) ∷ hex_digit (b % 16) ∷ []) ++ flat_map escaped_byte bytes) 0 0) is in
         absurd (omega (arith, first, star))
 
 pub word_bytes-written : (bytes : List ℕ) → AreBytes bytes → word_bytes (written bytes) ≡ Some bytes
 word_bytes-written [] are = refl
 word_bytes-written (b ∷ bytes) are =
-    ap (λ t. cond t (Some []) (text_bytes (flat_map shown (b ∷ bytes)))) (not_mark (b ∷ bytes) are) ∙ text_bytes-flat_map (b ∷ bytes) are
+    ap (λ t. cond t (Some []) (text_bytes (flat_map escaped_byte (b ∷ bytes)))) (not_mark (b ∷ bytes) are) ∙ text_bytes-flat_map (b ∷ bytes) are
 
 nothing : (spelling : Option (List ℕ)) (f : List ℕ → List ℕ) → IsSome spelling → None ≡ option_map f spelling → ⊥
 nothing (Some bytes) f some none = absurd (cc)

@@ -20,13 +20,13 @@ is_plain b = nat_le 0x21 b && (nat_le b 0x7e && not (b == 0x5c))
 -- ---- written
 
 -- a byte as it is written: itself, or `\x` and two digits; a star always so
-abbrev pub shown : ℕ → List ℕ
-shown b = if is_plain b && not (b == 0x2a) then b ∷ [] else 0x5c ∷ 0x78 ∷ hex_digit (b / 16) ∷ hex_digit (b % 16) ∷ []
+abbrev pub escaped_byte : ℕ → List ℕ
+escaped_byte b = if is_plain b && not (b == 0x2a) then b ∷ [] else 0x5c ∷ 0x78 ∷ hex_digit (b / 16) ∷ hex_digit (b % 16) ∷ []
 
 -- the word for bytes; for no bytes it is `\e`
 abbrev pub written : List ℕ → List ℕ
 written [] = 0x5c ∷ 0x65 ∷ []
-written (b ∷ bytes) = flat_map shown (b ∷ bytes)
+written (b ∷ bytes) = flat_map escaped_byte (b ∷ bytes)
 
 -- ---- read
 
@@ -51,19 +51,19 @@ advance Mark b = To (Digit b)
 advance (Digit first) b = byte_of (hex_value first) (hex_value b)
 
 -- the result of a part, or after a byte
-abbrev pub followed : Step → (Part → Option (List ℕ)) → Option (List ℕ)
-followed (To part) rest = rest part
-followed (Byte b) rest = option_map (λ bytes. b ∷ bytes) (rest Text)
-followed Never rest = None
+abbrev pub after_step : Step → (Part → Option (List ℕ)) → Option (List ℕ)
+after_step (To part) rest = rest part
+after_step (Byte b) rest = option_map (λ bytes. b ∷ bytes) (rest Text)
+after_step Never rest = None
 
 -- the bytes of a text, where a part of it was before
-abbrev pub spelled : Part → List ℕ → Option (List ℕ)
-spelled Text [] = Some []
-spelled _ [] = None
-spelled part (b ∷ word) = followed (advance part b) (λ p. spelled p word)
+abbrev pub spelled_bytes : Part → List ℕ → Option (List ℕ)
+spelled_bytes Text [] = Some []
+spelled_bytes _ [] = None
+spelled_bytes part (b ∷ word) = after_step (advance part b) (λ p. spelled_bytes p word)
 
 abbrev pub text_bytes : List ℕ → Option (List ℕ)
-text_bytes word = spelled Text word
+text_bytes word = spelled_bytes Text word
 
 -- the bytes of a word without a repetition
 abbrev pub word_bytes : List ℕ → Option (List ℕ)

@@ -4,7 +4,7 @@ ghost use Rattle.std.specs.Prelude.{◌≡◌, ◌++◌, OnOk};
 ghost use Rattle.lfs_script_lines.specs.Answers.{answer_text, block_text, calls_text, difference_text, error_text, entry_text, gstate_text, item_text, items_text, kind_text, moving_text, number_text, reply_text, stat_text};
 
 use crate::answer::{Answer, Calls, Difference};
-use crate::written::{hex_digit, push_word};
+use crate::word_text::{hex_digit, push_word};
 use lfs_device::Error;
 use lfs_fs::{Gstate, Item, Kind, Reply};
 use std::alloc::AllocError;

@@ -10,8 +10,8 @@ mod lines;
 mod names;
 mod numbers;
 mod refusal;
+mod word_text;
 mod words;
-mod written;
 
 pub use answer::{Answer, Calls, Difference};
 pub use answer_text::push_answer;
@@ -19,5 +19,5 @@ pub use command::{Command, Operation, Scope};
 pub use lines::{LineError, read_line};
 pub use names::{CommandName, OperationName};
 pub use refusal::Refusal;
+pub use word_text::push_word;
 pub use words::read_word;
-pub use written::push_word;

@@ -95,7 +95,7 @@ fn read_plain(alloc: Global, word: &[u8]) -> Result<Option<Vec<u8>>, AllocError>
 }
 
 // Returns where the first colon is.
-fn colon(text: &[u8]) -> Option<usize>
+fn find_colon(text: &[u8]) -> Option<usize>
     ensures { result ≡ position (λ b. b == 0x3a) text.now }
 {
     text.iter().position(|byte| *byte == b':')
@@ -106,7 +106,7 @@ fn star(behind: &[u8]) -> Option<(u32, &[u8])>
     ensures shorter { IfSome result (λ r. length r.1.now < length behind.now) }
     ensures counted { (n : ℕ) (rest : List ℕ) → n < 2 ^ 32 → behind.now ≡ decimal n ++ 0x3a ∷ rest → IsSomeAnd result (λ r. (r.0 ≡ n) × (r.1.now ≡ rest)) }
 {
-    let end = colon(behind)?;
+    let end = find_colon(behind)?;
     let times = read_decimal(&behind[..end])?;
     Some((times, &behind[end + 1..]))
 }

@@ -9,7 +9,7 @@ use Rattle.lfs_model.specs.Tag.{IsValid, kind_of, len_of, class_of, chunk_of, da
 use Rattle.lfs_model.specs.Log.{LogEntry, tag_at, entry_at}
 use Rattle.lfs_model.specs.Geometry.{is_page}
 use Rattle.lfs_model.specs.EntryTypes.{no_id}
-use Rattle.lfs_model.specs.Commit.{next_at, checksum_type}
+use Rattle.lfs_model.specs.Commit.{next_four_bytes, checksum_type}
 use Rattle.lfs_tag.specs.Builder.{Building, checksum_start, padded_end}
 use Rattle.lfs_tag.proofs.BuilderCommits.{IsChecksumKind, class_of_kind, not_forward}
 
@@ -89,7 +89,7 @@ carried_is kind size k small =
     let plain = not_forward (tag_with kind no_id size) (kind_of_cases kind (tag_with kind no_id size) k is) in
     rw (class, plain, bit) refl
 
-pub nothing_follows : (block : List ℕ) (end size : ℕ) (next : Option (List ℕ)) → IfSome next AreBytes → size < 2 ^ 10 → next_at block end ≡ next
+pub nothing_follows : (block : List ℕ) (end size : ℕ) (next : Option (List ℕ)) → IfSome next AreBytes → size < 2 ^ 10 → next_four_bytes block end ≡ next
     → entry_at block end (carried (tag_with (checksum_type next) no_id size)) ≡ None
 unfolding entry_at
 nothing_follows block end size None are small is =

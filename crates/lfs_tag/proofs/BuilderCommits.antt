@@ -9,8 +9,8 @@ use Rattle.byteorder.specs.Endian.{big_number, big_bytes, little_number, little_
 use Rattle.byteorder.specs.Numbers.{big_number-reads_back, little_number-reads_back}
 use Rattle.lfs_model.specs.Crc.{crc_of}
 use Rattle.lfs_model.specs.Tag.{IsValid, kind_of, len_of, class_of, data_size, is_forward_checksum, carried}
-use Rattle.lfs_model.specs.Log.{LogEntry, entry_at, past, is_checksum, closes, IsCommit}
-use Rattle.lfs_model.specs.Commit.{stored, entries_size}
+use Rattle.lfs_model.specs.Log.{LogEntry, entry_at, end_of_entry, is_checksum, closes, IsCommit}
+use Rattle.lfs_model.specs.Commit.{bytes_of_entries, entries_size}
 use Rattle.lfs_tag.specs.BuilderKeeps.{last_tag, AreStorable}
 use Rattle.lfs_tag.proofs.Local.{from_lies}
 use Rattle.lfs_tag.proofs.BuilderEntries.{carried_other}
@@ -35,26 +35,26 @@ entry_read block rest at before e valid size fits here =
 
 -- one entry before a commit
 commit_cons : (block : List ℕ) (start at before : ℕ) (e : LogEntry) (es : List LogEntry) (end last : ℕ) → entry_at block at before ≡ Some e → is_checksum e ≡ false
-    → IsCommit block start (past at e) e.tag es end last → IsCommit block start at before (e ∷ es) end last
+    → IsCommit block start (end_of_entry at e) e.tag es end last → IsCommit block start at before (e ∷ es) end last
 commit_cons block start at before e [] end last is other rest = absurd rest
 commit_cons block start at before e (f ∷ es) end last is other rest = (is, other, rest)
 
 -- entries as they are stored, before a checksum's
-pub entries_read : (block rest : List ℕ) (start at before : ℕ) (es : List LogEntry) (ck : LogEntry) (end last : ℕ) → AreStorable before es → drop at block ≡ stored before es ++ rest
+pub entries_read : (block rest : List ℕ) (start at before : ℕ) (es : List LogEntry) (ck : LogEntry) (end last : ℕ) → AreStorable before es → drop at block ≡ bytes_of_entries before es ++ rest
     → IsCommit block start (at + entries_size es) (last_tag before es) (ck ∷ []) end last → IsCommit block start at before (es ++ ck ∷ []) end last
 entries_read block rest start at before [] ck end last all here base = rw add-zero at base
 entries_read block rest start at before (e ∷ es) ck end last all here base =
     let tag = big_bytes 4 (bit_xor e.tag before) in
-    let later = stored (carried e.tag) es in
+    let later = bytes_of_entries (carried e.tag) es in
     let more = later ++ rest in
     let here' : drop at block ≡ tag ++ (e.bytes ++ more) = here ∙ append_assoc (tag ++ e.bytes) later rest ∙ append_assoc tag e.bytes more in
     let read = entry_read block more at before e all.0.valid all.0.size all.0.fits here' in
-    let behind : drop (past at e) block ≡ more =
+    let behind : drop (end_of_entry at e) block ≡ more =
     sym (drop-drop (length e.bytes) (at + 4) block) ∙ ap (drop (length e.bytes)) (sym (drop-drop 4 at block) ∙ ap (drop 4) here') ∙ drop-append_seam e.bytes more in
-    let place : at + entries_size (e ∷ es) ≡ past at e + entries_size es = omega (arith, sum_by-cons (λ (e : LogEntry). 4 + length e.bytes) e es) in
-    let ends = entries_read block rest start (past at e) (carried e.tag) es ck end last all.1 behind (rw place at base) in
+    let place : at + entries_size (e ∷ es) ≡ end_of_entry at e + entries_size es = omega (arith, sum_by-cons (λ (e : LogEntry). 4 + length e.bytes) e es) in
+    let ends = entries_read block rest start (end_of_entry at e) (carried e.tag) es ck end last all.1 behind (rw place at base) in
     commit_cons block start at before e (es ++ ck ∷ []) end last read all.0.other
-    (subst (λ (n : ℕ). IsCommit block start (past at e) n (es ++ ck ∷ []) end last) (carried_other e all.0.other) ends)
+    (subst (λ (n : ℕ). IsCommit block start (end_of_entry at e) n (es ++ ck ∷ []) end last) (carried_other e all.0.other) ends)
 
 -- ---- the checksum's entry
 

@@ -5,14 +5,14 @@ use Rattle.byteorder.specs.Endian.{big_bytes, little_bytes}
 use Rattle.lfs_model.specs.Crc.{crc_of}
 use Rattle.lfs_model.specs.Blocks.{overwritten}
 use Rattle.lfs_tag.specs.Builder.{Building, checksum_start, padded_end, checksum_tag}
-use Rattle.lfs_tag.specs.BuilderKeeps.{front_of, Keeps}
+use Rattle.lfs_tag.specs.BuilderKeeps.{front_of, IsBuilderOf}
 use Rattle.lfs_tag.proofs.BuilderWrites.{take-overwritten}
 use Rattle.lfs_tag.proofs.BuilderChecksums.{AreBytes, padded}
 use Rattle.lfs_tag.proofs.BuilderPages.{ArePages}
 
 -- what is known when the checksum is written
 pub record Sealed (page len last stored end tag : ℕ) (buf now : List ℕ) (b : Building) : Type 0 where
-  pub kept : Keeps page len last buf b
+  pub kept : IsBuilderOf page len last buf b
   pub end_is : end ≡ padded_end b
   pub within : end ≤ length buf
   pub room : length buf < 2 ^ 64 - 1

@@ -10,8 +10,8 @@ use Rattle.lfs_model.specs.Tag.{carried, len_of}
 use Rattle.lfs_model.specs.Log.{LogEntry, with_commit, IsCommit, commit_at, chain_of, revision_of, log_entries}
 use Rattle.lfs_model.specs.Geometry.{is_page}
 use Rattle.lfs_model.specs.Blocks.{overwritten}
-use Rattle.lfs_model.specs.Commit.{stored, entries_size, next_at, checksum_type}
-use Rattle.lfs_tag.specs.Builder.{Building, entries_start, checksum_start, padded_end, checksum_tag, checksum_entry, GoesTo, earlier, AreCommitted}
+use Rattle.lfs_model.specs.Commit.{bytes_of_entries, entries_size, next_four_bytes, checksum_type}
+use Rattle.lfs_tag.specs.Builder.{Building, entries_start, checksum_start, padded_end, checksum_tag, checksum_entry, CommitIsAt, commits_before, AreCommitted}
 use Rattle.lfs_tag.specs.BuilderKeeps.{last_tag, revision_bytes, front_of, AreStorable}
 use Rattle.lfs_model.proofs.Chains.{commit_none, commit_complete, chain_on, chain_none}
 use Rattle.lfs_tag.proofs.Local.{appended, next_start}
@@ -89,7 +89,7 @@ module _ (b : Building) (next : Option (List ℕ)) (pages : List ℕ) (last sum 
   commit_here : (new rest : List ℕ) (start : ℕ) → drop start new ≡ pages ++ rest → IsCommit new start (start + entries_start b.revision) b.previous (b.entries ++ ck ∷ []) (start + length pages) (carried tag)
   commit_here new rest start here =
       let head = revision_bytes b.revision in
-      let es = stored b.previous b.entries in
+      let es = bytes_of_entries b.previous b.entries in
       let filled = little_bytes 4 sum ++ pad in
       let p = padded b h.power in
       let first = start + entries_start b.revision in
@@ -107,7 +107,7 @@ module _ (b : Building) (next : Option (List ℕ)) (pages : List ℕ) (last sum 
       subst (λ (n : ℕ). IsCommit new start at n (ck ∷ []) (start + length pages) (carried tag)) h.last_is (subst (λ (n : ℕ). IsCommit new start at last (ck ∷ []) n (carried tag)) end closed) in
       entries_read new (tag_bytes ++ (filled ++ rest)) start first b.previous b.entries ck (start + length pages) (carried tag) h.entries behind base
 
-  none_here : (new : List ℕ) (end : ℕ) → next_at new end ≡ next → commit_at new end end (carried tag) ≡ None
+  none_here : (new : List ℕ) (end : ℕ) → next_four_bytes new end ≡ next → commit_at new end end (carried tag) ≡ None
   none_here new end is = commit_none new end end (carried tag) (nothing_follows new end size next h.bytes size_small is)
 
 -- ---- in a block
@@ -157,13 +157,13 @@ module _ (b : Building) (next : Option (List ℕ)) (pages : List ℕ) (last sum 
   here =
       ap (drop at) joined ∙ ap (λ (n : ℕ). drop n (take at block ++ (pages ++ rest))) (sym long) ∙ drop-append_seam (take at block) (pages ++ rest)
 
-  same_next : next_at new (at + length pages) ≡ next_at block (at + length pages)
+  same_next : next_four_bytes new (at + length pages) ≡ next_four_bytes block (at + length pages)
   same_next =
       let behind : drop (at + length pages) new ≡ rest = drop-overwritten at (at + length pages) 0 block pages (omega arith) (omega arith) in
       rw (same_len, behind) refl
 
-  log_of : (r : Option ℕ) → entries_start b.revision ≡ entries_start r → GoesTo r b.previous block at → next_at block (at + length pages) ≡ next
-      → chain_of new ≡ record { commits = earlier r block ++ (b.entries ++ ck b next pages last sum h ∷ []) ∷ []; end = at + length pages; last = carried (checksum_tag b next) }
+  log_of : (r : Option ℕ) → entries_start b.revision ≡ entries_start r → CommitIsAt r b.previous block at → next_four_bytes block (at + length pages) ≡ next
+      → chain_of new ≡ record { commits = commits_before r block ++ (b.entries ++ ck b next pages last sum h ∷ []) ∷ []; end = at + length pages; last = carried (checksum_tag b next) }
   log_of None starts goes nexts =
       let es = b.entries ++ ck b next pages last sum h ∷ [] in
       let commit : IsCommit new at at b.previous es (at + length pages) (carried (checksum_tag b next)) =
@@ -182,7 +182,7 @@ module _ (b : Building) (next : Option (List ℕ)) (pages : List ℕ) (last sum 
       let none = none_here b next pages last sum h new (at + length pages) (same_next ∙ nexts) in
       at_beginning new es (at + length pages) (carried (checksum_tag b next)) commit none
 
-  revision_is : (r : Option ℕ) → b.revision ≡ r → GoesTo r b.previous block at → revision_of new ≡ unwrap_or r (revision_of block)
+  revision_is : (r : Option ℕ) → b.revision ≡ r → CommitIsAt r b.previous block at → revision_of new ≡ unwrap_or r (revision_of block)
   revision_is None is goes =
       let low : 4 ≤ at = omega (arith, goes.1, run_space block 4 0xffffffff (log_entries block) (chain_of block).end (chain_of block).last (all_run block)) in
       let front : little_number 4 (take at block) ≡ little_number 4 block = little_from-take 0 4 at block (omega arith) in
@@ -192,9 +192,9 @@ module _ (b : Building) (next : Option (List ℕ)) (pages : List ℕ) (last sum 
       let small : r < 2 ^ 32 = subst (λ (o : Option ℕ). IfSome o (λ r. r < 2 ^ 32)) is h.revision in
       let first : take at block ≡ [] = ap (λ (n : ℕ). take n block) goes.0 in
       let head : revision_bytes b.revision ≡ little_bytes 4 r = ap revision_bytes is in
-      let tail = stored b.previous b.entries ++ (tag_bytes b next pages last sum h ++ (little_bytes 4 sum ++ pad b next pages last sum h)) in
+      let tail = bytes_of_entries b.previous b.entries ++ (tag_bytes b next pages last sum h ++ (little_bytes 4 sum ++ pad b next pages last sum h)) in
       let pages_split : pages ≡ little_bytes 4 r ++ tail =
-      h.pages_are ∙ append_assoc (revision_bytes b.revision) (stored b.previous b.entries) (tag_bytes b next pages last sum h ++ (little_bytes 4 sum ++ pad b next pages last sum h))
+      h.pages_are ∙ append_assoc (revision_bytes b.revision) (bytes_of_entries b.previous b.entries) (tag_bytes b next pages last sum h ++ (little_bytes 4 sum ++ pad b next pages last sum h))
       ∙ ap (λ (l : List ℕ). l ++ tail) head in
       let split : new ≡ little_bytes 4 r ++ (tail ++ rest) =
       joined ∙ ap (λ (l : List ℕ). l ++ (pages ++ rest)) first ∙ ap (λ (l : List ℕ). l ++ rest) pages_split ∙ append_assoc (little_bytes 4 r) tail rest in
@@ -208,7 +208,7 @@ committed b next pages last sum h =
     let kind = checksum_type next in
     record {
       log = λ block at goes within nexts.
-          subst (λ (e : LogEntry). chain_of (overwritten block at pages) ≡ record { commits = earlier b.revision block ++ (b.entries ++ e ∷ []) ∷ []; end = at + length pages; last = carried (checksum_tag b next) })
+          subst (λ (e : LogEntry). chain_of (overwritten block at pages) ≡ record { commits = commits_before b.revision block ++ (b.entries ++ e ∷ []) ∷ []; end = at + length pages; last = carried (checksum_tag b next) })
           (named b next pages last sum h) (log_of b next pages last sum h block at within b.revision refl goes nexts);
       revision = λ block at goes within. revision_is b next pages last sum h block at within b.revision refl goes;
       class = class_of_kind (checksum_tag b next) (kind_of_cases kind (checksum_tag b next) (kind_cases next) (kind_is kind size (kind_cases next) (size_small b next pages last sum h)));

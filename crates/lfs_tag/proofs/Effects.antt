@@ -7,17 +7,17 @@ use Rattle.std.proofs.lemmas.Option.{cond_some, same_Some}
 use Rattle.std.proofs.lemmas.List.{get_or_past}
 use Rattle.lfs_model.specs.Tag.{kind_of, id_of, class_of}
 use Rattle.lfs_model.specs.Log.{LogEntry}
-use Rattle.lfs_model.specs.Content.{RawSlot, RawContent, empty_slot, slot_of_id, changed, up_to, typed, with_attribute, slots_after, content_after}
+use Rattle.lfs_model.specs.Content.{RawSlot, RawContent, empty_slot, slot_of_id, with_slot_changed, slots_up_to, part_of_entry, with_attribute, slots_after, content_after}
 use Rattle.lfs_model.specs.EntryTypes.{is_in_table, has_its_id, removes, create_type, delete_type}
 
 -- the slots before an entry and after it
 pub data Effect (s t : List RawSlot) (e : LogEntry) : Type 0 where
   rests : 5 ≤ class_of e.tag → t ≡ s → Effect s t e
-  names : class_of e.tag ≡ 0 → removes e.tag ≡ false → t ≡ changed (λ r. record r { name = typed e }) (up_to s (id_of e.tag)) (id_of e.tag) → Effect s t e
+  names : class_of e.tag ≡ 0 → removes e.tag ≡ false → t ≡ with_slot_changed (λ r. record r { name = part_of_entry e }) (slots_up_to s (id_of e.tag)) (id_of e.tag) → Effect s t e
   creates : class_of e.tag ≡ 4 → kind_of e.tag ≡ create_type → id_of e.tag ≤ length s → t ≡ insert s (id_of e.tag) empty_slot → Effect s t e
   deletes : class_of e.tag ≡ 4 → kind_of e.tag ≢ create_type → id_of e.tag < length s → t ≡ remove s (id_of e.tag) → Effect s t e
-  structures : class_of e.tag ≡ 2 → removes e.tag ≡ false → id_of e.tag < length s → t ≡ changed (λ r. record r { struct = typed e }) s (id_of e.tag) → Effect s t e
-  attributes : class_of e.tag ≡ 3 → id_of e.tag < length s → t ≡ changed (λ r. record r { attributes = with_attribute e r.attributes }) s (id_of e.tag) → Effect s t e
+  structures : class_of e.tag ≡ 2 → removes e.tag ≡ false → id_of e.tag < length s → t ≡ with_slot_changed (λ r. record r { struct = part_of_entry e }) s (id_of e.tag) → Effect s t e
+  attributes : class_of e.tag ≡ 3 → id_of e.tag < length s → t ≡ with_slot_changed (λ r. record r { attributes = with_attribute e r.attributes }) s (id_of e.tag) → Effect s t e
 
 -- which way a test went
 chosen : {A : Type 0} (b : Bool) (x y z : A) → cond b x y ≡ z → ((b ≡ true) × (x ≡ z)) ⊎ ((b ≡ false) × (y ≡ z))

@@ -5,7 +5,7 @@ use Rattle.std.proofs.lemmas.Bool.{cases_lt, cases_order}
 use Rattle.std.proofs.lemmas.Bool.Decides.{nat_tests}
 use Rattle.std.proofs.lemmas.List.{get_or_append_left, get_or-append_right, get_or_past, length-append, length-replicate}
 use Rattle.lfs_model.specs.Slots.{Attributes}
-use Rattle.lfs_model.specs.Content.{RawSlot, empty_slot, slot_of_id, changed, up_to, put_attribute, without_attribute, attribute_of}
+use Rattle.lfs_model.specs.Content.{RawSlot, empty_slot, slot_of_id, with_slot_changed, slots_up_to, put_attribute, without_attribute, attribute_of}
 
 -- ---- attributes
 
@@ -73,7 +73,7 @@ attribute-without_other type other (a ∷ xs) ne = elim (eqb a.0 other) as (λ b
 
 -- ---- slots
 
-pub slot-up_to : (slots : List RawSlot) (j i : ℕ) → slot_of_id (up_to slots j) i ≡ slot_of_id slots i
+pub slot-up_to : (slots : List RawSlot) (j i : ℕ) → slot_of_id (slots_up_to slots j) i ≡ slot_of_id slots i
 slot-up_to slots j i =
     elim (cases_lt i (length slots)) [
       | inl lt ↦ get_or_append_left slots (replicate (j + 1 - length slots) empty_slot) empty_slot i lt
@@ -85,11 +85,11 @@ slot-up_to slots j i =
     empties (suc n) zero = refl
     empties (suc n) (suc k) = empties n k
 
-pub length-up_to : (slots : List RawSlot) (j : ℕ) → length (up_to slots j) ≡ length slots + (j + 1 - length slots)
+pub length-up_to : (slots : List RawSlot) (j : ℕ) → length (slots_up_to slots j) ≡ length slots + (j + 1 - length slots)
 length-up_to slots j = length-append slots (replicate (j + 1 - length slots) empty_slot) ∙ ap (λ (n : ℕ). length slots + n) (length-replicate (j + 1 - length slots) empty_slot)
 
-pub slot-changed_same : (f : RawSlot → RawSlot) (slots : List RawSlot) (j : ℕ) → j < length slots → slot_of_id (changed f slots j) j ≡ f (slot_of_id slots j)
+pub slot-changed_same : (f : RawSlot → RawSlot) (slots : List RawSlot) (j : ℕ) → j < length slots → slot_of_id (with_slot_changed f slots j) j ≡ f (slot_of_id slots j)
 slot-changed_same f slots j lt = get_or-set_same slots j (f (slot_of_id slots j)) empty_slot lt
 
-pub slot-changed_other : (f : RawSlot → RawSlot) (slots : List RawSlot) (j i : ℕ) → i ≢ j → slot_of_id (changed f slots j) i ≡ slot_of_id slots i
+pub slot-changed_other : (f : RawSlot → RawSlot) (slots : List RawSlot) (j i : ℕ) → i ≢ j → slot_of_id (with_slot_changed f slots j) i ≡ slot_of_id slots i
 slot-changed_other f slots j i ne = get_or-set_other slots j i (f (slot_of_id slots j)) empty_slot ne

@@ -7,7 +7,7 @@ use Rattle.std.proofs.lemmas.List.{drop-append-le, take-append-le, length-drop}
 use Rattle.byteorder.specs.Endian.{big_number}
 use Rattle.byteorder.specs.Numbers.{big_from-append}
 use Rattle.lfs_model.specs.Tag.{data_size}
-use Rattle.lfs_model.specs.Log.{LogEntry, with_commit, tag_at, entry_at, past, closes, IsCommit, IsChain, commit_at, chain_at, chain_of}
+use Rattle.lfs_model.specs.Log.{LogEntry, with_commit, tag_at, entry_at, end_of_entry, closes, IsCommit, IsChain, commit_at, chain_at, chain_of}
 use Rattle.lfs_model.proofs.Chains.{Lies, lies, commit_none, commit_space, commit_complete, chain_on, chain_none, chain_sound}
 
 pub from_lies : (block : List ℕ) (at before : ℕ) (e : LogEntry) → Lies block at before e → entry_at block at before ≡ Some e
@@ -39,7 +39,7 @@ lies_on front x at before e l = record {
   bytes = l.bytes ∙ sym (part_of_front front x (data_size e.tag) (at + 4) (omega (arith, l.within, l.size)));
 }
 
-pub lies_within : (front x : List ℕ) (at before : ℕ) (e : LogEntry) → past at e ≤ length front → Lies (front ++ x) at before e → Lies front at before e
+pub lies_within : (front x : List ℕ) (at before : ℕ) (e : LogEntry) → end_of_entry at e ≤ length front → Lies (front ++ x) at before e → Lies front at before e
 lies_within front x at before e le l = record {
   tag = l.tag ∙ tag_of_front front x at before (omega arith);
   valid = l.valid;
@@ -49,7 +49,7 @@ lies_within front x at before e le l = record {
 }
 
 -- an entry within the front, whatever follows the front
-entry_moves : (front x y : List ℕ) (at before : ℕ) (e : LogEntry) → past at e ≤ length front → entry_at (front ++ x) at before ≡ Some e → entry_at (front ++ y) at before ≡ Some e
+entry_moves : (front x y : List ℕ) (at before : ℕ) (e : LogEntry) → end_of_entry at e ≤ length front → entry_at (front ++ x) at before ≡ Some e → entry_at (front ++ y) at before ≡ Some e
 entry_moves front x y at before e le is = from_lies (front ++ y) at before e (lies_on front y at before e (lies_within front x at before e le (lies (front ++ x) at before e is)))
 
 closes_moves : (front x y : List ℕ) (start at : ℕ) (e : LogEntry) → start ≤ at → at + 4 ≤ length front → closes (front ++ x) start at e ≡ closes (front ++ y) start at e
@@ -64,8 +64,8 @@ commit_moves front x y start at before [] end last le within h = absurd h
 commit_moves front x y start at before (e ∷ []) end last le within h =
     (entry_moves front x y at before e (omega (arith, h.3, within)) h.0, h.1, sym (closes_moves front x y start at e le (omega (arith, h.3, within))) ∙ h.2, h.3, h.4)
 commit_moves front x y start at before (e ∷ f ∷ es) end last le within h =
-    let w = commit_space (front ++ x) start (past at e) e.tag (f ∷ es) end last h.2 in
-    (entry_moves front x y at before e (omega (arith, w.after, within)) h.0, h.1, commit_moves front x y start (past at e) e.tag (f ∷ es) end last (omega arith) within h.2)
+    let w = commit_space (front ++ x) start (end_of_entry at e) e.tag (f ∷ es) end last h.2 in
+    (entry_moves front x y at before e (omega (arith, w.after, within)) h.0, h.1, commit_moves front x y start (end_of_entry at e) e.tag (f ∷ es) end last (omega arith) within h.2)
 
 chain_space : (block : List ℕ) (start at before : ℕ) (cs : List (List LogEntry)) (end last : ℕ) → IsChain block start at before cs end last → at ≤ end
 chain_space block start at before [] end last h = omega (arith, h.0)

@@ -12,9 +12,9 @@ use Rattle.lfs_model.specs.declared.order.NameOrder.{NameOrder}
 use Rattle.lfs_model.specs.Tag.{kind_of, id_of, class_of}
 use Rattle.lfs_model.specs.Log.{LogEntry, log_entries, chain_of}
 use Rattle.lfs_model.specs.Names.{Name, name_cmp, same_name, is_same, is_less}
-use Rattle.lfs_model.specs.Content.{RawSlot, RawContent, empty_slot, slot_of_id, changed, up_to, typed, with_attribute, content_after, content_after_all, no_content}
+use Rattle.lfs_model.specs.Content.{RawSlot, RawContent, empty_slot, slot_of_id, with_slot_changed, slots_up_to, part_of_entry, with_attribute, content_after, content_after_all, no_content}
 use Rattle.lfs_model.specs.EntryTypes.{create_type, superblock_name_type}
-use Rattle.lfs_model.specs.Lookup.{entry_name, is_named, is_behind, IsFound, IsPlace}
+use Rattle.lfs_model.specs.Lookup.{entry_name, is_named, is_name_after, IsLeastIdOf, IsPlace}
 use Rattle.lfs_tag.specs.Find.{rank_of, entry_rank, ranks_up_to, ranks_after, ranks_after_all, is_wanted, is_skipped, is_first, first_from}
 use Rattle.lfs_tag.proofs.Effects.{Effect, rests, names, creates, deletes, structures, attributes, effect}
 use Rattle.lfs_tag.proofs.Places.{map-insert, map-remove}
@@ -29,18 +29,18 @@ empty_ranks : (order : NameOrder) (name : Name) (n : ℕ) → map (rank_of order
 empty_ranks order name zero = refl
 empty_ranks order name (suc n) = ap (λ rs. None ∷ rs) (empty_ranks order name n)
 
-up_to_ranks : (order : NameOrder) (name : Name) (slots : List RawSlot) (i : ℕ) → map (rank_of order name) (up_to slots i) ≡ ranks_up_to (map (rank_of order name) slots) i
+up_to_ranks : (order : NameOrder) (name : Name) (slots : List RawSlot) (i : ℕ) → map (rank_of order name) (slots_up_to slots i) ≡ ranks_up_to (map (rank_of order name) slots) i
 up_to_ranks order name slots i =
     map-append (rank_of order name) slots (replicate (i + 1 - length slots) empty_slot)
     ∙ ap (λ rs. map (rank_of order name) slots ++ rs) (empty_ranks order name (i + 1 - length slots) ∙ ap (λ n. replicate (i + 1 - n) None) (sym (length-map slots (rank_of order name))))
 
 -- a change that leaves a slot's name leaves its rank
-same_ranks : (order : NameOrder) (name : Name) (f : RawSlot → RawSlot) → ((r : RawSlot) → (f r).name ≡ r.name) → (slots : List RawSlot) (i : ℕ) → map (rank_of order name) (changed f slots i) ≡ map (rank_of order name) slots
+same_ranks : (order : NameOrder) (name : Name) (f : RawSlot → RawSlot) → ((r : RawSlot) → (f r).name ≡ r.name) → (slots : List RawSlot) (i : ℕ) → map (rank_of order name) (with_slot_changed f slots i) ≡ map (rank_of order name) slots
 same_ranks order name f same [] i = refl
 same_ranks order name f same (s ∷ slots) zero = ap (λ r. r ∷ map (rank_of order name) slots) (ap (λ n. option_map (name_cmp order name) (option_and_then (λ (p : ℕ × List ℕ). cond (eqb p.0 superblock_name_type) None (Some p.1)) n)) (same s))
 same_ranks order name f same (s ∷ slots) (suc i) = ap (λ rs. rank_of order name s ∷ rs) (same_ranks order name f same slots i)
 
-named_rank : (order : NameOrder) (name : Name) (e : LogEntry) (r : RawSlot) → rank_of order name (record r { name = typed e }) ≡ entry_rank order name e
+named_rank : (order : NameOrder) (name : Name) (e : LogEntry) (r : RawSlot) → rank_of order name (record r { name = part_of_entry e }) ≡ entry_rank order name e
 named_rank order name e r = by_test (eqb (kind_of e.tag) superblock_name_type)
   where
     by_test : (b : Bool) → option_map (name_cmp order name) (cond b None (Some e.bytes)) ≡ cond b None (Some (name_cmp order name e.bytes))
@@ -55,9 +55,9 @@ rank_step order name s t e (rests high same) =
 rank_step order name s t e (names class keeps is) =
     let a : eqb (class_of e.tag) 0 ≡ true = grind (arith, nat_tests) in
     let i = id_of e.tag in
-    let all = up_to s i in
+    let all = slots_up_to s i in
     let r = slot_of_id all i in
-    rw (a, is) (ap (λ rs. set rs i (entry_rank order name e)) (sym (up_to_ranks order name s i)) ∙ ap (set (map (rank_of order name) all) i) (sym (named_rank order name e r)) ∙ sym (map-set (rank_of order name) all i (record r { name = typed e })))
+    rw (a, is) (ap (λ rs. set rs i (entry_rank order name e)) (sym (up_to_ranks order name s i)) ∙ ap (set (map (rank_of order name) all) i) (sym (named_rank order name e r)) ∙ sym (map-set (rank_of order name) all i (record r { name = part_of_entry e })))
 rank_step order name s t e (creates class create le is) =
     let a : eqb (class_of e.tag) 0 ≡ false = grind (arith, nat_tests) in
     let b : eqb (class_of e.tag) 4 ≡ true = grind (arith, nat_tests) in
@@ -75,7 +75,7 @@ rank_step order name s t e (deletes class delete lt is) =
 rank_step order name s t e (structures class keeps lt is) =
     let a : eqb (class_of e.tag) 0 ≡ false = grind (arith, nat_tests) in
     let b : eqb (class_of e.tag) 4 ≡ false = grind (arith, nat_tests) in
-    rw (a, b, is) (sym (same_ranks order name (λ r. record r { struct = typed e }) (λ r. refl) s (id_of e.tag)))
+    rw (a, b, is) (sym (same_ranks order name (λ r. record r { struct = part_of_entry e }) (λ r. refl) s (id_of e.tag)))
 rank_step order name s t e (attributes class lt is) =
     let a : eqb (class_of e.tag) 0 ≡ false = grind (arith, nat_tests) in
     let b : eqb (class_of e.tag) 4 ≡ false = grind (arith, nat_tests) in
@@ -166,7 +166,7 @@ same_wanted order name (Some other) = by_order (name_cmp order name other) ∙ s
     by_order Equal = refl
     by_order Greater = refl
 
-behind_wanted : (order : NameOrder) (name : Name) (o : Option Name) → option_map_or (is_wanted false) (option_map (name_cmp order name) o) false ≡ option_map_or (is_behind order name) o false
+behind_wanted : (order : NameOrder) (name : Name) (o : Option Name) → option_map_or (is_wanted false) (option_map (name_cmp order name) o) false ≡ option_map_or (is_name_after order name) o false
 behind_wanted order name None = refl
 behind_wanted order name (Some other) = by_order (name_cmp order name other)
   where
@@ -178,10 +178,10 @@ behind_wanted order name (Some other) = by_order (name_cmp order name other)
 same_named : (order : NameOrder) (name : Name) (skip : Option ℕ) (slots : List RawSlot) (k : ℕ) → is_named (same_name name) skip slots k ≡ is_first true skip k (get_or (map (rank_of order name) slots) k None)
 same_named order name skip slots k = ap (λ b. b && not (is_skipped skip k)) (sym (ap (λ r. option_map_or (is_wanted true) r false) (rank_at order name slots k) ∙ same_wanted order name (entry_name (slot_of_id slots k))))
 
-behind_named : (order : NameOrder) (name : Name) (skip : Option ℕ) (slots : List RawSlot) (k : ℕ) → is_named (is_behind order name) skip slots k ≡ is_first false skip k (get_or (map (rank_of order name) slots) k None)
+behind_named : (order : NameOrder) (name : Name) (skip : Option ℕ) (slots : List RawSlot) (k : ℕ) → is_named (is_name_after order name) skip slots k ≡ is_first false skip k (get_or (map (rank_of order name) slots) k None)
 behind_named order name skip slots k = ap (λ b. b && not (is_skipped skip k)) (sym (ap (λ r. option_map_or (is_wanted false) r false) (rank_at order name slots k) ∙ behind_wanted order name (entry_name (slot_of_id slots k))))
 
-pub found_is : (order : NameOrder) (name : Name) (skip : Option ℕ) (slots : List RawSlot) (id : ℕ) → id ≡ first_from true skip 0 (map (rank_of order name) slots) → id < length slots → IsFound name skip slots id
+pub found_is : (order : NameOrder) (name : Name) (skip : Option ℕ) (slots : List RawSlot) (id : ℕ) → id ≡ first_from true skip 0 (map (rank_of order name) slots) → id < length slots → IsLeastIdOf name skip slots id
 found_is order name skip slots id is lt =
     let first = subst (FirstFrom true skip 0 (map (rank_of order name) slots)) (sym is) (first_at true skip 0 (map (rank_of order name) slots)) in
     let len = length-map slots (rank_of order name) in

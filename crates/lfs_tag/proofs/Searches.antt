@@ -9,10 +9,10 @@ use Rattle.std.proofs.lemmas.List.Edits.{get_or-insert_below, get_or-insert_at, 
 use Rattle.lfs_model.specs.Slots.{Attributes}
 use Rattle.lfs_model.specs.Tag.{kind_of, id_of, class_of, chunk_of}
 use Rattle.lfs_model.specs.Log.{LogEntry, log_entries}
-use Rattle.lfs_model.specs.Content.{RawSlot, RawContent, empty_slot, slot_of_id, changed, up_to, typed, with_attribute, put_attribute, without_attribute, attribute_of, content_after, content_after_all, no_content}
+use Rattle.lfs_model.specs.Content.{RawSlot, RawContent, empty_slot, slot_of_id, with_slot_changed, slots_up_to, part_of_entry, with_attribute, put_attribute, without_attribute, attribute_of, content_after, content_after_all, no_content}
 use Rattle.lfs_model.specs.EntryTypes.{removes, create_type}
-use Rattle.lfs_model.specs.Lookup.{bytes_typed, bytes_in}
-use Rattle.lfs_tag.specs.Search.{Verdict, Holds, Was, is_about, verdict_of, settled, found, looks, looks_after}
+use Rattle.lfs_model.specs.Lookup.{bytes_typed, slot_bytes}
+use Rattle.lfs_tag.specs.Search.{Verdict, Holds, Was, is_about, verdict_of, verdict_value, found, looks, looks_after}
 use Rattle.lfs_tag.proofs.Effects.{Effect, rests, names, creates, deletes, structures, attributes, effect}
 use Rattle.lfs_tag.proofs.Held.{attribute-put_same, attribute-put_other, attribute-without_same, attribute-without_other, slot-up_to, length-up_to, slot-changed_same, slot-changed_other}
 
@@ -27,7 +27,7 @@ abbrev pub part_at : List RawSlot → ℕ → ℕ → Option (ℕ × List ℕ)
 part_at slots type i = part_in type (slot_of_id slots i)
 
 -- its bytes, where it has the type
-pub bytes_of_part : (type : ℕ) (s : RawSlot) → bytes_typed type (part_in type s) ≡ bytes_in type s
+pub bytes_of_part : (type : ℕ) (s : RawSlot) → bytes_typed type (part_in type s) ≡ slot_bytes type s
 bytes_of_part type s = either (eqb (type / 2 ^ 8) 0) (eqb (type / 2 ^ 8) 2) (eqb (type / 2 ^ 8) 3)
   where
     attribute : (o : Option (List ℕ)) → bytes_typed type (option_map (λ bytes. (type, bytes)) o) ≡ o
@@ -43,7 +43,7 @@ bytes_of_part type s = either (eqb (type / 2 ^ 8) 0) (eqb (type / 2 ^ 8) 2) (eqb
 
 -- what an entry says of a type and an id is what the slots after it hold
 abbrev Finds : LogEntry → ℕ → ℕ → List RawSlot → List RawSlot → Type 0
-Finds e type i s t = settled (verdict_of e type i) (part_at s type) ≡ part_at t type i
+Finds e type i s t = verdict_value (verdict_of e type i) (part_at s type) ≡ part_at t type i
 
 empty_part : (type : ℕ) → part_in type empty_slot ≡ None
 empty_part type = either (eqb (type / 2 ^ 8) 0) (eqb (type / 2 ^ 8) 2) (eqb (type / 2 ^ 8) 3)
@@ -96,14 +96,14 @@ delete_finds e type i s class delete lt =
 -- ---- names, structs and attributes
 
 -- the entry isn't about that
-not_about : (e : LogEntry) (type i : ℕ) → class_of e.tag ≢ 4 → is_about e type i ≡ false → (before : ℕ → Option (ℕ × List ℕ)) → settled (verdict_of e type i) before ≡ before i
+not_about : (e : LogEntry) (type i : ℕ) → class_of e.tag ≢ 4 → is_about e type i ≡ false → (before : ℕ → Option (ℕ × List ℕ)) → verdict_value (verdict_of e type i) before ≡ before i
 not_about e type i class other before =
     let a : eqb (class_of e.tag) 4 ≡ false = grind (arith, nat_tests) in
     rw (a, other) refl
 
 -- it is
 about : (e : LogEntry) (type i : ℕ) → class_of e.tag ≢ 4 → is_about e type i ≡ true → (before : ℕ → Option (ℕ × List ℕ))
-    → settled (verdict_of e type i) before ≡ cond (removes e.tag) None (typed e)
+    → verdict_value (verdict_of e type i) before ≡ cond (removes e.tag) None (part_of_entry e)
 about e type i class here before =
     let a : eqb (class_of e.tag) 4 ≡ false = grind (arith, nat_tests) in
     rw (a, here) refl
@@ -137,20 +137,20 @@ same_class e type i id small class =
 
 -- one slot is changed, and the others stay
 changed_finds : (e : LogEntry) (type i : ℕ) (f : RawSlot → RawSlot) (s all : List RawSlot) → class_of e.tag ≢ 4 → id_of e.tag < length all → ((k : ℕ) → slot_of_id all k ≡ slot_of_id s k)
-    → (id_of e.tag ≡ i → settled (verdict_of e type i) (part_at s type) ≡ part_in type (f (slot_of_id s i)))
-    → Finds e type i s (changed f all (id_of e.tag))
+    → (id_of e.tag ≡ i → verdict_value (verdict_of e type i) (part_at s type) ≡ part_in type (f (slot_of_id s i)))
+    → Finds e type i s (with_slot_changed f all (id_of e.tag))
 changed_finds e type i f s all class lt same here =
     elim (cases_eq (id_of e.tag) i) [
       | inl hit ↦
-          let there : slot_of_id (changed f all (id_of e.tag)) i ≡ f (slot_of_id s i) =
-          ap (slot_of_id (changed f all (id_of e.tag))) (sym hit) ∙ slot-changed_same f all (id_of e.tag) lt ∙ ap f (same (id_of e.tag) ∙ ap (slot_of_id s) hit) in
+          let there : slot_of_id (with_slot_changed f all (id_of e.tag)) i ≡ f (slot_of_id s i) =
+          ap (slot_of_id (with_slot_changed f all (id_of e.tag))) (sym hit) ∙ slot-changed_same f all (id_of e.tag) lt ∙ ap f (same (id_of e.tag) ∙ ap (slot_of_id s) hit) in
           here hit ∙ ap (part_in type) (sym there)
       | inr miss ↦ not_about e type i class (elsewhere e type i miss) (part_at s type) ∙ ap (part_in type) (sym (slot-changed_other f all (id_of e.tag) i (λ z. miss (sym z)) ∙ same i))
     ]
 
-name_finds : (e : LogEntry) (type i : ℕ) (s : List RawSlot) → class_of e.tag ≡ 0 → removes e.tag ≡ false → Finds e type i s (changed (λ r. record r { name = typed e }) (up_to s (id_of e.tag)) (id_of e.tag))
+name_finds : (e : LogEntry) (type i : ℕ) (s : List RawSlot) → class_of e.tag ≡ 0 → removes e.tag ≡ false → Finds e type i s (with_slot_changed (λ r. record r { name = part_of_entry e }) (slots_up_to s (id_of e.tag)) (id_of e.tag))
 name_finds e type i s class keeps =
-    changed_finds e type i (λ r. record r { name = typed e }) s (up_to s (id_of e.tag)) (omega arith) (omega (arith, length-up_to s (id_of e.tag))) (slot-up_to s (id_of e.tag))
+    changed_finds e type i (λ r. record r { name = part_of_entry e }) s (slots_up_to s (id_of e.tag)) (omega arith) (omega (arith, length-up_to s (id_of e.tag))) (slot-up_to s (id_of e.tag))
     (λ hit. elim (cases_eq (type / 2 ^ 8) 0) [
       | inl same ↦
           let z : eqb (type / 2 ^ 8) 0 ≡ true = grind (arith, nat_tests) in
@@ -161,9 +161,9 @@ name_finds e type i s class keeps =
           not_about e type i (omega arith) (other_class e type i (omega arith)) (part_at s type) ∙ rw z refl
     ])
 
-structure_finds : (e : LogEntry) (type i : ℕ) (s : List RawSlot) → class_of e.tag ≡ 2 → removes e.tag ≡ false → id_of e.tag < length s → Finds e type i s (changed (λ r. record r { struct = typed e }) s (id_of e.tag))
+structure_finds : (e : LogEntry) (type i : ℕ) (s : List RawSlot) → class_of e.tag ≡ 2 → removes e.tag ≡ false → id_of e.tag < length s → Finds e type i s (with_slot_changed (λ r. record r { struct = part_of_entry e }) s (id_of e.tag))
 structure_finds e type i s class keeps lt =
-    changed_finds e type i (λ r. record r { struct = typed e }) s s (omega arith) lt (λ k. refl)
+    changed_finds e type i (λ r. record r { struct = part_of_entry e }) s s (omega arith) lt (λ k. refl)
     (λ hit. elim (cases_eq (type / 2 ^ 8) 2) [
       | inl same ↦
           let z : eqb (type / 2 ^ 8) 0 ≡ false = grind (arith, nat_tests) in
@@ -191,7 +191,7 @@ attribute_other e type xs ne = by_test (removes e.tag)
     by_test true = attribute-without_other type (chunk_of e.tag) xs ne
     by_test false = attribute-put_other type (chunk_of e.tag) e.bytes xs ne
 
-attribute_finds : (e : LogEntry) (type i : ℕ) (s : List RawSlot) → class_of e.tag ≡ 3 → id_of e.tag < length s → Finds e type i s (changed (λ r. record r { attributes = with_attribute e r.attributes }) s (id_of e.tag))
+attribute_finds : (e : LogEntry) (type i : ℕ) (s : List RawSlot) → class_of e.tag ≡ 3 → id_of e.tag < length s → Finds e type i s (with_slot_changed (λ r. record r { attributes = with_attribute e r.attributes }) s (id_of e.tag))
 attribute_finds e type i s class lt =
     changed_finds e type i (λ r. record r { attributes = with_attribute e r.attributes }) s s (omega arith) lt (λ k. refl)
     (λ hit. elim (cases_eq (kind_of e.tag) type) [
@@ -218,7 +218,7 @@ attribute_finds e type i s class lt =
     either true = refl
     either false = refl
 
-    kept : (b : Bool) → kind_of e.tag ≡ type → cond b None (typed e) ≡ option_map (λ bytes. (type, bytes)) (cond (not b) (Some e.bytes) None)
+    kept : (b : Bool) → kind_of e.tag ≡ type → cond b None (part_of_entry e) ≡ option_map (λ bytes. (type, bytes)) (cond (not b) (Some e.bytes) None)
     kept true same = refl
     kept false same = ap (λ k. Some (k, e.bytes)) same
 
@@ -272,7 +272,7 @@ found_is (e ∷ es) t type i h =
     sym (after_last no_content (reverse es) e) ∙ ap (content_after_all no_content) (sym (reverse-append (e ∷ []) es)) ∙ h in
     option_and_then_some (λ u. content_after u e) (content_after_all no_content (reverse es)) t split (λ u was is.
     let same : (λ (j : ℕ). found es type j) ≡ part_at u.slots type = funext _ _ (λ j. found_is es u type j was) in
-    ap (settled (verdict_of e type i)) same ∙ effect_finds e type i u.slots t.slots (effect u t e is))
+    ap (verdict_value (verdict_of e type i)) same ∙ effect_finds e type i u.slots t.slots (effect u t e is))
 
 -- so of the log of a block
 pub found_in_log : (block : List ℕ) (t : RawContent) (type i : ℕ) → content_after_all no_content (log_entries block) ≡ Some t → found (reverse (log_entries block)) type i ≡ part_at t.slots type i

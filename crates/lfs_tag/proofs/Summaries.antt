@@ -7,10 +7,10 @@ use Rattle.std.proofs.lemmas.Option.{same_Some}
 use Rattle.lfs_model.specs.Tag.{kind_of, id_of, class_of}
 use Rattle.lfs_model.specs.Log.{LogEntry, log_entries}
 use Rattle.lfs_model.specs.Slots.{Slot, Content}
-use Rattle.lfs_model.specs.Content.{RawSlot, RawContent, empty_slot, slot_of_id, changed, up_to, typed, with_attribute, slots_after, content_after, content_after_all, no_content, kind_named, struct_typed, complete_all, completed}
+use Rattle.lfs_model.specs.Content.{RawSlot, RawContent, empty_slot, slot_of_id, with_slot_changed, slots_up_to, part_of_entry, with_attribute, slots_after, content_after, content_after_all, no_content, kind_named, struct_typed, complete_all, completed}
 use Rattle.lfs_model.specs.EntryTypes.{is_in_table, has_its_id, create_type, delete_type, tail_of, gstate_at}
 use Rattle.lfs_tag.specs.declared.summary.Mark.{Mark}
-use Rattle.lfs_tag.specs.Summary.{mark_of, mark_of_id, marked, marks_up_to, no_mark, is_whole, marks_after, Outline, outline_of, outline_after, outline_after_all, no_outline}
+use Rattle.lfs_tag.specs.Summary.{mark_of, mark_of_id, with_mark_changed, marks_up_to, no_mark, is_whole, marks_after, Outline, outline_of, outline_after, outline_after_all, no_outline}
 use Rattle.lfs_tag.proofs.Places.{map-insert, map-remove}
 
 -- ---- one slot
@@ -20,12 +20,12 @@ mark_at [] i = refl
 mark_at (s ∷ slots) zero = refl
 mark_at (s ∷ slots) (suc i) = mark_at slots i
 
-change_marks : (f : RawSlot → RawSlot) (g : Mark → Mark) → ((s : RawSlot) → mark_of (f s) ≡ g (mark_of s)) → (slots : List RawSlot) (i : ℕ) → map mark_of (changed f slots i) ≡ marked g (map mark_of slots) i
+change_marks : (f : RawSlot → RawSlot) (g : Mark → Mark) → ((s : RawSlot) → mark_of (f s) ≡ g (mark_of s)) → (slots : List RawSlot) (i : ℕ) → map mark_of (with_slot_changed f slots i) ≡ with_mark_changed g (map mark_of slots) i
 change_marks f g same [] i = refl
 change_marks f g same (s ∷ slots) zero = ap (λ m. m ∷ map mark_of slots) (same s)
 change_marks f g same (s ∷ slots) (suc i) = ap (λ ms. mark_of s ∷ ms) (change_marks f g same slots i)
 
-marked_as_it_is : (marks : List Mark) (i : ℕ) → marked (λ m. m) marks i ≡ marks
+marked_as_it_is : (marks : List Mark) (i : ℕ) → with_mark_changed (λ m. m) marks i ≡ marks
 marked_as_it_is [] i = refl
 marked_as_it_is (m ∷ marks) zero = refl
 marked_as_it_is (m ∷ marks) (suc i) = ap (λ ms. m ∷ ms) (marked_as_it_is marks i)
@@ -34,7 +34,7 @@ empty_marks : (n : ℕ) → map mark_of (replicate n empty_slot) ≡ replicate n
 empty_marks zero = refl
 empty_marks (suc n) = ap (λ ms. no_mark ∷ ms) (empty_marks n)
 
-up_to_marks : (slots : List RawSlot) (i : ℕ) → map mark_of (up_to slots i) ≡ marks_up_to (map mark_of slots) i
+up_to_marks : (slots : List RawSlot) (i : ℕ) → map mark_of (slots_up_to slots i) ≡ marks_up_to (map mark_of slots) i
 up_to_marks slots i =
     map-append mark_of slots (replicate (i + 1 - length slots) empty_slot)
     ∙ ap (λ ms. map mark_of slots ++ ms) (empty_marks (i + 1 - length slots) ∙ ap (λ n. replicate (i + 1 - n) no_mark) (sym (length-map slots mark_of)))
@@ -56,12 +56,12 @@ either f false false within false there false struct x y z u v x2 y2 z2 u2 v2 a 
 slots_marked : (slots : List RawSlot) (e : LogEntry) → option_map (map mark_of) (slots_after slots e) ≡ marks_after (map mark_of slots) e
 slots_marked slots e =
     either (map mark_of) (eqb (class_of e.tag) 0) (eqb (kind_of e.tag) create_type) (leb i (length slots)) (eqb (kind_of e.tag) delete_type) (ltb i (length slots)) (is_some (slot_of_id slots i).name) (eqb (class_of e.tag) 2)
-    (changed (λ s. record s { name = typed e }) (up_to slots i) i) (insert slots i empty_slot) (remove slots i) (changed (λ s. record s { struct = typed e }) slots i) (changed (λ s. record s { attributes = with_attribute e s.attributes }) slots i)
+    (with_slot_changed (λ s. record s { name = part_of_entry e }) (slots_up_to slots i) i) (insert slots i empty_slot) (remove slots i) (with_slot_changed (λ s. record s { struct = part_of_entry e }) slots i) (with_slot_changed (λ s. record s { attributes = with_attribute e s.attributes }) slots i)
     named (insert marks i no_mark) (remove marks i) structured marks
-    (change_marks (λ s. record s { name = typed e }) (λ m. record m { has_name = true }) (λ s. refl) (up_to slots i) i ∙ ap (λ ms. marked (λ m. record m { has_name = true }) ms i) (up_to_marks slots i))
+    (change_marks (λ s. record s { name = part_of_entry e }) (λ m. record m { has_name = true }) (λ s. refl) (slots_up_to slots i) i ∙ ap (λ ms. with_mark_changed (λ m. record m { has_name = true }) ms i) (up_to_marks slots i))
     (map-insert mark_of slots i empty_slot)
     (map-remove mark_of slots i)
-    (change_marks (λ s. record s { struct = typed e }) (λ m. record m { has_struct = true }) (λ s. refl) slots i)
+    (change_marks (λ s. record s { struct = part_of_entry e }) (λ m. record m { has_struct = true }) (λ s. refl) slots i)
     (change_marks (λ s. record s { attributes = with_attribute e s.attributes }) (λ m. m) (λ s. refl) slots i ∙ marked_as_it_is marks i)
     ∙ ap₂ tested (sym (length-map slots mark_of)) (sym (ap (λ m. m.has_name) (mark_at slots i)))
   where
@@ -72,10 +72,10 @@ slots_marked slots e =
     marks = map mark_of slots
 
     named : List Mark
-    named = marked (λ m. record m { has_name = true }) (marks_up_to marks i) i
+    named = with_mark_changed (λ m. record m { has_name = true }) (marks_up_to marks i) i
 
     structured : List Mark
-    structured = marked (λ m. record m { has_struct = true }) marks i
+    structured = with_mark_changed (λ m. record m { has_struct = true }) marks i
 
     tested : ℕ → Bool → Option (List Mark)
     tested count is_named =

@@ -2,7 +2,7 @@
 use Rattle.std.specs.Prelude.{◌≡◌, ◌<◌, ◌≤◌, ℕ, ◌+◌, ◌-◌, List, [], ◌∷◌, ◌++◌, length, drop, replicate, Option, Some, None, unwrap_or}
 use Rattle.lfs_model.specs.Tag.{class_of, tag_with, carried}
 use Rattle.lfs_model.specs.Log.{LogEntry, chain_of, revision_of}
-use Rattle.lfs_model.specs.Commit.{entries_size, page_end, next_at, checksum_type}
+use Rattle.lfs_model.specs.Commit.{entries_size, page_end, next_four_bytes, checksum_type}
 use Rattle.lfs_model.specs.EntryTypes.{no_id}
 use Rattle.lfs_model.specs.Blocks.{overwritten}
 
@@ -43,25 +43,25 @@ checksum_entry b next pages = record { tag = checksum_tag b next; bytes = drop (
 -- ---- the log
 
 -- Where a commit is in a block: a first one at the block's beginning, another one at the end of the chain.
-abbrev pub GoesTo : Option ℕ → ℕ → List ℕ → ℕ → Type 0
-GoesTo None previous block at = (0 < length (chain_of block).commits) × (at ≡ (chain_of block).end) × (previous ≡ (chain_of block).last)
-GoesTo (Some revision) previous block at = (at ≡ 0) × (previous ≡ 0xffffffff)
+abbrev pub CommitIsAt : Option ℕ → ℕ → List ℕ → ℕ → Type 0
+CommitIsAt None previous block at = (0 < length (chain_of block).commits) × (at ≡ (chain_of block).end) × (previous ≡ (chain_of block).last)
+CommitIsAt (Some revision) previous block at = (at ≡ 0) × (previous ≡ 0xffffffff)
 
 -- the commits before it
-abbrev pub earlier : Option ℕ → List ℕ → List (List LogEntry)
-earlier None block = (chain_of block).commits
-earlier (Some revision) block = []
+abbrev pub commits_before : Option ℕ → List ℕ → List (List LogEntry)
+commits_before None block = (chain_of block).commits
+commits_before (Some revision) block = []
 
 -- Pages that are the commit. In the block they are before the bytes `next`. Then the log has the earlier commits and exactly this
 -- one.
 pub record AreCommitted (b : Building) (next : Option (List ℕ)) (pages : List ℕ) : Type 0 where
-  pub log : (block : List ℕ) (at : ℕ) → GoesTo b.revision b.previous block at → at + length pages ≤ length block → next_at block (at + length pages) ≡ next
+  pub log : (block : List ℕ) (at : ℕ) → CommitIsAt b.revision b.previous block at → at + length pages ≤ length block → next_four_bytes block (at + length pages) ≡ next
       → chain_of (overwritten block at pages) ≡ record {
-        commits = earlier b.revision block ++ (b.entries ++ checksum_entry b next pages ∷ []) ∷ [];
+        commits = commits_before b.revision block ++ (b.entries ++ checksum_entry b next pages ∷ []) ∷ [];
         end = at + length pages;
         last = carried (checksum_tag b next);
       }
-  pub revision : (block : List ℕ) (at : ℕ) → GoesTo b.revision b.previous block at → at + length pages ≤ length block
+  pub revision : (block : List ℕ) (at : ℕ) → CommitIsAt b.revision b.previous block at → at + length pages ≤ length block
       → revision_of (overwritten block at pages) ≡ unwrap_or b.revision (revision_of block)
   pub class : class_of (checksum_tag b next) ≡ 5
   pub padding : drop (checksum_start b + 8) pages ≡ replicate (padded_end b - (checksum_start b + 8)) 0xff

@@ -3,7 +3,7 @@ use Rattle.std.specs.Prelude.{◌≡◌, ◌<◌, ◌≤◌, ℕ, ◌^◌, ◌-�
 use Rattle.byteorder.specs.Endian.{little_bytes}
 use Rattle.lfs_model.specs.Tag.{IsValid, data_size, carried}
 use Rattle.lfs_model.specs.Log.{LogEntry, is_checksum}
-use Rattle.lfs_model.specs.Commit.{stored}
+use Rattle.lfs_model.specs.Commit.{bytes_of_entries}
 use Rattle.lfs_model.specs.Geometry.{is_page}
 use Rattle.lfs_tag.specs.Builder.{Building, checksum_start}
 
@@ -18,7 +18,7 @@ revision_bytes (Some revision) = little_bytes 4 revision
 
 -- all bytes before the checksum
 abbrev pub front_of : Building → List ℕ
-front_of b = revision_bytes b.revision ++ stored b.previous b.entries
+front_of b = revision_bytes b.revision ++ bytes_of_entries b.previous b.entries
 
 -- an entry that is no checksum, and is read as the same entry
 pub record IsStorable (before : ℕ) (e : LogEntry) : Type 0 where
@@ -32,7 +32,7 @@ AreStorable before [] = Unit {0}
 AreStorable before (e ∷ es) = IsStorable before e × AreStorable (carried e.tag) es
 
 -- The fields of a builder: how many bytes there are, whether they fit or not, the last tag, and the bytes where they fit.
-pub record Keeps (page len last : ℕ) (buf : List ℕ) (b : Building) : Type 0 where
+pub record IsBuilderOf (page len last : ℕ) (buf : List ℕ) (b : Building) : Type 0 where
   pub page_is : page ≡ b.page
   pub power : is_page b.page ≡ true
   pub room : length buf ≡ b.room

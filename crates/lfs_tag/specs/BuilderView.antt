@@ -1,10 +1,10 @@
 -- What a builder's fields are.
 use Rattle.lfs_tag.specs.declared.builder.CommitBuilder.TheInside.{Inside}
 use Rattle.lfs_tag.specs.Builder.{Building}
-use Rattle.lfs_tag.specs.BuilderKeeps.{Keeps}
+use Rattle.lfs_tag.specs.BuilderKeeps.{IsBuilderOf}
 
-abbrev pub building : Inside → Building
-building b = b.pushed.so_far
+abbrev pub building_view : Inside → Building
+building_view b = b.pushed.so_far
 
 abbrev pub IsBuilt : Inside → Type 0
-IsBuilt b = Keeps b.page b.len b.last b.buf.now b.pushed.so_far
+IsBuilt b = IsBuilderOf b.page b.len b.last b.buf.now b.pushed.so_far

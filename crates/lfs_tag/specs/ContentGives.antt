@@ -11,9 +11,9 @@ ContentFails errors.NoMemory o = Unit {0}
 ContentFails errors.Malformed o = o ≡ None
 
 -- the value that was computed is left, unless memory ran out
-abbrev pub Gives : {X S : Type 0} → (X → S) → Result X ContentError → Option S → Type 0
-Gives view (Ok x) o = o ≡ Some (view x)
-Gives view (Err e) o = ContentFails e o
+abbrev pub GivesValue : {X S : Type 0} → (X → S) → Result X ContentError → Option S → Type 0
+GivesValue view (Ok x) o = o ≡ Some (view x)
+GivesValue view (Err e) o = ContentFails e o
 
 -- the same as the file system's error
 abbrev pub error_of : ContentError → Error

@@ -24,8 +24,8 @@ abbrev pub ranks_up_to : List (Option Ordering) → ℕ → List (Option Orderin
 ranks_up_to ranks id = ranks ++ replicate (id + 1 - length ranks) None
 
 -- the ranks after a create or a delete
-abbrev pub spliced : List (Option Ordering) → LogEntry → List (Option Ordering)
-spliced ranks e =
+abbrev pub ranks_after_splice : List (Option Ordering) → LogEntry → List (Option Ordering)
+ranks_after_splice ranks e =
     if kind_of e.tag == create_type
     then (if nat_le (id_of e.tag) (length ranks) then insert ranks (id_of e.tag) None else ranks)
     else (if nat_lt (id_of e.tag) (length ranks) then remove ranks (id_of e.tag) else ranks)
@@ -34,7 +34,7 @@ spliced ranks e =
 abbrev pub ranks_after : NameOrder → Name → List (Option Ordering) → LogEntry → List (Option Ordering)
 ranks_after order name ranks e =
     if class_of e.tag == 0 then slice_set (ranks_up_to ranks (id_of e.tag)) (id_of e.tag) (entry_rank order name e)
-    else (if class_of e.tag == 4 then spliced ranks e else ranks)
+    else (if class_of e.tag == 4 then ranks_after_splice ranks e else ranks)
 
 abbrev pub ranks_after_all : NameOrder → Name → List (Option Ordering) → List LogEntry → List (Option Ordering)
 ranks_after_all order name ranks [] = ranks

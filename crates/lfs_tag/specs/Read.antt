@@ -3,7 +3,7 @@ use Rattle.std.specs.Prelude.{◌≡◌}
 use Rattle.lfs_tag.specs.declared.log.Log.TheInside.{Inside}
 use Rattle.lfs_model.specs.Log.{chain_of, revision_of}
 
-pub record IsRead (l : Inside) : Type 0 where
+pub record IsReadLog (l : Inside) : Type 0 where
   pub end : l.end ≡ (chain_of l.block.now).end
   pub last : l.last ≡ (chain_of l.block.now).last
   pub revision : l.revision ≡ revision_of l.block.now

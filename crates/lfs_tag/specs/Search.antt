@@ -3,7 +3,7 @@ use Rattle.std.specs.Prelude.{ℕ, ◌+◌, ◌-◌, ◌/◌, ◌^◌, ◌==◌,
 use Rattle.lfs_model.specs.Tag.{kind_of, id_of, class_of}
 use Rattle.lfs_model.specs.Log.{LogEntry}
 use Rattle.lfs_model.specs.EntryTypes.{create_type, removes}
-use Rattle.lfs_model.specs.Content.{typed}
+use Rattle.lfs_model.specs.Content.{part_of_entry}
 
 -- What an entry means for an id after it: what the slot holds, its type and its bytes, or which id the slot had before the entry.
 pub data Verdict : Type 0 where
@@ -25,17 +25,17 @@ splice_verdict e id =
 abbrev pub verdict_of : LogEntry → ℕ → ℕ → Verdict
 verdict_of e type id =
     if class_of e.tag == 4 then splice_verdict e id
-    else (if is_about e type id then Holds (if removes e.tag then None else typed e) else Was id)
+    else (if is_about e type id then Holds (if removes e.tag then None else part_of_entry e) else Was id)
 
 -- what a verdict comes to, where `before` is what the earlier entries hold for an id
-abbrev pub settled : Verdict → (ℕ → Option (ℕ × List ℕ)) → Option (ℕ × List ℕ)
-settled (Holds part) before = part
-settled (Was id) before = before id
+abbrev pub verdict_value : Verdict → (ℕ → Option (ℕ × List ℕ)) → Option (ℕ × List ℕ)
+verdict_value (Holds part) before = part
+verdict_value (Was id) before = before id
 
 -- what entries hold for a type and an id, the newest first; it may be of another type of that class
 abbrev pub found : List LogEntry → ℕ → ℕ → Option (ℕ × List ℕ)
 found [] type id = None
-found (e ∷ es) type id = settled (verdict_of e type id) (λ i. found es type i)
+found (e ∷ es) type id = verdict_value (verdict_of e type id) (λ i. found es type i)
 
 abbrev pub looks_after : Verdict → (ℕ → ℕ) → ℕ
 looks_after (Holds part) before = 1

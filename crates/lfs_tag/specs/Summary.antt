@@ -15,7 +15,7 @@ use Rattle.lfs_tag.specs.declared.summary.Outline as code
 use Rattle.lfs_tag.specs.declared.summary.Summary.{Summary}
 
 -- the summary is of that content, which is the log's
-pub record Sums (block : List ℕ) (c : RawContent) (s : Summary) : Type 0 where
+pub record IsSummaryOf (block : List ℕ) (c : RawContent) (s : Summary) : Type 0 where
   pub content : content_after_all no_content (log_entries block) ≡ Some c
   pub slot_count : s.slot_count ≡ length c.slots
   pub tail : option_map tail_view s.tail ≡ c.tail
@@ -44,8 +44,8 @@ no_mark = record { has_name = false; has_struct = false }
 abbrev pub mark_of_id : List Mark → ℕ → Mark
 mark_of_id marks id = slice_index_or marks id no_mark
 
-abbrev pub marked : (Mark → Mark) → List Mark → ℕ → List Mark
-marked f marks id = slice_set marks id (f (mark_of_id marks id))
+abbrev pub with_mark_changed : (Mark → Mark) → List Mark → ℕ → List Mark
+with_mark_changed f marks id = slice_set marks id (f (mark_of_id marks id))
 
 abbrev pub marks_up_to : List Mark → ℕ → List Mark
 marks_up_to marks id = marks ++ replicate (id + 1 - length marks) no_mark
@@ -56,11 +56,11 @@ is_whole m = m.has_name && m.has_struct
 -- the marks after an entry, or none where the entry isn't allowed there
 abbrev pub marks_after : List Mark → LogEntry → Option (List Mark)
 marks_after marks e =
-    if class_of e.tag == 0 then Some (marked (λ m. record m { has_name = true }) (marks_up_to marks (id_of e.tag)) (id_of e.tag))
+    if class_of e.tag == 0 then Some (with_mark_changed (λ m. record m { has_name = true }) (marks_up_to marks (id_of e.tag)) (id_of e.tag))
     else (if kind_of e.tag == create_type then (if nat_le (id_of e.tag) (length marks) then Some (insert marks (id_of e.tag) no_mark) else None)
     else (if kind_of e.tag == delete_type then (if nat_lt (id_of e.tag) (length marks) then Some (remove marks (id_of e.tag)) else None)
     else (if not (mark_of_id marks (id_of e.tag)).has_name then None
-    else (if class_of e.tag == 2 then Some (marked (λ m. record m { has_struct = true }) marks (id_of e.tag))
+    else (if class_of e.tag == 2 then Some (with_mark_changed (λ m. record m { has_struct = true }) marks (id_of e.tag))
     else Some marks))))
 
 -- the outline after an entry, or none where the log is malformed

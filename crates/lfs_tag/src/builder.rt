@@ -39,9 +39,9 @@ impl<'a> Model for CommitBuilder<'a> {
 
     ghost Value = { Building };
 
-    ghost use Rattle.lfs_tag.specs.BuilderView.{building, IsBuilt};
+    ghost use Rattle.lfs_tag.specs.BuilderView.{building_view, IsBuilt};
 
-    ghost view = { building };
+    ghost view = { building_view };
 
     ghost invariant = { IsBuilt };
 }

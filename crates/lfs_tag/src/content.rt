@@ -5,12 +5,12 @@ ghost use Rattle.std.specs.Option.{option_map};
 ghost use Rattle.lfs_model.specs.Tag.{kind_of, data_size};
 ghost use Rattle.lfs_model.specs.Log.{LogEntry, log_entries};
 ghost use Rattle.lfs_model.specs.EntryTypes.{is_in_table, has_its_id, tail_of};
-ghost use Rattle.lfs_model.specs.Content.{put_attribute, without_attribute, with_attribute, empty_slot, slot_of_id, changed, up_to, typed, slots_after, content_after, content_after_all, no_content};
+ghost use Rattle.lfs_model.specs.Content.{put_attribute, without_attribute, with_attribute, empty_slot, slot_of_id, with_slot_changed, slots_up_to, part_of_entry, slots_after, content_after, content_after_all, no_content};
 ghost use Rattle.lfs_model.specs.Thread.{is_hard};
 ghost use Rattle.lfs_tag.specs.LogEntryView.{log_entry_view};
 ghost use Rattle.lfs_tag.specs.FieldsView.{move_view};
 ghost use Rattle.lfs_tag.specs.ContentView.{part_view, attribute_view, slot_view, tail_view, content_view, first_not_below};
-ghost use Rattle.lfs_tag.specs.ContentGives.{Gives};
+ghost use Rattle.lfs_tag.specs.ContentGives.{GivesValue};
 
 use crate::entry::Entry;
 use crate::fields::{MoveState, NULL_ADDRESS, move_at, pair_at};
@@ -182,7 +182,7 @@ fn remove_attribute(attributes: &mut Vec<Attribute<'_>>, kind: u8)
 // Adds empty slots up to an id.
 fn fill_up(alloc: Global, slots: &mut Vec<Slot<'_>>, id: usize) -> Result<(), AllocError>
     requires { id < 1024 }
-    ensures filled { OnOk result (map slot_view slots.new.items ≡ up_to (map slot_view slots.old.items) id) }
+    ensures filled { OnOk result (map slot_view slots.new.items ≡ slots_up_to (map slot_view slots.old.items) id) }
     ensures long { OnOk result (id < vec_len slots.new) }
 {
     while slots.len() <= id {
@@ -199,7 +199,7 @@ fn put_name<'a>(
     part: Part<'a>,
 ) -> Result<(), AllocError>
     requires { id < 1024 }
-    ensures { OnOk result (map slot_view slots.new.items ≡ changed (λ s. record s { name = Some (part_view part.entry) }) (up_to (map slot_view slots.old.items) id) id) }
+    ensures { OnOk result (map slot_view slots.new.items ≡ with_slot_changed (λ s. record s { name = Some (part_view part.entry) }) (slots_up_to (map slot_view slots.old.items) id) id) }
 {
     fill_up(alloc, slots, id)?;
     let slot = &mut slots[id];
@@ -210,7 +210,7 @@ fn put_name<'a>(
 // Gives a slot its struct.
 fn put_structure<'a>(slots: &mut Vec<Slot<'a>>, id: usize, part: Part<'a>)
     requires { id < vec_len slots.old }
-    ensures { map slot_view slots.new.items ≡ changed (λ s. record s { struct = Some (part_view part.entry) }) (map slot_view slots.old.items) id }
+    ensures { map slot_view slots.new.items ≡ with_slot_changed (λ s. record s { struct = Some (part_view part.entry) }) (map slot_view slots.old.items) id }
 {
     let slot = &mut slots[id];
     slot.structure = Some(part);
@@ -223,7 +223,7 @@ fn change_attribute<'a>(
     entry: &Entry<'a>,
 ) -> Result<(), AllocError>
     requires { id < vec_len slots.old }
-    ensures { OnOk result (map slot_view slots.new.items ≡ changed (λ s. record s { attributes = with_attribute (log_entry_view entry.now) s.attributes }) (map slot_view slots.old.items) id) }
+    ensures { OnOk result (map slot_view slots.new.items ≡ with_slot_changed (λ s. record s { attributes = with_attribute (log_entry_view entry.now) s.attributes }) (map slot_view slots.old.items) id) }
 {
     let slot = &mut slots[id];
     let kind = entry.tag.chunk();
@@ -271,7 +271,7 @@ fn apply_to_slots<'a>(
     slots: &mut Vec<Slot<'a>>,
     entry: &Entry<'a>,
 ) -> Result<(), ContentError>
-    ensures { Gives (λ _. map slot_view slots.new.items) result (slots_after (map slot_view slots.old.items) (log_entry_view entry.now)) }
+    ensures { GivesValue (λ _. map slot_view slots.new.items) result (slots_after (map slot_view slots.old.items) (log_entry_view entry.now)) }
 {
     let kind = entry.tag.kind();
     let class = entry.tag.class();
@@ -328,7 +328,7 @@ fn apply<'a>(
     content: &mut Content<'a>,
     entry: &Entry<'a>,
 ) -> Result<(), ContentError>
-    ensures { Gives (λ _. content_view content.new) result (content_after (content_view content.old) (log_entry_view entry.now)) }
+    ensures { GivesValue (λ _. content_view content.new) result (content_after (content_view content.old) (log_entry_view entry.now)) }
 {
     let tag = entry.tag;
     let class = tag.class();
@@ -377,7 +377,7 @@ impl<'a> Content<'a> {
     ///
     /// Errors are those of [`read`](Content::read). After an error nothing is known of the content.
     pub fn take(&mut self, alloc: Global, entry: &Entry<'a>) -> Result<(), ContentError>
-        ensures { Gives (λ _. content_view self.new) result (content_after (content_view self.old) (log_entry_view entry.now)) }
+        ensures { GivesValue (λ _. content_view self.new) result (content_after (content_view self.old) (log_entry_view entry.now)) }
     {
         apply(alloc, self, entry)?;
         Ok(())

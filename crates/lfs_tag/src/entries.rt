@@ -29,9 +29,9 @@ impl<'a> Model for Entries<'a> {
 
     ghost Value = { List LogEntry };
 
-    ghost use Rattle.lfs_tag.specs.Walk.{left, IsLeftToWalk};
+    ghost use Rattle.lfs_tag.specs.Walk.{entries_to_walk, IsLeftToWalk};
 
-    ghost view = { left };
+    ghost view = { entries_to_walk };
 
     ghost invariant = { IsLeftToWalk };
 }

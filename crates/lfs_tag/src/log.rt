@@ -3,7 +3,7 @@
 ghost use Rattle.std.specs.Prelude.{◌≡◌, ℕ, ◌+◌, ◌≤◌, ◌<◌, ◌^◌, ◌↔◌, List, length, IsTrue, IfSome};
 ghost use Rattle.std.specs.Option.{option_map};
 ghost use Rattle.lfs_model.specs.Tag.{data_size};
-ghost use Rattle.lfs_model.specs.Log.{entry_at, closes, commit_at, chain_of, revision_of, log_entries, past, IsChainOf, LogEntry};
+ghost use Rattle.lfs_model.specs.Log.{entry_at, closes, commit_at, chain_of, revision_of, log_entries, end_of_entry, IsChainOf, LogEntry};
 ghost use Rattle.lfs_model.specs.Content.{has_commit};
 ghost use Rattle.lfs_tag.specs.LogEntryView.{log_entry_view};
 
@@ -55,7 +55,7 @@ fn closes(block: &[u8], start: usize, at: usize, entry: &Entry<'_>) -> bool
 fn commit_end(block: &[u8], start: usize, mut at: usize, mut before: Tag) -> Option<(usize, Tag)>
     requires { start ≤ at }
     ensures value { result ≡ option_map (λ c. (c.end, c.last)) (commit_at block.now start at before) }
-    ensures past { IfSome result (λ r. at < r.0) }
+    ensures end_of_entry { IfSome result (λ r. at < r.0) }
     ensures within { IfSome result (λ r. r.0 ≤ length block.now) }
 {
     while let Some(entry) = entry_at(block, at, before) {
@@ -99,11 +99,11 @@ impl<'a> Model for Log<'a> {
 
     ghost Value = { List ℕ };
 
-    ghost use Rattle.lfs_tag.specs.Read.{IsRead};
+    ghost use Rattle.lfs_tag.specs.Read.{IsReadLog};
 
     ghost view = { λ l. l.block.now };
 
-    ghost invariant = { IsRead };
+    ghost invariant = { IsReadLog };
 }
 
 impl<'a> Log<'a> {

@@ -4,7 +4,7 @@ ghost use Rattle.std.specs.Prelude.{◌≡◌, ℕ, ◌+◌, ◌≤◌, ◌<◌,
 ghost use Rattle.std.specs.List.{insert, remove};
 ghost use Rattle.lfs_model.specs.Log.{log_entries};
 ghost use Rattle.lfs_model.specs.Content.{RawContent, content_after_all, no_content};
-ghost use Rattle.lfs_tag.specs.Find.{entry_rank, ranks_up_to, spliced, ranks_after, ranks_after_all, is_wanted, is_skipped, is_first, first_from};
+ghost use Rattle.lfs_tag.specs.Find.{entry_rank, ranks_up_to, ranks_after_splice, ranks_after, ranks_after_all, is_wanted, is_skipped, is_first, first_from};
 ghost use Rattle.lfs_tag.specs.FindView.{FindAnswers};
 ghost use Rattle.lfs_tag.specs.LogEntryView.{log_entry_view};
 
@@ -138,7 +138,7 @@ fn fill_up(ranks: &mut Ranks, id: usize) -> Result<(), AllocError>
 
 // Applies a create or a delete.
 fn splice(ranks: &mut Ranks, entry: &Entry<'_>) -> Result<(), AllocError>
-    ensures ranks { OnOk result (ranks.new.items ≡ spliced ranks.old.items (log_entry_view entry.now)) }
+    ensures ranks { OnOk result (ranks.new.items ≡ ranks_after_splice ranks.old.items (log_entry_view entry.now)) }
     ensures room { OnOk result (vec_len ranks.new ≤ vec_len ranks.old + 1) }
 {
     let id = usize::from(entry.tag.id());

@@ -5,8 +5,8 @@ ghost use Rattle.std.specs.List.{insert, remove, list_all};
 ghost use Rattle.lfs_model.specs.Log.{LogEntry, log_entries};
 ghost use Rattle.lfs_model.specs.Content.{RawContent, content_after_all, no_content};
 ghost use Rattle.lfs_tag.specs.LogEntryView.{log_entry_view};
-ghost use Rattle.lfs_tag.specs.ContentGives.{Gives};
-ghost use Rattle.lfs_tag.specs.Summary.{Sums, no_mark, mark_of_id, marked, marks_up_to, is_whole, marks_after, outline_view, outline_after, outline_after_all, no_outline};
+ghost use Rattle.lfs_tag.specs.ContentGives.{GivesValue};
+ghost use Rattle.lfs_tag.specs.Summary.{IsSummaryOf, no_mark, mark_of_id, with_mark_changed, marks_up_to, is_whole, marks_after, outline_view, outline_after, outline_after_all, no_outline};
 
 use crate::content::{ContentError, Tail, has_its_id, is_in_table, tail_of};
 use crate::entry::Entry;
@@ -51,7 +51,7 @@ impl Summary {
     /// granted.
     #[tactic(auto, using(crate::proofs::Summaries::no_content_where_none))]
     pub fn read(alloc: Global, log: &Log<'_>) -> Result<Summary, ContentError>
-        ensures summary { IfOk result (λ s. (c : RawContent) × Sums log.now c s) }
+        ensures summary { IfOk result (λ s. (c : RawContent) × IsSummaryOf log.now c s) }
         ensures malformed { result ≡ Err ContentError.Malformed → content_after_all no_content (log_entries log.now) ≡ None }
     {
         let outline = match outline_of(alloc, log) {
@@ -92,7 +92,7 @@ fn are_whole(marks: &[Mark]) -> bool
 
 // Applies an entry to the outline.
 fn take(outline: &mut Outline, entry: &Entry<'_>) -> Result<(), ContentError>
-    ensures { Gives (λ _. outline_view outline.new) result (outline_after (outline_view outline.old) (log_entry_view entry.now)) }
+    ensures { GivesValue (λ _. outline_view outline.new) result (outline_after (outline_view outline.old) (log_entry_view entry.now)) }
 {
     let tag = entry.tag;
     let class = tag.class();
@@ -116,7 +116,7 @@ fn take(outline: &mut Outline, entry: &Entry<'_>) -> Result<(), ContentError>
 
 // Applies to the slots' marks an entry that is no checksum, tail or move state.
 fn take_mark(marks: &mut Vec<Mark>, entry: &Entry<'_>) -> Result<(), ContentError>
-    ensures { Gives (λ _. marks.new.items) result (marks_after marks.old.items (log_entry_view entry.now)) }
+    ensures { GivesValue (λ _. marks.new.items) result (marks_after marks.old.items (log_entry_view entry.now)) }
 {
     let kind = entry.tag.kind();
     let class = entry.tag.class();
@@ -164,7 +164,7 @@ fn is_named(marks: &[Mark], id: usize) -> bool
 // Marks the name of a slot, which may be past the end.
 fn mark_name(marks: &mut Vec<Mark>, id: usize) -> Result<(), AllocError>
     requires { id < 1024 }
-    ensures { OnOk result (marks.new.items ≡ marked (λ m. record m { has_name = true }) (marks_up_to marks.old.items id) id) }
+    ensures { OnOk result (marks.new.items ≡ with_mark_changed (λ m. record m { has_name = true }) (marks_up_to marks.old.items id) id) }
 {
     fill_up(marks, id)?;
     marks[id].has_name = true;
@@ -190,7 +190,7 @@ const NO_MARK: Mark = Mark {
 
 fn mark_struct(marks: &mut Vec<Mark>, id: usize)
     requires { id < vec_len marks.old }
-    ensures { marks.new.items ≡ marked (λ m. record m { has_struct = true }) marks.old.items id }
+    ensures { marks.new.items ≡ with_mark_changed (λ m. record m { has_struct = true }) marks.old.items id }
 {
     marks[id].has_struct = true;
 }

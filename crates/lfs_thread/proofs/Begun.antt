@@ -14,7 +14,7 @@ use Rattle.lfs_model.specs.Disk.{Disk, block_count}
 use Rattle.lfs_model.specs.History.{Event, OnlyReads}
 use Rattle.lfs_model.specs.Slots.{Content}
 use Rattle.lfs_model.specs.Content.{completed, content_at, raw_at}
-use Rattle.lfs_model.specs.Thread.{Pair, anchor, Links, next_of, blocks_of, IsThread}
+use Rattle.lfs_model.specs.Thread.{Pair, anchor, LinkByTails, next_of, blocks_of, IsThread}
 use Rattle.lfs_model.proofs.BlockSets.{slice_get-set_same, slice_get-set_other, Contains-count, count-Contains, used_count-AreUsed, counts_le}
 use Rattle.lfs_model.proofs.Completed.{completed_parts}
 use Rattle.lfs_model.proofs.Histories.{goes_on_by}
@@ -23,7 +23,7 @@ use Rattle.lfs_tag.specs.ContentView.{tail_view}
 use Rattle.lfs_pair.specs.Commit.{IsAddressOn}
 use Rattle.lfs_pair.specs.Pair.{Fetches, address_in}
 use Rattle.lfs_thread.specs.Kept.{Header, pair_on, pairs_on, IsHeader, AllUsed, IsKept}
-use Rattle.lfs_thread.specs.Begun.{CanStand, IsThreadBegun}
+use Rattle.lfs_thread.specs.Begun.{CanBePair, IsThreadBegun}
 use Rattle.lfs_thread.proofs.Keeping.{headers_append, header_content, pair_on_content, blocks_append}
 use Rattle.lfs_thread.proofs.Changing.{headers_read}
 use Rattle.lfs_thread.proofs.Coming.{two_unused, free_unused}
@@ -45,7 +45,7 @@ fetched_header disk history at pair on f full = go (completed f.held) refl (sym 
     }
 
 pub fetched_stands : (disk : Disk) (history : List Event) (at : ℕ × ℕ) (pair : Header) (sets : BlockSets) → IsAddressOn disk at → Fetches disk history at pair → pair.is_complete ≡ true
-    → IsFree sets at.0 → IsFree (set sets at.0 Used) at.1 → CanStand disk sets at
+    → IsFree sets at.0 → IsFree (set sets at.0 Used) at.1 → CanBePair disk sets at
 fetched_stands disk history at pair sets on f full first second =
     let h = fetched_header disk history at pair on f full in
     record {
@@ -92,7 +92,7 @@ used_now : (disk : Disk) (history : List Event) (hs : List Header) (sets : Block
 used_now disk history hs sets next begun = all_used sets (blocks_of (pairs_on disk hs)) (λ b h. (begun.marked b).1 h)
 
 module _ (disk : Disk) (blocks : Blocks) (before after : List Event) (hs : List Header) (sets : BlockSets) (at : ℕ × ℕ) (h : Header)
-    (reads : OnlyReads blocks before after) (begun : IsThreadBegun disk before hs sets (Some at)) (is : IsHeader disk after h) (same : address_in h ≡ at) (stands : CanStand disk sets at) where
+    (reads : OnlyReads blocks before after) (begun : IsThreadBegun disk before hs sets (Some at)) (is : IsHeader disk after h) (same : address_in h ≡ at) (stands : CanBePair disk sets at) where
   abbrev p : Pair
   p = pair_on disk (address_in h)
 
@@ -187,22 +187,22 @@ module _ (disk : Disk) (blocks : Blocks) (before after : List Event) (hs : List 
           side (inl u) = inl (other_same b k.0 k.1 ∙ u)
           side (inr f) = inr (other_same b k.0 k.1 ∙ f)
 
-  only_now : (ps : List Pair) → IsThread (content_at disk) (block_count disk) ps → (rest : List Pair) × ((ps ≡ pairs_on disk (hs ++ h ∷ []) ++ rest) × Links (next_of (option_map tail_view h.tail)) rest)
+  only_now : (ps : List Pair) → IsThread (content_at disk) (block_count disk) ps → (rest : List Pair) × ((ps ≡ pairs_on disk (hs ++ h ∷ []) ++ rest) × LinkByTails (next_of (option_map tail_view h.tail)) rest)
   only_now ps t = go (begun.only ps t).0 (begun.only ps t).1.0 (begun.only ps t).1.1
     where
-      go : (rest : List Pair) → ps ≡ pairs_on disk hs ++ rest → Links (Some at) rest → (rest : List Pair) × ((ps ≡ pairs_on disk (hs ++ h ∷ []) ++ rest) × Links (next_of (option_map tail_view h.tail)) rest)
+      go : (rest : List Pair) → ps ≡ pairs_on disk hs ++ rest → LinkByTails (Some at) rest → (rest : List Pair) × ((ps ≡ pairs_on disk (hs ++ h ∷ []) ++ rest) × LinkByTails (next_of (option_map tail_view h.tail)) rest)
       go [] e l = absurd (cc)
       go (q ∷ rest) e l =
           let here : q.at ≡ address_in h = same_Some q.at (address_in h) (sym l.0 ∙ ap Some (sym same)) in
           let has : content_at disk q.at ≡ Some q.content = (each_right (λ (x : Pair). content_at disk x.at ≡ Some x.content) (pairs_on disk hs) (q ∷ rest)
           (subst (Each (λ (x : Pair). content_at disk x.at ≡ Some x.content)) e (recursion_from_All (λ (x : Pair). content_at disk x.at ≡ Some x.content) ps t.contents))).0 in
           let is_q : q ≡ p = sym (pair_on_content disk q.at q.content has) ∙ ap (pair_on disk) here in
-          (rest, (e ∙ ap (λ z. pairs_on disk hs ++ z ∷ rest) is_q ∙ behind rest, subst (λ z. Links (next_of z) rest) (ap (λ (z : Pair). z.content.tail) is_q ∙ tail_is) l.1))
+          (rest, (e ∙ ap (λ z. pairs_on disk hs ++ z ∷ rest) is_q ∙ behind rest, subst (λ z. LinkByTails (next_of z) rest) (ap (λ (z : Pair). z.content.tail) is_q ∙ tail_is) l.1))
 
   pub begun_more : IsThreadBegun disk after (hs ++ h ∷ []) now (next_of (option_map tail_view h.tail))
   begun_more = record {
     each = headers_append disk after hs (h ∷ []) (headers_read disk blocks before after hs reads begun.each) (is, tt);
-    links = λ rest l. subst (Links (Some anchor)) (behind rest) (begun.links (p ∷ rest) (ap Some (sym same), subst (λ t. Links (next_of t) rest) (sym tail_is) l));
+    links = λ rest l. subst (LinkByTails (Some anchor)) (behind rest) (begun.links (p ∷ rest) (ap Some (sym same), subst (λ t. LinkByTails (next_of t) rest) (sym tail_is) l));
     only = only_now;
     distinct = distinct_from_once (blocks_of (pairs_on disk (hs ++ h ∷ []))) (λ b.
         let e = counts b in
@@ -218,7 +218,7 @@ module _ (disk : Disk) (blocks : Blocks) (before after : List Event) (hs : List 
 pub begun_kept : (disk : Disk) (history : List Event) (hs : List Header) (sets : BlockSets) → IsThreadBegun disk history hs sets None → IsKept disk history hs sets
 begun_kept disk history hs sets begun = record {
   each = begun.each;
-  links = subst (Links (Some anchor)) (append-nil (pairs_on disk hs)) (begun.links [] refl);
+  links = subst (LinkByTails (Some anchor)) (append-nil (pairs_on disk hs)) (begun.links [] refl);
   distinct = begun.distinct;
   size = begun.size;
   used = used_now disk history hs sets None begun;
@@ -235,11 +235,11 @@ begun_none_in_flight disk history hs sets next begun b = (
     go flies (inr free) = absurd (let e : Some InFlight ≡ Some Free = sym flies ∙ free in cc)
 
 -- there is no thread, where no pair can stand at the next address
-pub begun_ends : (disk : Disk) (history : List Event) (hs : List Header) (sets : BlockSets) (at : ℕ × ℕ) → IsThreadBegun disk history hs sets (Some at) → ¬ CanStand disk sets at
+pub begun_ends : (disk : Disk) (history : List Event) (hs : List Header) (sets : BlockSets) (at : ℕ × ℕ) → IsThreadBegun disk history hs sets (Some at) → ¬ CanBePair disk sets at
     → (ps : List Pair) → ¬ IsThread (content_at disk) (block_count disk) ps
 begun_ends disk history hs sets at begun cannot ps t = go (begun.only ps t).0 (begun.only ps t).1.0 (begun.only ps t).1.1
   where
-    go : (rest : List Pair) → ps ≡ pairs_on disk hs ++ rest → Links (Some at) rest → ⊥
+    go : (rest : List Pair) → ps ≡ pairs_on disk hs ++ rest → LinkByTails (Some at) rest → ⊥
     go [] e l = absurd (cc)
     go (q ∷ rest) e l = cannot (record {
       apart = λ i. let k = once at.0 in let m = twice i in omega arith;
@@ -317,7 +317,7 @@ begun_first disk history hs sets n e f g =
     subst (λ z. IsThreadBegun disk history z sets (Some anchor)) (sym f) (subst (λ s. IsThreadBegun disk history [] s (Some anchor)) (sym g) (begun_none disk history n e))
 
 pub begun_next : (disk now : Disk) (blocks : Blocks) (before after : List Event) (hs items : List Header) (sets marked : BlockSets) (next : Option (ℕ × ℕ)) (at : ℕ × ℕ) (h : Header) (behind : Option (ℕ × ℕ))
-    → now ≡ disk → OnlyReads blocks before after → next ≡ Some at → IsThreadBegun disk before hs sets next → IsHeader disk after h → address_in h ≡ at → CanStand disk sets at
+    → now ≡ disk → OnlyReads blocks before after → next ≡ Some at → IsThreadBegun disk before hs sets next → IsHeader disk after h → address_in h ≡ at → CanBePair disk sets at
     → items ≡ hs ++ h ∷ [] → marked ≡ set (set sets at.0 Used) at.1 Used → behind ≡ next_of (option_map tail_view h.tail) → IsThreadBegun now after items marked behind
 begun_next disk now blocks before after hs items sets marked next at h behind e reads is begun header same stands items_are marked_is behind_is =
     subst (λ d. IsThreadBegun d after items marked behind) (sym e)
@@ -327,7 +327,7 @@ begun_next disk now blocks before after hs items sets marked next at h behind e 
     (begun_more disk blocks before after hs sets at h reads (subst (IsThreadBegun disk before hs sets) is begun) header same stands))))
 
 pub no_thread : (disk old : Disk) (n : ℕ) (history : List Event) (hs : List Header) (sets : BlockSets) (next : Option (ℕ × ℕ)) (at : ℕ × ℕ) → disk ≡ old → block_count old ≡ n → next ≡ Some at
-    → IsThreadBegun disk history hs sets next → ¬ CanStand disk sets at → (ps : List Pair) → ¬ IsThread (content_at old) n ps
+    → IsThreadBegun disk history hs sets next → ¬ CanBePair disk sets at → (ps : List Pair) → ¬ IsThread (content_at old) n ps
 no_thread disk old n history hs sets next at e count is begun cannot ps t =
     begun_ends disk history hs sets at (subst (IsThreadBegun disk history hs sets) is begun) cannot ps
     (subst (λ (d : Disk). IsThread (content_at d) (block_count d) ps) (sym e) (subst (λ k. IsThread (content_at old) k ps) (sym count) t))

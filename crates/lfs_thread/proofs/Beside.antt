@@ -12,7 +12,7 @@ use Rattle.lfs_model.specs.Content.{completed}
 use Rattle.lfs_model.specs.Disk.{Disk}
 use Rattle.lfs_model.specs.History.{Event}
 use Rattle.lfs_model.specs.Slots.{no_gstate}
-use Rattle.lfs_model.specs.Thread.{Links, anchor, blocks_of}
+use Rattle.lfs_model.specs.Thread.{LinkByTails, anchor, blocks_of}
 use Rattle.lfs_model.proofs.BlockSets.{Contains-count}
 use Rattle.lfs_model.proofs.Counts.{count, count_here}
 use Rattle.lfs_model.proofs.Staying.{IsSameAt, raw_same}
@@ -82,7 +82,7 @@ module _ {D : Type 0} (g : Ghosts D) (device : D) (map : BlockSets) (later : D) 
   pub kept_left : IsKeptOn g later hs later_map
   kept_left = record {
     each = subst (λ d. AreHeaders d (g.history later) hs) (sym now_is) (headers_beside (disk_on g device) (g.blocks later) (g.history device) (g.history later) leaves.count hs was kept.each);
-    links = subst (Links (Some anchor)) (sym pairs_left) kept.links;
+    links = subst (LinkByTails (Some anchor)) (sym pairs_left) kept.links;
     distinct = rw pairs_left kept.distinct;
     size = leaves.size ∙ kept.size ∙ sym leaves.count;
     used = subst (λ ps. AllUsed later_map (blocks_of ps)) (sym pairs_left)

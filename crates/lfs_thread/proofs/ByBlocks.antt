@@ -12,7 +12,7 @@ use Rattle.std.proofs.lemmas.Map.Views.{Contains-from_any}
 use Rattle.std.proofs.lemmas.Option.{same_Some, get_or_from_slice_get, slice_get_within}
 use Rattle.lfs_model.specs.Slots.{same_pair}
 use Rattle.lfs_model.proofs.Counts.{Each, count, count_here, once_from_distinct, distinct_from_once}
-use Rattle.lfs_thread.specs.Places.{IsByBlock, StandsAt, blocks_at, greater_of, lesser_of, place_of}
+use Rattle.lfs_thread.specs.Places.{IsByBlock, IsAddressAt, blocks_at, greater_of, lesser_of, place_of}
 
 -- ---- lists
 
@@ -61,12 +61,12 @@ same_from_sorted a b l g = ⊎_elim
     (cases_same a b l g)
 
 -- the address at a place
-pub place_some : (addresses : List (ℕ × ℕ)) (at : ℕ × ℕ) (i : ℕ) → place_of addresses at ≡ Some i → StandsAt addresses at i
+pub place_some : (addresses : List (ℕ × ℕ)) (at : ℕ × ℕ) (i : ℕ) → place_of addresses at ≡ Some i → IsAddressAt addresses at i
 place_some [] at i e = absurd (cc)
 place_some (a ∷ addresses) at i e = go (same_pair a at) refl e (place_some addresses at)
   where
     go : (b : Bool) → same_pair a at ≡ b → cond b (Some 0) (option_map (λ k. suc k) (place_of addresses at)) ≡ Some i
-        → ((k : ℕ) → place_of addresses at ≡ Some k → StandsAt addresses at k) → StandsAt (a ∷ addresses) at i
+        → ((k : ℕ) → place_of addresses at ≡ Some k → IsAddressAt addresses at k) → IsAddressAt (a ∷ addresses) at i
     go true s f next = record { address = a; there = ap (slice_get (a ∷ addresses)) (sym (same_Some 0 i f)); same = s }
     go false s f next =
         let m = mapped (λ (k : ℕ). suc k) (place_of addresses at) i f in

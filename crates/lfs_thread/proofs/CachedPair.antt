@@ -10,14 +10,14 @@ use Rattle.lfs_cache.specs.Read.{ReadsWhereMissing, read_whole}
 use Rattle.std.proofs.lemmas.List.{length-map, map-append}
 use Rattle.std.proofs.lemmas.List.Concat.{flat_map-append}
 use Rattle.lfs_model.specs.BlockSets.{BlockSets, IsUsed}
-use Rattle.lfs_model.specs.Cache.{CachedBlocks, cached, without}
+use Rattle.lfs_model.specs.Cache.{CachedBlocks, cached, without_block}
 use Rattle.lfs_model.proofs.Cache.{cached-without_other}
 use Rattle.lfs_model.specs.Disk.{Disk, block_at, block_count}
 use Rattle.lfs_model.specs.History.{Event, reads}
 use Rattle.lfs_model.specs.Log.{chain_of, log_entries}
 use Rattle.lfs_model.specs.Content.{content_after_all, holder_at, no_content}
 use Rattle.lfs_model.specs.Slots.{Content, Tail}
-use Rattle.lfs_model.specs.Thread.{Pair, anchor, blocks_of, Links, is_hard, next_of}
+use Rattle.lfs_model.specs.Thread.{Pair, anchor, blocks_of, LinkByTails, is_hard, next_of}
 use Rattle.lfs_model.proofs.Completed.{complete_length, completed_parts}
 use Rattle.lfs_tag.specs.ContentView.{tail_view}
 use Rattle.lfs_tag.specs.FieldsView.{move_view}
@@ -25,7 +25,7 @@ use Rattle.lfs_pair.specs.Pair.{active_at, address_in, second_holds}
 use Rattle.lfs_pair.specs.Writing.{ChangesReading}
 use Rattle.lfs_thread.specs.Kept.{AllUsed, Header, IsHeader, IsKept, pair_on, pairs_on, kept_view}
 use Rattle.lfs_thread.specs.CachedLog.{IsBlockOf, cached_log_of, read_if_missing}
-use Rattle.lfs_thread.specs.Steps.{AreHeld, pair_in}
+use Rattle.lfs_thread.specs.Steps.{AreFreshInFlight, pair_in}
 use Rattle.lfs_thread.proofs.Keeping.{header_content, of_two, pair_on_content, used_right}
 use Rattle.lfs_thread.proofs.Coming.{in_flight_unused}
 use Rattle.lfs_thread.proofs.Changing.{IsAt, header_at_index, pair_at_index}
@@ -35,7 +35,7 @@ hard_leads : (t : Option Tail) → is_hard t ≡ true → next_of t ≡ None →
 hard_leads None e f = absurd (cc)
 hard_leads (Some t) e f = absurd (cc)
 
-behind_hard : (front : List Pair) (p : Pair) (back : List Pair) (from : Option (ℕ × ℕ)) → Links from (front ++ p ∷ back) → is_hard p.content.tail ≡ true → length front + 1 < length (front ++ p ∷ back)
+behind_hard : (front : List Pair) (p : Pair) (back : List Pair) (from : Option (ℕ × ℕ)) → LinkByTails from (front ++ p ∷ back) → is_hard p.content.tail ≡ true → length front + 1 < length (front ++ p ∷ back)
 behind_hard [] p [] from links hard = absurd (hard_leads p.content.tail hard links.1)
 behind_hard [] p (q ∷ back) from links hard = omega arith
 behind_hard (x ∷ front) p back from links hard = let rest = behind_hard front p back (next_of x.content.tail) links.1 hard in omega arith
@@ -93,7 +93,7 @@ module _ (disk : Disk) (history : List Event) (hs : List Header) (sets : BlockSe
       let l = length-map a.front (λ x. pair_on disk (address_in x)) in
       let e = ap length parts in
       let p = a.place in
-      let k = behind_hard (pairs_on disk a.front) (pair_on disk (address_in h)) (pairs_on disk a.back) (Some anchor) (subst (Links (Some anchor)) parts kept.links)
+      let k = behind_hard (pairs_on disk a.front) (pair_on disk (address_in h)) (pairs_on disk a.back) (Some anchor) (subst (LinkByTails (Some anchor)) parts kept.links)
       (sym (ap (λ (q : Pair). is_hard q.content.tail) (pair_at_index disk history hs sets index h a)) ∙ hard) in
       omega arith
 
@@ -108,10 +108,10 @@ module _ (disk : Disk) (history : List Event) (hs : List Header) (sets : BlockSe
       one_of_both (IsUsed sets) right.0 right.1.0
 
   -- where two blocks in flight are no longer cached, this one still is
-  pub cached_beside : (fresh : ℕ × ℕ) → AreHeld sets fresh → (cache now : CachedBlocks) → now ≡ without (without cache fresh.0) fresh.1 → cached now h.active ≡ cached cache h.active
+  pub cached_beside : (fresh : ℕ × ℕ) → AreFreshInFlight sets fresh → (cache now : CachedBlocks) → now ≡ without_block (without_block cache fresh.0) fresh.1 → cached now h.active ≡ cached cache h.active
   cached_beside fresh held cache now is =
       ap (λ z. cached z h.active) is
-      ∙ cached-without_other (without cache fresh.0) fresh.1 h.active (λ e. in_flight_unused sets fresh.1 held.second (subst (IsUsed sets) e active_used))
+      ∙ cached-without_other (without_block cache fresh.0) fresh.1 h.active (λ e. in_flight_unused sets fresh.1 held.second (subst (IsUsed sets) e active_used))
       ∙ cached-without_other cache fresh.0 h.active (λ e. in_flight_unused sets fresh.0 held.first (subst (IsUsed sets) e active_used))
 
   -- in the words of the thread

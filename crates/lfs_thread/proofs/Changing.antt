@@ -14,7 +14,7 @@ use Rattle.lfs_model.specs.Slots.{Slot, Content, FitsPair}
 use Rattle.lfs_model.specs.Changes.{Change, changed_by}
 use Rattle.lfs_model.specs.LoggedContent.{HaveNames}
 use Rattle.lfs_model.specs.Content.{RawSlot, RawContent, raw_at, content_at, completed, complete, complete_all, kind_named, struct_typed}
-use Rattle.lfs_model.specs.Thread.{Pair, Links, next_of, blocks_of}
+use Rattle.lfs_model.specs.Thread.{Pair, LinkByTails, next_of, blocks_of}
 use Rattle.lfs_model.proofs.Counts.{count, once_from_distinct}
 use Rattle.lfs_model.proofs.Completed.{complete_parts, fits_pair}
 use Rattle.lfs_model.proofs.Histories.{unprogrammed-reads}
@@ -24,11 +24,11 @@ use Rattle.lfs_device.specs.Shown.{disk_of}
 use Rattle.lfs_pair.specs.declared.commits.Outcome.{Outcome}
 use Rattle.lfs_pair.specs.declared.commits.Outcome.TheVariants.{Done, Full}
 use Rattle.lfs_pair.specs.Pair.{address_in}
-use Rattle.lfs_pair.specs.Commit.{CanCommit, Commits, NowHolds, IsAddressOn, OutsideKeeps, OutsideStays, IsMade, IsStill, LeftByChange, made_at}
+use Rattle.lfs_pair.specs.Commit.{CanCommit, Commits, PairHolds, IsAddressOn, OutsideKeeps, OutsideStays, HasChangesMade, HasSameContent, LeftByChange, made_at}
 use Rattle.lfs_model.specs.View.{superblock_entry}
 use Rattle.lfs_model.proofs.FirstEntries.{superblock_anew}
 use Rattle.lfs_thread.specs.Kept.{Header, kept_view, pair_on, pairs_on, IsHeader, AreHeaders, AllUsed, IsKept}
-use Rattle.lfs_thread.specs.Steps.{pair_in, no_pair, made_in_thread, CanChange, with_pair, StaysFirst, IsWrittenAs, IsChanged, IsOnlyRead, IsRefused, IsLeftByChange}
+use Rattle.lfs_thread.specs.Steps.{pair_in, no_pair, made_in_thread, CanChange, with_pair, KeepsSuperblockFirst, IsWrittenAs, IsChanged, IsOnlyRead, IsCommitRefused, IsLeftByChange}
 use Rattle.lfs_thread.proofs.Keeping.{IsAsItWas, header_same, kept_thread, headers_right, header_content, pair_on_content, used_left, used_right, IsReplaced, pairs_are, kept_replaced}
 
 -- ---- the header at an index
@@ -124,7 +124,7 @@ module _ (disk : Disk) (before : List Event) (blocks : Blocks) (after : List Eve
   kept_parts : IsKept disk before (a.front ++ (h ∷ [] ++ a.back)) sets
   kept_parts = subst (λ z. IsKept disk before z sets) a.parts kept
 
-  holds : NowHolds left after (address_in h) new commits.new
+  holds : PairHolds left after (address_in h) new commits.new
   holds = commits.holds
 
   whole : completed commits.new ≡ Some can.content
@@ -175,7 +175,7 @@ module _ (disk : Disk) (before : List Event) (blocks : Blocks) (after : List Eve
     free = λ b. let o = once_from_distinct (blocks_of (pairs_on disk (a.front ++ (h ∷ [] ++ a.back)))) kept_parts.distinct b in omega arith;
     each = (now_header, tt);
     no_more = λ b. let e = ap (count b) same_blocks in omega arith;
-    links = λ ys from l. (l.0 ∙ ap Some (sym holds.same), subst (λ n. Links n ys) (sym same_next) l.1);
+    links = λ ys from l. (l.0 ∙ ap Some (sym holds.same), subst (λ n. LinkByTails n ys) (sym same_next) l.1);
     size = kept_parts.size;
     used = (used_parts.0, (subst (AllUsed sets) (sym same_blocks) used_parts.1.0, used_parts.1.1));
   }
@@ -206,7 +206,7 @@ module _ (disk : Disk) (before : List Event) (blocks : Blocks) (after : List Eve
       holds = ap (content_at left) (ap (λ (p : Pair). p.at) was_pair ∙ sym holds.same) ∙ header_content left after new now_header;
       others = subst (λ (p : Pair). OutsideKeeps p.at disk.blocks blocks) (sym was_pair) others;
       shape = record { block_size = refl; page = refl; order = refl; count = others.count };
-      first = subst (λ (p : Pair). StaysFirst disk p.at can.content left) (sym was_pair) (λ begins has. commits.first superblock_entry begins (superblock_anew commits.new can.content commits.logged.slots whole has.0 has.1));
+      first = subst (λ (p : Pair). KeepsSuperblockFirst disk p.at can.content left) (sym was_pair) (λ begins has. commits.first superblock_entry begins (superblock_anew commits.new can.content commits.logged.slots whole has.0 has.1));
     };
     pairs = changed_pairs;
     thread = kept_thread left after (set hs index new) sets changed_kept;
@@ -269,22 +269,22 @@ left_in_thread disk history hs sets index h changes blocks a kept made_content m
     was : content_at disk (address_in h) ≡ Some (pair_in (kept_view disk history hs sets) index).content
     was = header_content disk history h is ∙ ap (λ (p : Pair). Some p.content) (sym (e ∙ pair_on_content disk (address_in h) is.content (header_content disk history h is)))
 
-    written : (c : Content) → content_at (record disk { blocks = blocks }) (address_in h) ≡ Some c → StaysFirst disk (address_in h) c (record disk { blocks = blocks })
+    written : (c : Content) → content_at (record disk { blocks = blocks }) (address_in h) ≡ Some c → KeepsSuperblockFirst disk (address_in h) c (record disk { blocks = blocks })
         → IsWrittenAs (kept_view disk history hs sets) index c (record disk { blocks = blocks })
     written c holds first = record {
       holds = ap (λ (p : Pair). content_at (record disk { blocks = blocks }) p.at) e ∙ holds;
       others = subst (λ (p : Pair). OutsideKeeps p.at disk.blocks blocks) (sym e) l.others;
       shape = record { block_size = refl; page = refl; order = refl; count = l.others.count };
-      first = subst (λ (p : Pair). StaysFirst disk p.at c (record disk { blocks = blocks })) (sym e) first;
+      first = subst (λ (p : Pair). KeepsSuperblockFirst disk p.at c (record disk { blocks = blocks })) (sym e) first;
     }
 
     made_here : Completes (made_at disk (address_in h) changes) made_content
     made_here = made_of_header disk history hs sets index h changes made_content a made
 
-    whole : (k : IsMade disk (address_in h) changes (record disk { blocks = blocks })) → completed k.new ≡ Some made_content
+    whole : (k : HasChangesMade disk (address_in h) changes (record disk { blocks = blocks })) → completed k.new ≡ Some made_content
     whole k = ap completed (same_Some k.new made_here.raw (sym k.made ∙ made_here.is)) ∙ made_here.complete
 
-    sides : IsStill disk (address_in h) (record disk { blocks = blocks }) ⊎ IsMade disk (address_in h) changes (record disk { blocks = blocks })
+    sides : HasSameContent disk (address_in h) (record disk { blocks = blocks }) ⊎ HasChangesMade disk (address_in h) changes (record disk { blocks = blocks })
         → IsLeftByChange (kept_view disk history hs sets) index changes blocks
     sides (inl k) = record {
       content = (pair_in (kept_view disk history hs sets) index).content;
@@ -323,7 +323,7 @@ full_read disk new before after hs sets index h same a e f reads = record {
 pub refused : (disk new : Disk) (before after : List Event) (hs : List Header) (sets : BlockSets) (index : ℕ) (h same : Header) (changes : List Change) (c : Content) → IsAt hs index h
     → made_in_thread (kept_view disk before hs sets) index changes ≡ Some c
     → ((raw : RawContent) (d : Content) → made_at disk (address_in h) changes ≡ Some raw → completed raw ≡ Some d → FitsPair disk.block_size disk.page d → ⊥)
-    → new ≡ disk → same ≡ h → OnlyReads disk.blocks before after → IsRefused (kept_view disk before hs sets) index changes (kept_view new after (set hs index same) sets)
+    → new ≡ disk → same ≡ h → OnlyReads disk.blocks before after → IsCommitRefused (kept_view disk before hs sets) index changes (kept_view new after (set hs index same) sets)
 refused disk new before after hs sets index h same changes c a made too_large e f reads =
     let m = made_of_header disk before hs sets index h changes c a made in
     record {

@@ -12,7 +12,7 @@ use Rattle.lfs_model.proofs.Counts.{count, count_here}
 use Rattle.lfs_pair.specs.Commit.{IsAddressOn}
 use Rattle.lfs_model.specs.Thread.{blocks_of}
 use Rattle.lfs_thread.specs.Kept.{Header, AllUsed, IsKept, pairs_on}
-use Rattle.lfs_thread.specs.Steps.{AreHeld, settled}
+use Rattle.lfs_thread.specs.Steps.{AreFreshInFlight, map_with_used_pair}
 
 -- ---- blocks that aren't used stand in no pair
 
@@ -67,7 +67,7 @@ pub record SettlesTwo (old : BlockSets) (fresh : ℕ × ℕ) (new : BlockSets) :
   pub others : (b : ℕ) → b ≢ fresh.0 → b ≢ fresh.1 → slice_get new b ≡ slice_get old b
   pub size : length new ≡ length old
 
-pub settles_two : (sets : BlockSets) (fresh : ℕ × ℕ) → AreHeld sets fresh → SettlesTwo sets fresh (settled sets fresh)
+pub settles_two : (sets : BlockSets) (fresh : ℕ × ℕ) → AreFreshInFlight sets fresh → SettlesTwo sets fresh (map_with_used_pair sets fresh)
 settles_two sets fresh t = record {
   first_unused = in_flight_unused sets fresh.0 t.first;
   second_unused = in_flight_unused sets fresh.1 t.second;
@@ -79,7 +79,7 @@ settles_two sets fresh t = record {
 }
 
 -- the second is still in flight, where the first is settled
-pub second_held : (sets : BlockSets) (fresh : ℕ × ℕ) → AreHeld sets fresh → IsInFlight (set sets fresh.0 Used) fresh.1
+pub second_held : (sets : BlockSets) (fresh : ℕ × ℕ) → AreFreshInFlight sets fresh → IsInFlight (set sets fresh.0 Used) fresh.1
 second_held sets fresh t = slice_get-set_other sets fresh.0 fresh.1 Used (λ e. t.apart (sym e)) ∙ t.second
 
 pub used_still : (sets now : BlockSets) (fresh : ℕ × ℕ) (bs : List ℕ) → SettlesTwo sets fresh now → AllUsed sets bs → AllUsed now bs
@@ -90,7 +90,7 @@ used_still sets now fresh (b ∷ bs) uses used = (
 )
 
 -- two blocks in flight are an address of the disk
-pub held_address : (disk : Disk) (history : List Event) (hs : List Header) (sets : BlockSets) (fresh : ℕ × ℕ) → IsKept disk history hs sets → AreHeld sets fresh → IsAddressOn disk fresh
+pub held_address : (disk : Disk) (history : List Event) (hs : List Header) (sets : BlockSets) (fresh : ℕ × ℕ) → IsKept disk history hs sets → AreFreshInFlight sets fresh → IsAddressOn disk fresh
 held_address disk history hs sets fresh kept held = record {
   apart = held.apart;
   first = let l = slice_get_within sets fresh.0 InFlight held.first in let s = kept.size in omega arith;

@@ -12,7 +12,7 @@ use Rattle.lfs_model.specs.Disk.{Disk}
 use Rattle.lfs_model.specs.History.{Event}
 use Rattle.lfs_model.specs.Changes.{Change}
 use Rattle.lfs_model.specs.Content.{raw_at, content_at, completed}
-use Rattle.lfs_model.specs.Thread.{Pair, Links, next_of, blocks_of}
+use Rattle.lfs_model.specs.Thread.{Pair, LinkByTails, next_of, blocks_of}
 use Rattle.lfs_model.proofs.Completed.{fits_pair}
 use Rattle.lfs_model.proofs.BlockSets.{slice_get-set_other}
 use Rattle.lfs_model.proofs.Counts.{count, count_here, once_from_distinct}
@@ -21,7 +21,7 @@ use Rattle.lfs_pair.specs.Commit.{IsAddressOn, Commits, OutsideKeeps, OutsideSta
 use Rattle.lfs_model.specs.View.{superblock_entry}
 use Rattle.lfs_model.proofs.FirstEntries.{superblock_anew}
 use Rattle.lfs_thread.specs.Kept.{Header, kept_view, pair_on, pairs_on, IsHeader, AllUsed, IsKept}
-use Rattle.lfs_thread.specs.Steps.{pair_in, with_pair, CanDrop, IsDropped, without_pair, StaysFirst}
+use Rattle.lfs_thread.specs.Steps.{pair_in, with_pair, CanDrop, IsDropped, without_pair, KeepsSuperblockFirst}
 use Rattle.lfs_thread.proofs.Keeping.{kept_thread, header_content, pair_on_content, used_left, used_right, blocks_append, IsReplaced, pairs_are, kept_replaced}
 use Rattle.lfs_thread.proofs.Changing.{IsAt, at_index, header_at_index, pair_at_index, made_of_header}
 
@@ -178,7 +178,7 @@ module _ (disk : Disk) (before : List Event) (blocks : Blocks) (after : List Eve
     free = λ b. let o = once_from_distinct (blocks_of (pairs_on disk (n.front ++ (two ++ n.back)))) kept_parts.distinct b in omega arith;
     each = (now_header, tt);
     no_more = λ b. let e = ap (count b) same_blocks in omega arith;
-    links = λ ys from l. (l.0 ∙ ap Some (sym commits.holds.same), subst (λ x. Links x ys) (sym same_next) l.1.1);
+    links = λ ys from l. (l.0 ∙ ap Some (sym commits.holds.same), subst (λ x. LinkByTails x ys) (sym same_next) l.1.1);
     size = length-set (set sets (address_in n.next).0 Free) (address_in n.next).1 Free ∙ length-set sets (address_in n.next).0 Free ∙ kept_parts.size;
     used = (
       stay_used (blocks_of (pairs_on disk n.front)) (λ b k. let c = counts b in omega arith) used_parts.0,
@@ -221,7 +221,7 @@ module _ (disk : Disk) (before : List Event) (blocks : Blocks) (after : List Eve
       holds = ap (content_at left) (ap (λ (q : Pair). q.at) was_pair ∙ sym commits.holds.same) ∙ header_content left after new now_header;
       others = subst (λ (q : Pair). OutsideKeeps q.at disk.blocks blocks) (sym was_pair) others;
       shape = record { block_size = refl; page = refl; order = refl; count = others.count };
-      first = subst (λ (q : Pair). StaysFirst disk q.at can.content left) (sym was_pair) (λ begins has. commits.first superblock_entry begins (superblock_anew commits.new can.content commits.logged.slots whole has.0 has.1));
+      first = subst (λ (q : Pair). KeepsSuperblockFirst disk q.at can.content left) (sym was_pair) (λ begins has. commits.first superblock_entry begins (superblock_anew commits.new can.content commits.logged.slots whole has.0 has.1));
     };
     pairs = dropped_pairs;
     map = ap (λ (q : Pair). without_pair sets q.at) (sym next_pair);

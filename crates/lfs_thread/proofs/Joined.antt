@@ -19,11 +19,11 @@ use Rattle.lfs_model.specs.Changes.{Change, PutTail, changed_by}
 use Rattle.lfs_model.proofs.Effects.{does_first, does_nothing, ends_tail, puts_tail}
 use Rattle.lfs_model.specs.Content.{no_content, raw_at, completed}
 use Rattle.lfs_model.specs.EntryTypes.{tail_with}
-use Rattle.lfs_model.specs.Thread.{Pair, anchor, Links, next_of, blocks_of}
+use Rattle.lfs_model.specs.Thread.{Pair, anchor, LinkByTails, next_of, blocks_of}
 use Rattle.lfs_model.proofs.Counts.{count, once_from_distinct}
 use Rattle.lfs_pair.specs.Pair.{address_in}
 use Rattle.lfs_pair.specs.Commit.{Commits, made_at, made_of, IsAddressOn, OutsideKeeps, OutsideStays}
-use Rattle.lfs_pair.specs.Fresh.{CanBeFresh, IsFresh}
+use Rattle.lfs_pair.specs.Fresh.{CanBeFresh, IsFreshPair}
 use Rattle.lfs_pair.specs.Split.{AreApart}
 use Rattle.lfs_model.proofs.Staying.{AreElsewhere, raw_at-stays}
 use Rattle.lfs_thread.specs.Kept.{Header, kept_view, pair_on, pairs_on, IsHeader, AreHeaders, AllUsed, IsKept}
@@ -48,7 +48,7 @@ module _ (disk : Disk) (before : List Event) (blocks : Blocks) (after : List Eve
   pub beside_kept : IsKept (record disk { blocks = blocks }) after hs sets
   beside_kept = record {
     each = headers-stay disk before after hs elsewhere others stay kept.each;
-    links = subst (Links (Some anchor)) (sym beside_pairs) kept.links;
+    links = subst (LinkByTails (Some anchor)) (sym beside_pairs) kept.links;
     distinct = subst (λ ps. IsDistinct nat_eq (blocks_of ps)) (sym beside_pairs) kept.distinct;
     size = kept.size ∙ sym others.count;
     used = subst (λ ps. AllUsed sets (blocks_of ps)) (sym beside_pairs) kept.used;
@@ -163,7 +163,7 @@ module _ (disk : Disk) (before : List Event) (blocks : Blocks) (after : List Eve
     no_more = λ b. let e = ap (count b) new_blocks in omega arith;
     links = λ ys from l. (
       l.0 ∙ ap Some (sym commits.holds.same),
-      (ap (λ (p : Pair). next_of p.content.tail) now_pair ∙ next ∙ ap Some (sym at_fresh), subst (λ t. Links (next_of t) ys) (sym same_tail) l.1),
+      (ap (λ (p : Pair). next_of p.content.tail) now_pair ∙ next ∙ ap Some (sym at_fresh), subst (λ t. LinkByTails (next_of t) ys) (sym same_tail) l.1),
     );
     size = uses.size ∙ kept_parts.size;
     used = (
@@ -225,15 +225,15 @@ tail_named disk history hs sets index h a kept few = go (pair_on disk (address_i
     each : AreHeaders disk history (a.front ++ h ∷ a.back)
     each = subst (AreHeaders disk history) a.parts kept.each
 
-    links : Links (Some anchor) (pairs_on disk a.front ++ pair_on disk (address_in h) ∷ pairs_on disk a.back)
-    links = subst (Links (Some anchor)) (ap (pairs_on disk) a.parts ∙ map-append (λ x. pair_on disk (address_in x)) a.front (h ∷ a.back)) kept.links
+    links : LinkByTails (Some anchor) (pairs_on disk a.front ++ pair_on disk (address_in h) ∷ pairs_on disk a.back)
+    links = subst (LinkByTails (Some anchor)) (ap (pairs_on disk) a.parts ∙ map-append (λ x. pair_on disk (address_in x)) a.front (h ∷ a.back)) kept.links
 
-    behind : (front : List Header) (from : Option (ℕ × ℕ)) → Links from (pairs_on disk front ++ pair_on disk (address_in h) ∷ pairs_on disk a.back)
-        → Links (next_of (pair_on disk (address_in h)).content.tail) (pairs_on disk a.back)
+    behind : (front : List Header) (from : Option (ℕ × ℕ)) → LinkByTails from (pairs_on disk front ++ pair_on disk (address_in h) ∷ pairs_on disk a.back)
+        → LinkByTails (next_of (pair_on disk (address_in h)).content.tail) (pairs_on disk a.back)
     behind [] from l = l.1
     behind (x ∷ front) from l = behind front (next_of (pair_on disk (address_in x)).content.tail) l.1
 
-    go : (t : Option Tail) (back : List Header) → Links (next_of t) (pairs_on disk back) → AreHeaders disk history back → IsTailIfSome t
+    go : (t : Option Tail) (back : List Header) → LinkByTails (next_of t) (pairs_on disk back) → AreHeaders disk history back → IsTailIfSome t
     go None back l are = tt
     go (Some t) [] l are = absurd (cc)
     go (Some t) (x ∷ back) l are =
@@ -259,7 +259,7 @@ pub record IsFreshHeader (disk : Disk) (history : List Event) (f : Header) (fres
   pub at : address_in f ≡ fresh
   pub empty : header.content ≡ record { slots = []; tail = t; move = no_gstate }
 
-pub fresh_header : (disk : Disk) (before history : List Event) (f : Header) (fresh : ℕ × ℕ) (t : Option Tail) → IsAddressOn disk fresh → IsTailIfSome t → IsFresh before (put_tail t ∷ []) disk history fresh f
+pub fresh_header : (disk : Disk) (before history : List Event) (f : Header) (fresh : ℕ × ℕ) (t : Option Tail) → IsAddressOn disk fresh → IsTailIfSome t → IsFreshPair before (put_tail t ∷ []) disk history fresh f
     → IsFreshHeader disk history f fresh t
 fresh_header disk before history f fresh t on real is = record {
   header = record {

@@ -15,20 +15,20 @@ use Rattle.lfs_model.specs.History.{Event}
 use Rattle.lfs_model.specs.Slots.{Slot, Content, FitsPair, Gstate, Tail, no_gstate}
 use Rattle.lfs_model.specs.LoggedContent.{HaveParts, IsLogged}
 use Rattle.lfs_model.proofs.Logged.{nothing_logged}
-use Rattle.lfs_model.specs.View.{BeginsWith, superblock_entry}
+use Rattle.lfs_model.specs.View.{BeginsWithEntry, superblock_entry}
 use Rattle.lfs_model.specs.Changes.{Change}
 use Rattle.lfs_model.specs.Content.{RawSlot, RawContent, holder_at, raw_at, content_at, content_after_all, completed, complete_all, no_content}
 use Rattle.lfs_model.specs.Log.{log_entries}
-use Rattle.lfs_model.specs.Thread.{Pair, Links, next_of, blocks_of}
+use Rattle.lfs_model.specs.Thread.{Pair, LinkByTails, next_of, blocks_of}
 use Rattle.lfs_model.proofs.Counts.{count, once_from_distinct}
 use Rattle.lfs_model.proofs.Completed.{complete_parts, complete_take, complete_drop, completed_from, fits_pair}
 use Rattle.lfs_pair.specs.Pair.{address_in}
-use Rattle.lfs_pair.specs.Cut.{CanBeCut, FitSlots, IsCut}
-use Rattle.lfs_pair.specs.Commit.{IsAddressOn, CanCommit, IsStill, KeepsFirst, made_at, made_of}
+use Rattle.lfs_pair.specs.Cut.{CanBeCut, FitSlots, IsCutOfSlots}
+use Rattle.lfs_pair.specs.Commit.{IsAddressOn, CanCommit, HasSameContent, KeepsFirst, made_at, made_of}
 use Rattle.lfs_model.proofs.FirstEntries.{superblock_anew}
-use Rattle.lfs_pair.specs.Split.{CanSplit, IsInside, Splits, OutsideBothKeeps, OutsideBothStays, LeftBySplit, AreParted, front_of, back_of}
+use Rattle.lfs_pair.specs.Split.{CanSplit, CutsInside, Splits, OutsideBothKeeps, OutsideBothStays, LeftBySplit, PairsHaveParts, front_content, back_content}
 use Rattle.lfs_thread.specs.Kept.{Kept, Header, kept_view, pair_on, pairs_on, IsHeader, AllUsed, IsKept}
-use Rattle.lfs_thread.specs.Steps.{pair_in, CanBeSplit, settled, front_pair, back_pair, with_two, IsSplit, AreHalves, ArePartsOf, IsAsBefore, IsLeftBySplit}
+use Rattle.lfs_thread.specs.Steps.{pair_in, CanBeSplit, map_with_used_pair, front_pair, back_pair, with_two, IsSplit, AreHalves, ArePartsOf, HasOldContent, IsLeftBySplit}
 use Rattle.lfs_thread.proofs.Coming.{two_unused, used_still, SettlesTwo, settles_two, held_address}
 use Rattle.lfs_thread.proofs.Keeping.{kept_thread, header_content, pair_on_content, used_left, used_right, IsReplaced, pairs_are, kept_replaced}
 use Rattle.lfs_thread.proofs.Changing.{IsAt, header_at_index, pair_at_index, Completes, made_of_header, can_commit}
@@ -54,12 +54,12 @@ is_complete raw c h = go (complete_all raw.slots) refl h
         }
 
 front_complete : (raw : RawContent) (c : Content) (cut : ℕ) (fresh : ℕ × ℕ) → IsComplete raw c
-    → completed (front_of raw cut fresh) ≡ Some (record { slots = take cut c.slots; tail = Some (record { hard = true; to = fresh }); move = c.move })
+    → completed (front_content raw cut fresh) ≡ Some (record { slots = take cut c.slots; tail = Some (record { hard = true; to = fresh }); move = c.move })
 front_complete raw c cut fresh is =
     ap (option_map (λ (slots : List Slot). record { slots = slots; tail = Some (record { hard = true; to = fresh }); move = raw.move })) (complete_take cut raw.slots c.slots is.slots)
     ∙ ap (λ m. Some (record { slots = take cut c.slots; tail = Some (record { hard = true; to = fresh }); move = m })) (sym is.move)
 
-back_complete : (raw : RawContent) (c : Content) (cut : ℕ) → IsComplete raw c → completed (back_of raw cut) ≡ Some (record { slots = drop cut c.slots; tail = c.tail; move = no_gstate })
+back_complete : (raw : RawContent) (c : Content) (cut : ℕ) → IsComplete raw c → completed (back_content raw cut) ≡ Some (record { slots = drop cut c.slots; tail = c.tail; move = no_gstate })
 back_complete raw c cut is =
     ap (option_map (λ (slots : List Slot). record { slots = slots; tail = raw.tail; move = no_gstate })) (complete_drop cut raw.slots c.slots is.slots)
     ∙ ap (λ t. Some (record { slots = drop cut c.slots; tail = t; move = no_gstate })) (sym is.tail)
@@ -87,16 +87,16 @@ complete_length (s ∷ slots) all e =
     let p = complete_parts s slots all e in
     ap length p.all_are ∙ ap suc (complete_length slots p.others p.are_others)
 
-parts_of_cut : (old : Kept) (index : ℕ) (raw : RawContent) (c : Content) (cut : ℕ) (fresh : ℕ × ℕ) (disk : Disk) → IsComplete raw c → completed raw ≡ Some c → IsLogged raw → IsCut old.disk.block_size old.disk.page raw.slots cut
-    → IsInside old.disk.block_size old.disk.page raw cut
-    → KeepsFirst old.disk (pair_in old index).at (Some (front_of raw cut fresh)) disk → ArePartsOf old index c cut fresh disk
+parts_of_cut : (old : Kept) (index : ℕ) (raw : RawContent) (c : Content) (cut : ℕ) (fresh : ℕ × ℕ) (disk : Disk) → IsComplete raw c → completed raw ≡ Some c → IsLogged raw → IsCutOfSlots old.disk.block_size old.disk.page raw.slots cut
+    → CutsInside old.disk.block_size old.disk.page raw cut
+    → KeepsFirst old.disk (pair_in old index).at (Some (front_content raw cut fresh)) disk → ArePartsOf old index c cut fresh disk
 parts_of_cut old index raw c cut fresh disk is whole logged is_cut is_inside keeps = record {
   inside = λ too_large. let i = is_inside (λ f. too_large (fits_pair old.disk.block_size old.disk.page raw c logged whole f)) in let l = complete_length raw.slots c.slots is.slots in (i.0, omega arith);
   front_fits = slots_fit old.disk.block_size old.disk.page (take cut raw.slots) (take cut c.slots) (Some (record { hard = true; to = fresh })) c.move
       (HaveParts-take cut raw.slots logged.slots) (complete_take cut raw.slots c.slots is.slots) is_cut.front;
   back_fits = slots_fit old.disk.block_size old.disk.page (drop cut raw.slots) (drop cut c.slots) c.tail no_gstate
       (HaveParts-drop cut raw.slots logged.slots) (complete_drop cut raw.slots c.slots is.slots) is_cut.back;
-  first = λ begins has. keeps superblock_entry begins (superblock_anew (front_of raw cut fresh) (record { slots = take cut c.slots; tail = Some (record { hard = true; to = fresh }); move = c.move })
+  first = λ begins has. keeps superblock_entry begins (superblock_anew (front_content raw cut fresh) (record { slots = take cut c.slots; tail = Some (record { hard = true; to = fresh }); move = c.move })
       (HaveParts-take cut raw.slots logged.slots) (front_complete raw c cut fresh is) has.0 has.1);
 }
 
@@ -153,7 +153,7 @@ module _ (disk : Disk) (before : List Event) (blocks : Blocks) (after : List Eve
   left = record disk { blocks = blocks }
 
   abbrev now : BlockSets
-  now = settled sets fresh
+  now = map_with_used_pair sets fresh
 
   uses : SettlesTwo sets fresh now
   uses = settles_two sets fresh can.held
@@ -182,7 +182,7 @@ module _ (disk : Disk) (before : List Event) (blocks : Blocks) (after : List Eve
           first = subst (λ n. (address_in h).0 < n) (sym others.count) on.first;
           second = subst (λ n. (address_in h).1 < n) (sym others.count) on.second;
         });
-        held = front_of splits.new splits.cut fresh;
+        held = front_content splits.new splits.cut fresh;
         is_pair = splits.front.is_pair;
         raw = ap (raw_at left) splits.front.same ∙ splits.front.content;
         content = record { slots = take splits.cut c.slots; tail = Some (record { hard = true; to = fresh }); move = c.move };
@@ -196,7 +196,7 @@ module _ (disk : Disk) (before : List Event) (blocks : Blocks) (after : List Eve
       first = subst (λ n. fresh.0 < n) (sym others.count) on.first;
       second = subst (λ n. fresh.1 < n) (sym others.count) on.second;
     });
-    held = back_of splits.new splits.cut;
+    held = back_content splits.new splits.cut;
     is_pair = splits.back.is_pair;
     raw = ap (raw_at left) splits.back.same ∙ splits.back.content;
     content = record { slots = drop splits.cut c.slots; tail = c.tail; move = no_gstate };
@@ -237,7 +237,7 @@ module _ (disk : Disk) (before : List Event) (blocks : Blocks) (after : List Eve
     no_more = λ b. let e = ap (count b) new_blocks in omega arith;
     links = λ ys from l. (
       l.0 ∙ ap Some (sym splits.front.same),
-      (ap (λ (p : Pair). next_of p.content.tail) new_pair ∙ ap Some (sym splits.back.same), subst (λ n. Links n ys) (sym same_next) l.1),
+      (ap (λ (p : Pair). next_of p.content.tail) new_pair ∙ ap Some (sym splits.back.same), subst (λ n. LinkByTails n ys) (sym same_next) l.1),
     );
     size = uses.size ∙ kept_parts.size;
     used = (
@@ -282,7 +282,7 @@ module _ (disk : Disk) (before : List Event) (blocks : Blocks) (after : List Eve
     made = can.can.made;
     cut = splits.cut;
     parts = parts_of_cut (kept_view disk before hs sets) index splits.new c splits.cut fresh left parts_of is_whole splits.logged splits.is_cut splits.inside
-        (subst (λ (p : Pair). KeepsFirst disk p.at (Some (front_of splits.new splits.cut fresh)) left) (sym was_pair) splits.first);
+        (subst (λ (p : Pair). KeepsFirst disk p.at (Some (front_content splits.new splits.cut fresh)) left) (sym was_pair) splits.first);
     pairs = split_pairs;
     thread = kept_thread left after headers now split_kept;
     map = refl;
@@ -293,7 +293,7 @@ module _ (disk : Disk) (before : List Event) (blocks : Blocks) (after : List Eve
 module _ (geometry later : Geometry) (old blocks : Blocks) (before after : List Event) (hs : List Header) (sets : BlockSets) (index : ℕ) (h new f : Header) (fresh : ℕ × ℕ) (changes : List Change)
     (same : later ≡ geometry) (a : IsAt hs index h) (kept : IsKept (disk_of geometry old) before hs sets) (can : CanBeSplit (kept_view (disk_of geometry old) before hs sets) index fresh changes)
     (splits : Splits (disk_of geometry old) before changes h fresh (disk_of later blocks) after new f) (others : OutsideBothKeeps (address_in h) fresh old blocks)
-    (stay : OutsideBothStays (address_in h) fresh before after) (items : List Header) (are : items ≡ insert (set hs index new) (index + 1) f) (now : BlockSets) (is_now : now ≡ settled sets fresh) where
+    (stay : OutsideBothStays (address_in h) fresh before after) (items : List Header) (are : items ≡ insert (set hs index new) (index + 1) f) (now : BlockSets) (is_now : now ≡ map_with_used_pair sets fresh) where
   splits_there : Splits (disk_of geometry old) before changes h fresh (disk_of geometry blocks) after new f
   splits_there = subst (λ k. Splits (disk_of geometry old) before changes h fresh (disk_of k blocks) after new f) same splits
 
@@ -346,12 +346,12 @@ left_by_split disk before hs sets index h fresh changes blocks a kept can l = re
     whole : (raw : RawContent) → made_at disk (address_in h) changes ≡ Some raw → IsComplete raw can.can.content
     whole raw made = is_complete raw can.can.content (made_whole raw made)
 
-    sides : IsStill disk (address_in h) (record disk { blocks = blocks }) ⊎ AreParted disk (address_in h) fresh changes (record disk { blocks = blocks })
-        → IsAsBefore (kept_view disk before hs sets) index (record disk { blocks = blocks })
+    sides : HasSameContent disk (address_in h) (record disk { blocks = blocks }) ⊎ PairsHaveParts disk (address_in h) fresh changes (record disk { blocks = blocks })
+        → HasOldContent (kept_view disk before hs sets) index (record disk { blocks = blocks })
         ⊎ AreHalves (kept_view disk before hs sets) index changes fresh (record disk { blocks = blocks })
     sides (inl k) = inl (record {
       holds = ap (λ (p : Pair). content_at (record disk { blocks = blocks }) p.at) e ∙ ap (λ o. option_and_then completed o) k.content ∙ was;
-      first = subst (λ (p : Pair). BeginsWith (holder_at disk p.at) superblock_entry → BeginsWith (holder_at (record disk { blocks = blocks }) p.at) superblock_entry) (sym e) (k.first superblock_entry);
+      first = subst (λ (p : Pair). BeginsWithEntry (holder_at disk p.at) superblock_entry → BeginsWithEntry (holder_at (record disk { blocks = blocks }) p.at) superblock_entry) (sym e) (k.first superblock_entry);
     })
     sides (inr k) = inr (record {
       content = can.can.content;
@@ -360,5 +360,5 @@ left_by_split disk before hs sets index h fresh changes blocks a kept can l = re
       front = ap (λ (p : Pair). content_at (record disk { blocks = blocks }) p.at) e ∙ ap (λ o. option_and_then completed o) k.front.content ∙ front_complete k.new can.can.content k.cut fresh (whole k.new k.made);
       back = ap (λ o. option_and_then completed o) k.back ∙ back_complete k.new can.can.content k.cut (whole k.new k.made);
       parts = parts_of_cut (kept_view disk before hs sets) index k.new can.can.content k.cut fresh (record disk { blocks = blocks }) (whole k.new k.made) (made_whole k.new k.made) k.logged k.is_cut k.inside
-          (subst (λ (p : Pair). KeepsFirst disk p.at (Some (front_of k.new k.cut fresh)) (record disk { blocks = blocks })) (sym e) k.front.first);
+          (subst (λ (p : Pair). KeepsFirst disk p.at (Some (front_content k.new k.cut fresh)) (record disk { blocks = blocks })) (sym e) k.front.first);
     })

@@ -7,7 +7,7 @@ use Rattle.lfs_model.specs.Blocks.{Blocks}
 use Rattle.std.specs.Option.{option_and_then, option_map}
 use Rattle.lfs_tag.specs.ContentView.{tail_view}
 use Rattle.lfs_model.proofs.Completed.{fits_pair}
-use Rattle.lfs_model.specs.View.{BeginsWith, superblock_entry}
+use Rattle.lfs_model.specs.View.{BeginsWithEntry, superblock_entry}
 use Rattle.lfs_model.specs.BlockSets.{BlockSets, IsUsed}
 use Rattle.lfs_model.specs.Disk.{Disk}
 use Rattle.lfs_device.specs.declared.geometry.Geometry.{Geometry}
@@ -20,14 +20,14 @@ use Rattle.lfs_model.specs.Changes.{Change}
 use Rattle.lfs_model.specs.Content.{RawContent, holder_at, raw_at, content_at, completed}
 use Rattle.lfs_model.specs.Thread.{Pair, blocks_of}
 use Rattle.lfs_pair.specs.Pair.{address_in}
-use Rattle.lfs_pair.specs.Commit.{CanCommit, Commits, IsMade, IsStill, LeftByChange, made_at, OutsideKeeps, OutsideStays}
-use Rattle.lfs_pair.specs.Fresh.{IsFresh}
+use Rattle.lfs_pair.specs.Commit.{CanCommit, Commits, HasChangesMade, HasSameContent, LeftByChange, made_at, OutsideKeeps, OutsideStays}
+use Rattle.lfs_pair.specs.Fresh.{IsFreshPair}
 use Rattle.lfs_pair.specs.Split.{AreApart, OutsideBothKeeps}
 use Rattle.lfs_model.proofs.FirstEntries.{superblock_anew}
 use Rattle.lfs_model.proofs.Staying.{AreElsewhere, raw_at-stays}
 use Rattle.lfs_thread.specs.Kept.{Kept, Header, kept_view, pair_on, pairs_on, IsHeader, AllUsed, IsKept}
 use Rattle.lfs_thread.specs.Device.{StopsLeave}
-use Rattle.lfs_thread.specs.Steps.{pair_in, no_pair, IsBeside, made_in_thread, CanJoin, HasSuperblockFirst, IsAsBefore, IsJoined, IsJoinedOn, IsLeftByJoin, StaysFirst, joined_pair, put_tail, settled, with_two}
+use Rattle.lfs_thread.specs.Steps.{pair_in, no_pair, IsJoinRefused, made_in_thread, CanJoin, HasSuperblockFirst, HasOldContent, IsThreadedIn, IsJoinedOn, IsLeftByJoin, KeepsSuperblockFirst, joined_pair, put_tail, map_with_used_pair, with_two}
 use Rattle.lfs_thread.proofs.Keeping.{kept_thread, header_content, pair_on_content, pair_on-stays, used_right, pair_elsewhere, fresh_elsewhere, first_stays}
 use Rattle.lfs_thread.proofs.Changing.{IsAt, Completes, can_commit, kept_read, header_at_index, pair_at_index, made_of_header}
 use Rattle.lfs_thread.proofs.Coming.{SettlesTwo, settles_two, held_address}
@@ -47,7 +47,7 @@ module _ (disk : Disk) (history : List Event) (hs : List Header) (sets : BlockSe
   abbrev beside : Disk
   beside = record disk { blocks = mid }
 
-  uses : SettlesTwo sets fresh (settled sets fresh)
+  uses : SettlesTwo sets fresh (map_with_used_pair sets fresh)
   uses = settles_two sets fresh can.held
 
   pub still_kept : IsKept beside then hs sets
@@ -92,8 +92,8 @@ module _ (disk : Disk) (history : List Event) (hs : List Header) (sets : BlockSe
   same_raw = raw_at-stays disk (pair_elsewhere apart) others
 
   -- the log that holds begins as it did
-  still_first : (left : Disk) (c : Content) → (BeginsWith (holder_at beside (address_in h)) superblock_entry → HasSuperblockFirst c → BeginsWith (holder_at left (address_in h)) superblock_entry)
-      → StaysFirst disk (address_in h) c left
+  still_first : (left : Disk) (c : Content) → (BeginsWithEntry (holder_at beside (address_in h)) superblock_entry → HasSuperblockFirst c → BeginsWithEntry (holder_at left (address_in h)) superblock_entry)
+      → KeepsSuperblockFirst disk (address_in h) c left
   still_first left c f begins has = f (first_stays disk (pair_elsewhere apart) others superblock_entry begins) has
 
   -- ---- a stop before the commit
@@ -104,7 +104,7 @@ module _ (disk : Disk) (history : List Event) (hs : List Header) (sets : BlockSe
     content = inl (record {
       holds = ap (λ (p : Pair). content_at (record disk { blocks = left }) p.at) was_pair
           ∙ ap (λ r. option_and_then completed r) (raw_at-stays disk (pair_elsewhere apart) keeps) ∙ was_content;
-      first = subst (λ (p : Pair). BeginsWith (holder_at disk p.at) superblock_entry → BeginsWith (holder_at (record disk { blocks = left }) p.at) superblock_entry) (sym was_pair)
+      first = subst (λ (p : Pair). BeginsWithEntry (holder_at disk p.at) superblock_entry → BeginsWithEntry (holder_at (record disk { blocks = left }) p.at) superblock_entry) (sym was_pair)
           (first_stays disk (pair_elsewhere apart) keeps superblock_entry);
     });
   }
@@ -131,11 +131,11 @@ module _ (disk : Disk) (history : List Event) (hs : List Header) (sets : BlockSe
             ∙ header_content beside then f is.header ∙ ap Some is.empty
             ∙ ap (λ (p : Pair). Some (record { slots = []; tail = p.content.tail; move = no_gstate })) (sym was_pair)
 
-        sides : IsStill beside (address_in h) (record disk { blocks = left }) ⊎ IsMade beside (address_in h) changes (record disk { blocks = left })
-            → IsAsBefore old index (record disk { blocks = left }) ⊎ IsJoinedOn old index fresh changes (record disk { blocks = left })
+        sides : HasSameContent beside (address_in h) (record disk { blocks = left }) ⊎ HasChangesMade beside (address_in h) changes (record disk { blocks = left })
+            → HasOldContent old index (record disk { blocks = left }) ⊎ IsJoinedOn old index fresh changes (record disk { blocks = left })
         sides (inl k) = inl (record {
           holds = ap (λ (p : Pair). content_at (record disk { blocks = left }) p.at) was_pair ∙ ap (λ o. option_and_then completed o) (k.content ∙ same_raw) ∙ was_content;
-          first = subst (λ (p : Pair). BeginsWith (holder_at disk p.at) superblock_entry → BeginsWith (holder_at (record disk { blocks = left }) p.at) superblock_entry) (sym was_pair)
+          first = subst (λ (p : Pair). BeginsWithEntry (holder_at disk p.at) superblock_entry → BeginsWithEntry (holder_at (record disk { blocks = left }) p.at) superblock_entry) (sym was_pair)
               (λ begins. k.first superblock_entry (first_stays disk (pair_elsewhere apart) others superblock_entry begins));
         })
         sides (inr k) =
@@ -146,7 +146,7 @@ module _ (disk : Disk) (history : List Event) (hs : List Header) (sets : BlockSe
               fits = fits_pair disk.block_size disk.page k.new can.content k.logged whole k.fits;
               holds = ap (λ (p : Pair). content_at (record disk { blocks = left }) p.at) was_pair ∙ ap (λ o. option_and_then completed o) k.now.content ∙ whole;
               behind = behind;
-              first = subst (λ (p : Pair). StaysFirst disk p.at can.content (record disk { blocks = left })) (sym was_pair)
+              first = subst (λ (p : Pair). KeepsSuperblockFirst disk p.at can.content (record disk { blocks = left })) (sym was_pair)
                   (still_first (record disk { blocks = left }) can.content (λ begins has. k.now.first superblock_entry begins (superblock_anew k.new can.content k.logged.slots whole has.0 has.1)));
             })
 
@@ -159,8 +159,8 @@ module _ (disk : Disk) (history : List Event) (hs : List Header) (sets : BlockSe
       empty : is.header.content ≡ record { slots = []; tail = (pair_on beside (address_in h)).content.tail; move = no_gstate }
       empty = is.empty ∙ ap (λ (p : Pair). record { slots = []; tail = p.content.tail; move = no_gstate }) (sym same_pair)
 
-      pub is_kept : IsKept left after (insert (set hs index new) (index + 1) f) (settled sets fresh)
-      is_kept = joined_kept beside then blocks after hs sets (settled sets fresh) index h new f fresh changes can.content a still_kept still_made can.next commits keeps stays is.header is.at empty uses
+      pub is_kept : IsKept left after (insert (set hs index new) (index + 1) f) (map_with_used_pair sets fresh)
+      is_kept = joined_kept beside then blocks after hs sets (map_with_used_pair sets fresh) index h new f fresh changes can.content a still_kept still_made can.next commits keeps stays is.header is.at empty uses
 
       is_whole : completed commits.new ≡ Some can.content
       is_whole = let m = made_of_header beside then hs sets index h changes can.content a still_made in
@@ -169,16 +169,16 @@ module _ (disk : Disk) (history : List Event) (hs : List Header) (sets : BlockSe
       same_at : pair_in (kept_view beside then hs sets) index ≡ pair_in old index
       same_at = ap (λ ps. get_or ps index no_pair) still_pairs
 
-      pub is_joined : IsJoined old index fresh changes (kept_view left after (insert (set hs index new) (index + 1) f) (settled sets fresh))
+      pub is_joined : IsThreadedIn old index fresh changes (kept_view left after (insert (set hs index new) (index + 1) f) (map_with_used_pair sets fresh))
       is_joined = record {
         content = can.content;
         made = can.made;
         fits = fits_pair disk.block_size disk.page commits.new can.content commits.logged is_whole commits.fits;
-        first = subst (λ (p : Pair). StaysFirst disk p.at can.content left) (sym was_pair)
+        first = subst (λ (p : Pair). KeepsSuperblockFirst disk p.at can.content left) (sym was_pair)
             (still_first left can.content (λ begins has. commits.first superblock_entry begins (superblock_anew commits.new can.content commits.logged.slots is_whole has.0 has.1)));
-        pairs = joined_pairs beside then blocks after hs sets (settled sets fresh) index h new f fresh changes can.content a still_kept still_made can.next commits keeps stays is.header is.at empty uses
+        pairs = joined_pairs beside then blocks after hs sets (map_with_used_pair sets fresh) index h new f fresh changes can.content a still_kept still_made can.next commits keeps stays is.header is.at empty uses
             ∙ ap₂ (λ (ps : List Pair) (p : Pair). with_two ps index (record { at = p.at; content = can.content }) (record { at = fresh; content = record { slots = []; tail = p.content.tail; move = no_gstate } })) still_pairs same_at;
-        thread = kept_thread left after (insert (set hs index new) (index + 1) f) (settled sets fresh) is_kept;
+        thread = kept_thread left after (insert (set hs index new) (index + 1) f) (map_with_used_pair sets fresh) is_kept;
         map = refl;
       }
 
@@ -202,8 +202,8 @@ module _ (geometry later : Geometry) (old mid : Blocks) (before then : List Even
 
   pub is_beside : (disk : Disk) (after : List Event) → disk ≡ disk_of later mid
       → ((raw : RawContent) (d : Content) → made_at (disk_of later mid) (address_in h) changes ≡ Some raw → completed raw ≡ Some d → FitsPair later.block_size later.page d → ⊥)
-      → IsBeside was index fresh changes (kept_view disk after hs sets)
-  is_beside disk after e too_large = subst (λ d. IsBeside was index fresh changes (kept_view d after hs sets)) (sym e) (subst (λ k. IsBeside was index fresh changes (kept_view (disk_of k mid) after hs sets)) (sym same) (record {
+      → IsJoinRefused was index fresh changes (kept_view disk after hs sets)
+  is_beside disk after e too_large = subst (λ d. IsJoinRefused was index fresh changes (kept_view d after hs sets)) (sym e) (subst (λ k. IsJoinRefused was index fresh changes (kept_view (disk_of k mid) after hs sets)) (sym same) (record {
     content = can.content;
     made = can.made;
     too_large = λ f.
@@ -214,7 +214,7 @@ module _ (geometry later : Geometry) (old mid : Blocks) (before then : List Even
     others = others;
   }))
 
-  module _ (f : Header) (tail : Change) (is : IsFresh before (tail ∷ []) (disk_of later mid) then fresh f) (tail_is : tail ≡ put_tail (option_map tail_view h.tail)) (few : length old ≤ 65536) where
+  module _ (f : Header) (tail : Change) (is : IsFreshPair before (tail ∷ []) (disk_of later mid) then fresh f) (tail_is : tail ≡ put_tail (option_map tail_view h.tail)) (few : length old ≤ 65536) where
     fresh_there : IsFreshHeader (disk_of geometry mid) then f fresh (pair_on (disk_of geometry old) (address_in h)).content.tail
     fresh_there =
         let on = held_address (disk_of geometry old) before hs sets fresh kept can.held in
@@ -222,7 +222,7 @@ module _ (geometry later : Geometry) (old mid : Blocks) (before then : List Even
         fresh_header (disk_of geometry mid) before then f fresh (pair_on (disk_of geometry old) (address_in h)).content.tail
         (record { apart = on.apart; first = subst (λ n. fresh.0 < n) (sym others.count) on.first; second = subst (λ n. fresh.1 < n) (sym others.count) on.second })
         (tail_named (disk_of geometry old) before hs sets index h a kept few)
-        (subst (λ t. IsFresh before (t ∷ []) (disk_of geometry mid) then fresh f) named (subst (λ k. IsFresh before (tail ∷ []) (disk_of k mid) then fresh f) same is))
+        (subst (λ t. IsFreshPair before (t ∷ []) (disk_of geometry mid) then fresh f) named (subst (λ k. IsFreshPair before (tail ∷ []) (disk_of k mid) then fresh f) same is))
 
     pub device_stops : (after : List Event) → LeavesOnly AtWorst before then (OutsideKeeps fresh old) → LeavesOnly AtWorst then after (OutsideKeeps (address_in h) mid)
         → StopsLeave then after (LeftByChange (disk_of later mid) (address_in h) changes) → StopsLeave before after (IsLeftByJoin was index fresh changes)
@@ -232,7 +232,7 @@ module _ (geometry later : Geometry) (old mid : Blocks) (before then : List Even
 
     module _ (now_geometry : Geometry) (blocks : Blocks) (after : List Event) (new : Header) (still : now_geometry ≡ later) (commits : Commits (disk_of later mid) then changes h (disk_of now_geometry blocks) after new)
         (keeps : OutsideKeeps (address_in h) mid blocks) (stays : OutsideStays (address_in h) then after) (items : List Header) (are : items ≡ insert (set hs index new) (index + 1) f)
-        (now : BlockSets) (is_now : now ≡ settled sets fresh) where
+        (now : BlockSets) (is_now : now ≡ map_with_used_pair sets fresh) where
       commits_there : Commits (disk_of geometry mid) then changes h (disk_of geometry blocks) after new
       commits_there = subst (λ k. Commits (disk_of k mid) then changes h (disk_of k blocks) after new) same (subst (λ k. Commits (disk_of later mid) then changes h (disk_of k blocks) after new) still commits)
 
@@ -244,10 +244,10 @@ module _ (geometry later : Geometry) (old mid : Blocks) (before then : List Even
           (subst (λ m. IsKept (disk_of geometry blocks) after (insert (set hs index new) (index + 1) f) m) (sym is_now)
           (is_kept (disk_of geometry old) before hs sets index h fresh changes a kept can mid then others stay f fresh_there blocks after new commits_there keeps stays)))
 
-      pub device_is_joined : IsJoined was index fresh changes (kept_view (disk_of now_geometry blocks) after items now)
-      device_is_joined = subst (λ k. IsJoined was index fresh changes (kept_view (disk_of k blocks) after items now)) (sym there)
-          (subst (λ z. IsJoined was index fresh changes (kept_view (disk_of geometry blocks) after z now)) (sym are)
-          (subst (λ m. IsJoined was index fresh changes (kept_view (disk_of geometry blocks) after (insert (set hs index new) (index + 1) f) m)) (sym is_now)
+      pub device_is_joined : IsThreadedIn was index fresh changes (kept_view (disk_of now_geometry blocks) after items now)
+      device_is_joined = subst (λ k. IsThreadedIn was index fresh changes (kept_view (disk_of k blocks) after items now)) (sym there)
+          (subst (λ z. IsThreadedIn was index fresh changes (kept_view (disk_of geometry blocks) after z now)) (sym are)
+          (subst (λ m. IsThreadedIn was index fresh changes (kept_view (disk_of geometry blocks) after (insert (set hs index new) (index + 1) f) m)) (sym is_now)
           (is_joined (disk_of geometry old) before hs sets index h fresh changes a kept can mid then others stay f fresh_there blocks after new commits_there keeps stays)))
 
 -- a header put behind another one is taken out again

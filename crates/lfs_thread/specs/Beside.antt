@@ -33,7 +33,7 @@ pub record CanRun {F D X : Type 0} (call : Work F D X) (work : F) (device : D) (
   pub can : (p : MutBor D) (q : MutBor BlockSets) → p.now ≡ device → q.now ≡ map → call.pre work (p, (q, tt))
 
 -- a call of the work with this device and this map may return x, and leave `later` and `later_map`
-pub record Runs {F D X : Type 0} (call : Work F D X) (work : F) (device : D) (map : BlockSets) (x : X) (later : D) (later_map : BlockSets) : Type 0 where
+pub record MayReturn {F D X : Type 0} (call : Work F D X) (work : F) (device : D) (map : BlockSets) (x : X) (later : D) (later_map : BlockSets) : Type 0 where
   pub shown : MutBor D
   pub shows : shown.now ≡ device
   pub shown_map : MutBor BlockSets
@@ -54,11 +54,11 @@ pub record LeavesPairs {D : Type 0} (g : Ghosts D) (t : Kept) (device : D) (map 
   pub used : (b : ℕ) → Contains (blocks_of t.pairs) b → IsUsed map b → IsUsed later_map b
 
 -- The work was called with the thread's device and map, and returned x. The thread has the device and the map that it left.
-pub record HasRun {F D X : Type 0} (g : Ghosts D) (call : Work F D X) (work : F) (old : Kept) (x : X) (new : Kept) : Type 0 where
+pub record HasDoneWork {F D X : Type 0} (g : Ghosts D) (call : Work F D X) (work : F) (old : Kept) (x : X) (new : Kept) : Type 0 where
   pub device : D
   pub map : BlockSets
   pub later : D
   pub later_map : BlockSets
   pub before : IsOnDevice g old device map
   pub after : IsOnDevice g new later later_map
-  pub run : Runs call work device map x later later_map
+  pub run : MayReturn call work device map x later later_map

@@ -10,7 +10,7 @@ use Rattle.lfs_model.specs.Disk.{Disk, block_count}
 use Rattle.lfs_model.specs.History.{Event, OnlyReads}
 use Rattle.lfs_model.specs.Slots.{Content, no_gstate}
 use Rattle.lfs_model.specs.Content.{RawContent, raw_at, content_at, completed}
-use Rattle.lfs_model.specs.Thread.{Pair, anchor, Links, blocks_of}
+use Rattle.lfs_model.specs.Thread.{Pair, anchor, LinkByTails, blocks_of}
 use Rattle.lfs_pair.specs.declared.pair.Pair as header
 use Rattle.lfs_pair.specs.Pair.{IsPair, address_in}
 use Rattle.lfs_pair.specs.Commit.{IsAddressOn}
@@ -62,7 +62,7 @@ AllUsed sets (b ∷ bs) = IsUsed sets b × AllUsed sets bs
 -- What is kept is what the disk has: the headers are those of its thread, and the map has their blocks as used.
 pub record IsKept (disk : Disk) (history : List Event) (headers : List Header) (sets : BlockSets) : Type 0 where
   pub each : AreHeaders disk history headers
-  pub links : Links (Some anchor) (pairs_on disk headers)
+  pub links : LinkByTails (Some anchor) (pairs_on disk headers)
   pub distinct : IsDistinct nat_eq (blocks_of (pairs_on disk headers))
   pub size : length sets ≡ block_count disk
   pub used : AllUsed sets (blocks_of (pairs_on disk headers))
@@ -72,7 +72,7 @@ pub record WasKept (disk : Disk) (history : List Event) (headers : List Header) 
   pub before : List Event
   pub since : OnlyReads disk.blocks before history
   pub each : AreHeaders disk before headers
-  pub links : Links (Some anchor) (pairs_on disk headers)
+  pub links : LinkByTails (Some anchor) (pairs_on disk headers)
   pub distinct : IsDistinct nat_eq (blocks_of (pairs_on disk headers))
   pub size : length sets ≡ block_count disk
   pub used : AllUsed sets (blocks_of (pairs_on disk headers))

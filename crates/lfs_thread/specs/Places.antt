@@ -14,7 +14,7 @@ place_of [] at = None
 place_of (a ∷ addresses) at = if same_pair a at then Some 0 else option_map (λ i. suc i) (place_of addresses at)
 
 -- the address at that place has the same two blocks
-pub record StandsAt (addresses : List (ℕ × ℕ)) (at : ℕ × ℕ) (place : ℕ) : Type 0 where
+pub record IsAddressAt (addresses : List (ℕ × ℕ)) (at : ℕ × ℕ) (place : ℕ) : Type 0 where
   pub address : ℕ × ℕ
   pub there : slice_get addresses place ≡ Some address
   pub same : same_pair address at ≡ true

@@ -10,7 +10,7 @@ use Rattle.lfs_model.specs.Disk.{Disk}
 use Rattle.lfs_model.specs.History.{Event, OnlyReads, faults, reads}
 use Rattle.lfs_model.specs.Thread.{IsThread, blocks_of}
 use Rattle.lfs_pair.specs.Pair.{address_in}
-use Rattle.lfs_thread.specs.Begun.{CanStand}
+use Rattle.lfs_thread.specs.Begun.{CanBePair}
 use Rattle.lfs_thread.specs.Kept.{Header, IsHeader, State, disk_on}
 
 -- The device was only read. `Io` comes with a fault of the device, and any other result without one.
@@ -23,7 +23,7 @@ pub record ReportsReading {D X : Type 0} (g : Ghosts D) (old new : D) (result : 
 pub record IsReadAt (disk : Disk) (history : List Event) (at : ℕ × ℕ) (old new : BlockSets) (h : Header) : Type 0 where
   pub header : IsHeader disk history h
   pub address : address_in h ≡ at
-  pub stands : CanStand disk old at
+  pub stands : CanBePair disk old at
   pub marked : new ≡ slice_set (slice_set old at.0 Used) at.1 Used
 
 -- The thread was read from a device that was only read, each block of a pair once and none with a fault. It works. The blocks of

@@ -12,7 +12,7 @@ use Rattle.lfs_model.specs.Content.{RawContent, content_at, completed, holder_at
 use Rattle.lfs_model.specs.Changes.{Change, PutTail}
 use Rattle.lfs_model.specs.Thread.{Pair, anchor, IsThread, next_of, starts_with_superblock}
 use Rattle.lfs_pair.specs.Commit.{made_at, OutsideKeeps}
-use Rattle.lfs_model.specs.View.{BeginsWith, superblock_entry}
+use Rattle.lfs_model.specs.View.{BeginsWithEntry, superblock_entry}
 use Rattle.lfs_model.specs.BlockSets.{Free, Used, BlockSets, IsInFlight}
 use Rattle.lfs_pair.specs.Cut.{CanBeCut}
 use Rattle.lfs_pair.specs.Split.{OutsideBothKeeps}
@@ -97,15 +97,15 @@ HasSuperblockFirst c = SlotsHaveFirst c.slots
 
 -- If a pair's log began with the superblock's entry, and its content now has the superblock in slot 0, its log begins with that
 -- entry now.
-abbrev pub StaysFirst : Disk → ℕ × ℕ → Content → Disk → Type 0
-StaysFirst old at c disk = BeginsWith (holder_at old at) superblock_entry → HasSuperblockFirst c → BeginsWith (holder_at disk at) superblock_entry
+abbrev pub KeepsSuperblockFirst : Disk → ℕ × ℕ → Content → Disk → Type 0
+KeepsSuperblockFirst old at c disk = BeginsWithEntry (holder_at old at) superblock_entry → HasSuperblockFirst c → BeginsWithEntry (holder_at disk at) superblock_entry
 
 -- The pair at an index has that content on the disk, and no block but its two differs. The superblock stays first.
 pub record IsWrittenAs (old : Kept) (index : ℕ) (content : Content) (disk : Disk) : Type 0 where
   pub holds : content_at disk (pair_in old index).at ≡ Some content
   pub others : OutsideKeeps (pair_in old index).at old.disk.blocks disk.blocks
   pub shape : HasShape old.disk disk
-  pub first : StaysFirst old.disk (pair_in old index).at content disk
+  pub first : KeepsSuperblockFirst old.disk (pair_in old index).at content disk
 
 -- A commit that is done: the pair has what the changes make, and everything else is as it was.
 pub record IsChanged (old : Kept) (index : ℕ) (changes : List Change) (new : Kept) : Type 0 where
@@ -118,7 +118,7 @@ pub record IsChanged (old : Kept) (index : ℕ) (changes : List Change) (new : K
   pub map : new.map ≡ old.map
 
 -- A commit that is refused: what the changes make doesn't fit, and nothing was written.
-pub record IsRefused (old : Kept) (index : ℕ) (changes : List Change) (new : Kept) : Type 0 where
+pub record IsCommitRefused (old : Kept) (index : ℕ) (changes : List Change) (new : Kept) : Type 0 where
   pub content : Content
   pub made : made_in_thread old index changes ≡ Some content
   pub too_large : ¬ FitsPair old.disk.block_size old.disk.page content
@@ -133,30 +133,30 @@ pub record IsLeftByChange (old : Kept) (index : ℕ) (changes : List Change) (le
 -- ---- blocks of a fresh pair
 
 -- two different blocks are in flight
-pub record AreHeld (sets : BlockSets) (fresh : ℕ × ℕ) : Type 0 where
+pub record AreFreshInFlight (sets : BlockSets) (fresh : ℕ × ℕ) : Type 0 where
   pub apart : fresh.0 ≢ fresh.1
   pub first : IsInFlight sets fresh.0
   pub second : IsInFlight sets fresh.1
 
 -- the map with these two blocks used
-abbrev pub settled : BlockSets → ℕ × ℕ → BlockSets
-settled sets fresh = slice_set (slice_set sets fresh.0 Used) fresh.1 Used
+abbrev pub map_with_used_pair : BlockSets → ℕ × ℕ → BlockSets
+map_with_used_pair sets fresh = slice_set (slice_set sets fresh.0 Used) fresh.1 Used
 
 -- the pairs with two pairs in place of the one at an index
 abbrev pub with_two : List Pair → ℕ → Pair → Pair → List Pair
 with_two ps index p q = insert (slice_set ps index p) (index + 1) q
 
 -- the pair has the content that it had, and its log still begins with the superblock's entry if it did
-pub record IsAsBefore (old : Kept) (index : ℕ) (disk : Disk) : Type 0 where
+pub record HasOldContent (old : Kept) (index : ℕ) (disk : Disk) : Type 0 where
   pub holds : content_at disk (pair_in old index).at ≡ Some (pair_in old index).content
-  pub first : BeginsWith (holder_at old.disk (pair_in old index).at) superblock_entry → BeginsWith (holder_at disk (pair_in old index).at) superblock_entry
+  pub first : BeginsWithEntry (holder_at old.disk (pair_in old index).at) superblock_entry → BeginsWithEntry (holder_at disk (pair_in old index).at) superblock_entry
 
 -- ---- a pair is split
 
 -- There is a pair at the index. What the changes make of it can be cut in two, and has a tail that names the same pair as before.
 pub record CanBeSplit (t : Kept) (index : ℕ) (fresh : ℕ × ℕ) (changes : List Change) : Type 0 where
   pub can : CanChange t index changes
-  pub held : AreHeld t.map fresh
+  pub held : AreFreshInFlight t.map fresh
   pub raw : RawContent
   pub made : made_at t.disk (pair_in t index).at changes ≡ Some raw
   pub cut : CanBeCut t.disk.block_size t.disk.page raw.slots
@@ -174,7 +174,7 @@ pub record ArePartsOf (old : Kept) (index : ℕ) (content : Content) (cut : ℕ)
   pub front_fits : FitsPair old.disk.block_size old.disk.page (front_pair old index content cut fresh).content
   pub back_fits : FitsPair old.disk.block_size old.disk.page (back_pair content cut fresh).content
   pub inside : ¬ FitsPair old.disk.block_size old.disk.page content → (0 < cut) × (cut < length content.slots)
-  pub first : StaysFirst old.disk (pair_in old index).at (front_pair old index content cut fresh).content disk
+  pub first : KeepsSuperblockFirst old.disk (pair_in old index).at (front_pair old index content cut fresh).content disk
 
 -- A split that is done: both pairs have their parts, and everything else is as it was.
 pub record IsSplit (old : Kept) (index : ℕ) (fresh : ℕ × ℕ) (changes : List Change) (new : Kept) : Type 0 where
@@ -184,7 +184,7 @@ pub record IsSplit (old : Kept) (index : ℕ) (fresh : ℕ × ℕ) (changes : Li
   pub parts : ArePartsOf old index content cut fresh new.disk
   pub pairs : new.pairs ≡ with_two old.pairs index (front_pair old index content cut fresh) (back_pair content cut fresh)
   pub thread : IsThread (content_at new.disk) (block_count new.disk) new.pairs
-  pub map : new.map ≡ settled old.map fresh
+  pub map : new.map ≡ map_with_used_pair old.map fresh
 
 -- each pair on the disk has its part
 pub record AreHalves (old : Kept) (index : ℕ) (changes : List Change) (fresh : ℕ × ℕ) (disk : Disk) : Type 0 where
@@ -198,7 +198,7 @@ pub record AreHalves (old : Kept) (index : ℕ) (changes : List Change) (fresh :
 -- What a stop leaves of a split: the old pair with its old content, or both pairs with their parts.
 pub record IsLeftBySplit (old : Kept) (index : ℕ) (fresh : ℕ × ℕ) (changes : List Change) (left : Blocks) : Type 0 where
   pub others : OutsideBothKeeps (pair_in old index).at fresh old.disk.blocks left
-  pub content : IsAsBefore old index (record old.disk { blocks = left })
+  pub content : HasOldContent old index (record old.disk { blocks = left })
       ⊎ AreHalves old index changes fresh (record old.disk { blocks = left })
 
 -- ---- a fresh pair is put into the thread
@@ -209,7 +209,7 @@ pub record CanJoin (t : Kept) (index : ℕ) (fresh : ℕ × ℕ) (changes : List
   pub content : Content
   pub made : made_in_thread t index changes ≡ Some content
   pub next : next_of content.tail ≡ Some fresh
-  pub held : AreHeld t.map fresh
+  pub held : AreFreshInFlight t.map fresh
 
 -- the change that sets this tail
 abbrev pub put_tail : Option Tail → Change
@@ -221,17 +221,17 @@ abbrev pub joined_pair : Kept → ℕ → ℕ × ℕ → Pair
 joined_pair t index fresh = record { at = fresh; content = record { slots = []; tail = (pair_in t index).content.tail; move = no_gstate } }
 
 -- A fresh pair that is threaded in: the pair has what the changes make, and the fresh pair comes after it.
-pub record IsJoined (old : Kept) (index : ℕ) (fresh : ℕ × ℕ) (changes : List Change) (new : Kept) : Type 0 where
+pub record IsThreadedIn (old : Kept) (index : ℕ) (fresh : ℕ × ℕ) (changes : List Change) (new : Kept) : Type 0 where
   pub content : Content
   pub made : made_in_thread old index changes ≡ Some content
   pub fits : FitsPair old.disk.block_size old.disk.page content
-  pub first : StaysFirst old.disk (pair_in old index).at content new.disk
+  pub first : KeepsSuperblockFirst old.disk (pair_in old index).at content new.disk
   pub pairs : new.pairs ≡ with_two old.pairs index (record { at = (pair_in old index).at; content = content }) (joined_pair old index fresh)
   pub thread : IsThread (content_at new.disk) (block_count new.disk) new.pairs
-  pub map : new.map ≡ settled old.map fresh
+  pub map : new.map ≡ map_with_used_pair old.map fresh
 
 -- What the changes make doesn't fit. The thread is as it was, and no block was written but the two of the fresh pair.
-pub record IsBeside (old : Kept) (index : ℕ) (fresh : ℕ × ℕ) (changes : List Change) (new : Kept) : Type 0 where
+pub record IsJoinRefused (old : Kept) (index : ℕ) (fresh : ℕ × ℕ) (changes : List Change) (new : Kept) : Type 0 where
   pub content : Content
   pub made : made_in_thread old index changes ≡ Some content
   pub too_large : ¬ FitsPair old.disk.block_size old.disk.page content
@@ -246,13 +246,13 @@ pub record IsJoinedOn (old : Kept) (index : ℕ) (fresh : ℕ × ℕ) (changes :
   pub fits : FitsPair old.disk.block_size old.disk.page content
   pub holds : content_at disk (pair_in old index).at ≡ Some content
   pub behind : content_at disk fresh ≡ Some (joined_pair old index fresh).content
-  pub first : StaysFirst old.disk (pair_in old index).at content disk
+  pub first : KeepsSuperblockFirst old.disk (pair_in old index).at content disk
 
 -- What a stop leaves of a pair that is threaded in: the old pair with its old content, or with what the changes make and the
 -- fresh pair after it.
 pub record IsLeftByJoin (old : Kept) (index : ℕ) (fresh : ℕ × ℕ) (changes : List Change) (left : Blocks) : Type 0 where
   pub others : OutsideBothKeeps (pair_in old index).at fresh old.disk.blocks left
-  pub content : IsAsBefore old index (record old.disk { blocks = left })
+  pub content : HasOldContent old index (record old.disk { blocks = left })
       ⊎ IsJoinedOn old index fresh changes (record old.disk { blocks = left })
 
 -- ---- the pair after another is dropped

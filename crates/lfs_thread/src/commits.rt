@@ -1,10 +1,10 @@
 // Commits to pairs and splits of pairs, with a cache of blocks.
 
 ghost use Rattle.std.specs.Prelude.{◌≡◌, ◌+◌, IfOk, OnOk, option_map};
-ghost use Rattle.lfs_model.specs.Cache.{cached, without};
+ghost use Rattle.lfs_model.specs.Cache.{cached, without_block};
 ghost use Rattle.lfs_model.specs.Slots.{address_of};
 ghost use Rattle.lfs_pair.specs.ChangeView.{changes_view};
-ghost use Rattle.lfs_pair.specs.Commit.{CanCommit, Commits, IsFull, LeftByChange};
+ghost use Rattle.lfs_pair.specs.Commit.{CanCommit, Commits, RefusesCommit, LeftByChange};
 ghost use Rattle.lfs_pair.specs.Pair.{address_in};
 ghost use Rattle.lfs_pair.specs.Split.{CanSplit, LeftBySplit, Splits};
 ghost use Rattle.lfs_pair.specs.Writing.{ChangesReading};
@@ -30,7 +30,7 @@ pub(crate) fn commit_to<D: BlockDevice>(
     requires current { IsCurrent (D.blocks device.old) cache.old }
     ensures done { result ≡ Ok Outcome.Done
         → Commits (disk_on D.BlockDevice device.old) (D.history device.old) (changes_view changes.now) pair.old (disk_on D.BlockDevice device.new) (D.history device.new) pair.new }
-    ensures full { result ≡ Ok Outcome.Full → IsFull D.BlockDevice (changes_view changes.now) device.old device.new pair.old pair.new }
+    ensures full { result ≡ Ok Outcome.Full → RefusesCommit D.BlockDevice (changes_view changes.now) device.old device.new pair.old pair.new }
     ensures current { IsCurrent (D.blocks device.new) cache.new }
     ensures device { ChangesReading D.BlockDevice (1 + read_if_missing (cached cache.old pair.old.active)) (two_of (address_in pair.old)) device.old device.new }
     ensures errors { ReportsErrors D.BlockDevice device.old device.new result }
@@ -75,7 +75,7 @@ pub(crate) fn split_to<D: BlockDevice>(
 // hand.
 fn take_pair(cache: &mut Cache, blocks: [u32; 2], active: u32) -> Option<Vec<u8>>
     ensures bytes { option_map (λ bytes. bytes.items) result ≡ cached cache.old active }
-    ensures gone { cache.new ≡ without (without (without cache.old active) (address_of blocks).0) (address_of blocks).1 }
+    ensures gone { cache.new ≡ without_block (without_block (without_block cache.old active) (address_of blocks).0) (address_of blocks).1 }
 {
     let held = cache.take(active);
     forget_pair(cache, blocks);
@@ -84,7 +84,7 @@ fn take_pair(cache: &mut Cache, blocks: [u32; 2], active: u32) -> Option<Vec<u8>
 
 // Takes both blocks of a pair out of the cache.
 pub(crate) fn forget_pair(cache: &mut Cache, blocks: [u32; 2])
-    ensures { cache.new ≡ without (without cache.old (address_of blocks).0) (address_of blocks).1 }
+    ensures { cache.new ≡ without_block (without_block cache.old (address_of blocks).0) (address_of blocks).1 }
 {
     cache.forget(blocks[0]);
     cache.forget(blocks[1]);

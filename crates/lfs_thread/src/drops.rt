@@ -6,7 +6,7 @@ ghost use Rattle.lfs_pair.specs.ChangeView.{changes_view};
 ghost use Rattle.lfs_thread.specs.Device.{StopsLeave, ReportsErrors, two_of};
 ghost use Rattle.lfs_thread.specs.Kept.{IsCurrent, IsKeptOn, kept_view_on};
 ghost use Rattle.lfs_thread.specs.CachedLog.{cached_log_of, read_if_missing};
-ghost use Rattle.lfs_thread.specs.Steps.{CanDrop, IsDropped, IsLeftByChange, IsRefused, pair_in};
+ghost use Rattle.lfs_thread.specs.Steps.{CanDrop, IsDropped, IsLeftByChange, IsCommitRefused, pair_in};
 
 use crate::commits::commit_to;
 use lfs_alloc::BlockMap;
@@ -34,7 +34,7 @@ pub(crate) fn drop_pair<D: BlockDevice>(
     ensures current { IsCurrent (D.blocks device.new) cache.new }
     ensures is_dropped { result ≡ Ok Outcome.Done → IsDropped (kept_view_on D.BlockDevice device.old pairs.old.items map.old) index (changes_view changes.now)
         (kept_view_on D.BlockDevice device.new pairs.new.items map.new) }
-    ensures full { result ≡ Ok Outcome.Full → IsRefused (kept_view_on D.BlockDevice device.old pairs.old.items map.old) index (changes_view changes.now)
+    ensures full { result ≡ Ok Outcome.Full → IsCommitRefused (kept_view_on D.BlockDevice device.old pairs.old.items map.old) index (changes_view changes.now)
         (kept_view_on D.BlockDevice device.new pairs.new.items map.new) }
     ensures device { ChangesReading D.BlockDevice (1 + read_if_missing (cached_log_of (kept_view_on D.BlockDevice device.old pairs.old.items map.old) cache.old index)) (two_of (pair_in (kept_view_on D.BlockDevice device.old pairs.old.items map.old) index).at) device.old device.new }
     ensures errors { ReportsErrors D.BlockDevice device.old device.new result }

@@ -9,7 +9,7 @@ ghost use Rattle.lfs_model.specs.BlockSets.BlockState.{Free};
 ghost use Rattle.lfs_model.specs.Content.{content_at};
 ghost use Rattle.lfs_model.specs.History.{reads};
 ghost use Rattle.lfs_model.specs.Thread.{IsThread, Pair as ThreadPair, blocks_of, next_of};
-ghost use Rattle.lfs_thread.specs.Begun.{CanStand};
+ghost use Rattle.lfs_thread.specs.Begun.{CanBePair};
 ghost use Rattle.lfs_thread.specs.Kept.{IsKeptOn, disk_on, pairs_on};
 ghost use Rattle.lfs_thread.specs.Reading.{IsReadAt, ReportsReading};
 
@@ -71,7 +71,7 @@ fn read_pair<D: BlockDevice>(
 ) -> Result<Pair, Error>
     requires { length map.old ≡ (D.geometry device.old).block_count }
     ensures read { IfOk result (IsReadAt (disk_on D.BlockDevice device.old) (D.history device.new) (address_of at) map.old map.new) }
-    ensures corrupt { result ≡ Err Error.Corrupt → ¬ CanStand (disk_on D.BlockDevice device.old) map.old (address_of at) }
+    ensures corrupt { result ≡ Err Error.Corrupt → ¬ CanBePair (disk_on D.BlockDevice device.old) map.old (address_of at) }
     ensures reported { ReportsReading D.BlockDevice device.old device.new result }
     ensures few { OnOk result (reads (D.history device.new) ≡ reads (D.history device.old) + 2) }
 {

@@ -9,7 +9,7 @@ ghost use Rattle.lfs_pair.specs.ChangeView.{change_view, changes_view};
 ghost use Rattle.lfs_thread.specs.Device.{StopsLeave, ReportsErrorsBeside, four_of, two_of};
 ghost use Rattle.lfs_thread.specs.Kept.{IsCurrent, IsKeptOn, kept_view_on};
 ghost use Rattle.lfs_thread.specs.CachedLog.{cached_log_of, read_if_missing};
-ghost use Rattle.lfs_thread.specs.Steps.{CanJoin, IsBeside, IsJoined, IsLeftByJoin, put_tail, pair_in};
+ghost use Rattle.lfs_thread.specs.Steps.{CanJoin, IsJoinRefused, IsThreadedIn, IsLeftByJoin, put_tail, pair_in};
 
 use crate::commits::{commit_to, forget_pair};
 use lfs_alloc::BlockMap;
@@ -38,9 +38,9 @@ pub(crate) fn join_pair<D: BlockDevice>(
     requires can { CanJoin (kept_view_on D.BlockDevice device.old pairs.old.items map.old) index (address_of fresh) (changes_view changes.now) }
     ensures kept { OnOk result (IsKeptOn D.BlockDevice device.new pairs.new.items map.new) }
     ensures current { IsCurrent (D.blocks device.new) cache.new }
-    ensures is_joined { result ≡ Ok Outcome.Done → IsJoined (kept_view_on D.BlockDevice device.old pairs.old.items map.old) index (address_of fresh) (changes_view changes.now)
+    ensures is_joined { result ≡ Ok Outcome.Done → IsThreadedIn (kept_view_on D.BlockDevice device.old pairs.old.items map.old) index (address_of fresh) (changes_view changes.now)
         (kept_view_on D.BlockDevice device.new pairs.new.items map.new) }
-    ensures full { result ≡ Ok Outcome.Full → IsBeside (kept_view_on D.BlockDevice device.old pairs.old.items map.old) index (address_of fresh) (changes_view changes.now)
+    ensures full { result ≡ Ok Outcome.Full → IsJoinRefused (kept_view_on D.BlockDevice device.old pairs.old.items map.old) index (address_of fresh) (changes_view changes.now)
         (kept_view_on D.BlockDevice device.new pairs.new.items map.new) }
     ensures device { ChangesReading D.BlockDevice (3 + read_if_missing (cached_log_of (kept_view_on D.BlockDevice device.old pairs.old.items map.old) cache.old index)) (four_of (pair_in (kept_view_on D.BlockDevice device.old pairs.old.items map.old) index).at (address_of fresh)) device.old device.new }
     ensures errors { ReportsErrorsBeside D.BlockDevice (two_of (address_of fresh)) device.old device.new result }

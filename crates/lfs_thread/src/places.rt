@@ -3,7 +3,7 @@
 ghost use Rattle.std.specs.Prelude.{IfSome, IfNone, ◌≡◌, ◌++◌, ◌∷◌, [], ◌<◌, false, nat_eq, OnOk, OnErr, IfErr, length};
 ghost use Rattle.std.specs.List.{AllByRecursion, IsDistinct};
 ghost use Rattle.lfs_model.specs.Slots.{address_of, same_pair};
-ghost use Rattle.lfs_thread.specs.Places.{StandsAt, blocks_at, greater_of, lesser_of, place_of};
+ghost use Rattle.lfs_thread.specs.Places.{IsAddressAt, blocks_at, greater_of, lesser_of, place_of};
 
 use lfs_device::Error;
 use std::alloc::Global;
@@ -80,7 +80,7 @@ impl Places {
     pub fn find(&self, pair: [u32; 2]) -> Option<u32>
         ensures value { result ≡ place_of self.now (address_of pair) }
         ensures within { IfSome result (λ place. place < length self.now) }
-        ensures there { IfSome result (StandsAt self.now (address_of pair)) }
+        ensures there { IfSome result (IsAddressAt self.now (address_of pair)) }
         ensures nowhere { IfNone result (AllByRecursion (λ a. same_pair a (address_of pair) ≡ false) self.now) }
     {
         let Some(place) = self.by_block.get(&lesser(pair)) else {

@@ -10,12 +10,12 @@ ghost use Rattle.lfs_model.specs.Thread.{IsThread, Pair as ThreadPair, blocks_of
 ghost use Rattle.lfs_tag.specs.ContentView.{tail_view};
 ghost use Rattle.lfs_tag.specs.FieldsView.{move_view};
 ghost use Rattle.lfs_pair.specs.ChangeView.{changes_view};
-ghost use Rattle.lfs_thread.specs.Beside.{CanRun, HasRun, IsDividedAs, LeavesPairs, Runs, IsOnDevice};
+ghost use Rattle.lfs_thread.specs.Beside.{CanRun, HasDoneWork, IsDividedAs, LeavesPairs, MayReturn, IsOnDevice};
 ghost use Rattle.lfs_thread.specs.Device.{GivesBack, StopsLeave, four_of, two_of};
 ghost use Rattle.lfs_thread.specs.Kept.{IsCurrent, IsKeptOn, WasKeptOn, disk_on, kept_view_on};
 ghost use Rattle.lfs_thread.specs.CachedLog.{IsBlockOf, cached_log, cache_after_load, read_if_missing};
 ghost use Rattle.lfs_thread.specs.Reading.{IsThreadOf};
-ghost use Rattle.lfs_thread.specs.Steps.{CanBeSplit, CanChange, CanDrop, CanJoin, HasReported, HasReportedBeside, IsBeside, IsJoined, IsLeftByJoin, IsChanged, IsDropped, IsLeftByChange, IsLeftBySplit, IsOnlyRead, IsRefused, IsSplit, WritesReading, pair_in};
+ghost use Rattle.lfs_thread.specs.Steps.{CanBeSplit, CanChange, CanDrop, CanJoin, HasReported, HasReportedBeside, IsJoinRefused, IsThreadedIn, IsLeftByJoin, IsChanged, IsDropped, IsLeftByChange, IsLeftBySplit, IsOnlyRead, IsCommitRefused, IsSplit, WritesReading, pair_in};
 
 use crate::commits::commit_to;
 use crate::deltas::joined_state;
@@ -321,7 +321,7 @@ impl<D: BlockDevice> Thread<D> {
         requires works { self.old.failed ≡ false }
         requires can { CanChange self.old.kept index (changes_view changes.now) }
         ensures done { result ≡ Ok Outcome.Done → IsChanged self.old.kept index (changes_view changes.now) self.new.kept }
-        ensures full { result ≡ Ok Outcome.Full → IsRefused self.old.kept index (changes_view changes.now) self.new.kept }
+        ensures full { result ≡ Ok Outcome.Full → IsCommitRefused self.old.kept index (changes_view changes.now) self.new.kept }
         ensures failed { self.new.failed ≡ is_err result }
         ensures errors { HasReported self.old.kept self.new.kept result }
         ensures device { WritesReading (1 + read_if_missing (cached_log self.old index)) (two_of (pair_in self.old.kept index).at) self.old.kept self.new.kept }
@@ -391,8 +391,8 @@ impl<D: BlockDevice> Thread<D> {
     ) -> Result<Outcome, Error>
         requires works { self.old.failed ≡ false }
         requires can { CanJoin self.old.kept index (address_of fresh) (changes_view changes.now) }
-        ensures done { result ≡ Ok Outcome.Done → IsJoined self.old.kept index (address_of fresh) (changes_view changes.now) self.new.kept }
-        ensures full { result ≡ Ok Outcome.Full → IsBeside self.old.kept index (address_of fresh) (changes_view changes.now) self.new.kept }
+        ensures done { result ≡ Ok Outcome.Done → IsThreadedIn self.old.kept index (address_of fresh) (changes_view changes.now) self.new.kept }
+        ensures full { result ≡ Ok Outcome.Full → IsJoinRefused self.old.kept index (address_of fresh) (changes_view changes.now) self.new.kept }
         ensures failed { self.new.failed ≡ is_err result }
         ensures errors { HasReportedBeside (two_of (address_of fresh)) self.old.kept self.new.kept result }
         ensures device { WritesReading (3 + read_if_missing (cached_log self.old index)) (four_of (pair_in self.old.kept index).at (address_of fresh)) self.old.kept self.new.kept }
@@ -426,7 +426,7 @@ impl<D: BlockDevice> Thread<D> {
         requires works { self.old.failed ≡ false }
         requires can { CanDrop self.old.kept index (changes_view changes.now) }
         ensures done { result ≡ Ok Outcome.Done → IsDropped self.old.kept index (changes_view changes.now) self.new.kept }
-        ensures full { result ≡ Ok Outcome.Full → IsRefused self.old.kept index (changes_view changes.now) self.new.kept }
+        ensures full { result ≡ Ok Outcome.Full → IsCommitRefused self.old.kept index (changes_view changes.now) self.new.kept }
         ensures failed { self.new.failed ≡ is_err result }
         ensures errors { HasReported self.old.kept self.new.kept result }
         ensures device { WritesReading (1 + read_if_missing (cached_log self.old index)) (two_of (pair_in self.old.kept index).at) self.old.kept self.new.kept }
@@ -452,8 +452,8 @@ impl<D: BlockDevice> Thread<D> {
         requires works { self.old.failed ≡ false }
         requires can { (device : D) (map : BlockMap) → IsOnDevice D.BlockDevice self.old.kept device map → CanRun F.FnOnce work device map }
         requires leaves { (device : D) (map : BlockMap) (x : X) (later : D) (later_map : BlockMap) → IsOnDevice D.BlockDevice self.old.kept device map
-            → Runs F.FnOnce work device map x later later_map → LeavesPairs D.BlockDevice self.old.kept device map later later_map }
-        ensures ran { HasRun D.BlockDevice F.FnOnce work self.old.kept result self.new.kept }
+            → MayReturn F.FnOnce work device map x later later_map → LeavesPairs D.BlockDevice self.old.kept device map later later_map }
+        ensures ran { HasDoneWork D.BlockDevice F.FnOnce work self.old.kept result self.new.kept }
         ensures pairs { self.new.kept.pairs ≡ self.old.kept.pairs }
         ensures works { self.new.failed ≡ false }
         ensures cache { self.new.cache ≡ [] }

@@ -12,7 +12,7 @@ use Rattle.lfs_model.specs.Shown.{entries_in, all_slots, file_blocks, used_block
 use Rattle.lfs_model.specs.SkipLists.{blocks_for, blocks_back, IsList}
 use Rattle.lfs_model.specs.Slots.{Slot, Struct, Inline, Ctz, Branch}
 use Rattle.lfs_model.specs.Thread.{Pair, IsThread, blocks_of, first_at, from_slots}
-use Rattle.lfs_model.specs.View.{BeginsWith, IsAccepted, IsListIfCtz, IsSuperblockStruct, superblock_entry}
+use Rattle.lfs_model.specs.View.{BeginsWithEntry, IsAccepted, IsListIfCtz, IsSuperblockStruct, superblock_entry}
 use Rattle.lfs_tool.specs.Excerpt.{IsExcerpt}
 use Rattle.lfs_tool.proofs.ExcerptsAlike.{count_same, block_excerpt, holder_same, back_same, list_same}
 
@@ -23,7 +23,7 @@ module _ (disk excerpt : Disk) (is : IsExcerpt disk excerpt) where
       (block_excerpt disk.blocks excerpt.blocks is.blocks at.0) (block_excerpt disk.blocks excerpt.blocks is.blocks at.1) i
 
   contents : content_at excerpt ≡ content_at disk
-  contents = ap (λ holding at. option_and_then completed (option_and_then (λ block. content_after_all no_content (log_entries block)) (holding at))) holders
+  contents = ap (λ holding_block at. option_and_then completed (option_and_then (λ block. content_after_all no_content (log_entries block)) (holding_block at))) holders
 
   count : block_count excerpt ≡ block_count disk
   count = count_same disk.blocks excerpt.blocks is.blocks
@@ -49,7 +49,7 @@ module _ (disk excerpt : Disk) (is : IsExcerpt disk excerpt) where
   pub stays_accepted : (ps : List Pair) → IsAccepted disk ps → IsAccepted excerpt ps
   stays_accepted ps ok = record {
     thread = subst (λ of. IsThread of (block_count excerpt) ps) (sym contents) (subst (λ n. IsThread (content_at disk) n ps) (sym count) ok.thread);
-    first = subst (λ holding. BeginsWith (holding (first_at (from_slots ps))) superblock_entry) (sym holders) ok.first;
+    first = subst (λ holding_block. BeginsWithEntry (holding_block (first_at (from_slots ps))) superblock_entry) (sym holders) ok.first;
     named = ok.named;
     root = ok.root;
     superblock = (let (bytes, (struct, same)) = ok.superblock in (bytes, (superblock_struct bytes struct, same)));

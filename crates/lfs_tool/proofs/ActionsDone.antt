@@ -8,52 +8,52 @@ use Rattle.lfs_model.proofs.Histories.{OnlyReads-trans}
 use Rattle.lfs_thread.specs.Kept.{Kept}
 use Rattle.lfs_thread.specs.Steps.{IsOnlyRead}
 use Rattle.lfs_lookup.specs.Items.{structure_view}
-use Rattle.lfs_lookup.specs.Walk.{found_view, founds_view}
+use Rattle.lfs_lookup.specs.Walk.{tree_item_view, tree_items_view}
 use Rattle.lfs_lookup.specs.declared.walks.TreeItem.{TreeItem}
-use Rattle.lfs_tool_folders.specs.Actions.{Adds}
-use Rattle.lfs_tool.specs.Unpacked.{AreLists, HasBegun, HasDone, action_at, actions_at}
+use Rattle.lfs_tool_folders.specs.Actions.{AddsAction}
+use Rattle.lfs_tool.specs.Unpackings.{AreLists, HasBegunActions, HasDoneActions, action_at, actions_at}
 
-list_of : (disk : Disk) (items : List TreeItem) (i : ℕ) (d : TreeItem) → AreLists disk (founds_view items) → i < length items → IsListIfCtz disk (structure_view (get_or items i d).structure)
+list_of : (disk : Disk) (items : List TreeItem) (i : ℕ) (d : TreeItem) → AreLists disk (tree_items_view items) → i < length items → IsListIfCtz disk (structure_view (get_or items i d).structure)
 list_of disk [] i d h l = absurd (omega arith)
 list_of disk (x ∷ xs) zero d h l = h.0
 list_of disk (x ∷ xs) (suc i) d h l = list_of disk xs i d h.1 (omega arith)
 
-pub list_at : (disk now : Disk) (items : List TreeItem) (i : ℕ) (x : TreeItem) → now ≡ disk → AreLists disk (founds_view items) → i < length items → x ≡ get_or items i x
+pub list_at : (disk now : Disk) (items : List TreeItem) (i : ℕ) (x : TreeItem) → now ≡ disk → AreLists disk (tree_items_view items) → i < length items → x ≡ get_or items i x
     → IsListIfCtz now (structure_view x.structure)
 list_at disk now items i x same h l at = subst (λ d. IsListIfCtz d (structure_view x.structure)) (sym same) (subst (λ z. IsListIfCtz disk (structure_view z.structure)) (sym at) (list_of disk items i x h l))
 
 -- ---- one action more
 
 actions_more : (disk : Disk) (items : List TreeItem) (i : ℕ) (d : TreeItem) → i < length items
-    → actions_at disk (founds_view (take (suc i) items)) ≡ actions_at disk (founds_view (take i items)) ++ action_at disk (found_view (get_or items i d)) ∷ []
+    → actions_at disk (tree_items_view (take (suc i) items)) ≡ actions_at disk (tree_items_view (take i items)) ++ action_at disk (tree_item_view (get_or items i d)) ∷ []
 actions_more disk [] i d l = absurd (omega arith)
 actions_more disk (x ∷ xs) zero d l = refl
-actions_more disk (x ∷ xs) (suc i) d l = ap (λ more. action_at disk (found_view x) ∷ more) (actions_more disk xs i d (omega arith))
+actions_more disk (x ∷ xs) (suc i) d l = ap (λ more. action_at disk (tree_item_view x) ∷ more) (actions_more disk xs i d (omega arith))
 
-done_more : (first mid last : Option (List Action)) (some : List Action) (a : Action) → HasDone first mid some → Adds mid last a → HasDone first last (some ++ a ∷ [])
+done_more : (first mid last : Option (List Action)) (some : List Action) (a : Action) → HasDoneActions first mid some → AddsAction mid last a → HasDoneActions first last (some ++ a ∷ [])
 done_more None mid last some a h more = tt
 done_more (Some old) None last some a h more = absurd h
 done_more (Some old) (Some m) None some a h more = absurd more
 done_more (Some old) (Some m) (Some l) some a h more = more ∙ ap (λ xs. xs ++ a ∷ []) h ∙ append_assoc old some (a ∷ [])
 
 pub done_item : (disk now : Disk) (items : List TreeItem) (i : ℕ) (x : TreeItem) (first mid last : Option (List Action)) → now ≡ disk → i < length items → x ≡ get_or items i x
-    → HasDone first mid (actions_at disk (founds_view (take i items))) → Adds mid last (action_at now (found_view x)) → HasDone first last (actions_at disk (founds_view (take (i + 1) items)))
+    → HasDoneActions first mid (actions_at disk (tree_items_view (take i items))) → AddsAction mid last (action_at now (tree_item_view x)) → HasDoneActions first last (actions_at disk (tree_items_view (take (i + 1) items)))
 done_item disk now items i x first mid last same l at h more =
-    let here = subst (λ d. Adds mid last (action_at d (found_view x))) same more in
-    let there = subst (λ z. Adds mid last (action_at disk (found_view z))) at here in
-    subst (HasDone first last) (sym (ap (λ k. actions_at disk (founds_view (take k items))) (add-one i) ∙ actions_more disk items i x l)) (done_more first mid last _ _ h there)
+    let here = subst (λ d. AddsAction mid last (action_at d (tree_item_view x))) same more in
+    let there = subst (λ z. AddsAction mid last (action_at disk (tree_item_view z))) at here in
+    subst (HasDoneActions first last) (sym (ap (λ k. actions_at disk (tree_items_view (take k items))) (add-one i) ∙ actions_more disk items i x l)) (done_more first mid last _ _ h there)
 
 -- ---- a beginning
 
-actions_take : (disk : Disk) (items : List TreeItem) (i : ℕ) → take i (actions_at disk (founds_view items)) ≡ actions_at disk (founds_view (take i items))
+actions_take : (disk : Disk) (items : List TreeItem) (i : ℕ) → take i (actions_at disk (tree_items_view items)) ≡ actions_at disk (tree_items_view (take i items))
 actions_take disk [] zero = refl
 actions_take disk [] (suc i) = refl
 actions_take disk (x ∷ xs) zero = refl
-actions_take disk (x ∷ xs) (suc i) = ap (λ more. action_at disk (found_view x) ∷ more) (actions_take disk xs i)
+actions_take disk (x ∷ xs) (suc i) = ap (λ more. action_at disk (tree_item_view x) ∷ more) (actions_take disk xs i)
 
-pub begun_item : (disk : Disk) (items : List TreeItem) (i : ℕ) (first mid last : Option (List Action)) → HasDone first mid (actions_at disk (founds_view (take i items))) → last ≡ mid
-    → HasBegun first last (actions_at disk (founds_view items))
-begun_item disk items i first mid last h same = (i, subst (HasDone first last) (sym (actions_take disk items i)) (subst (λ o. HasDone first o (actions_at disk (founds_view (take i items)))) (sym same) h))
+pub begun_item : (disk : Disk) (items : List TreeItem) (i : ℕ) (first mid last : Option (List Action)) → HasDoneActions first mid (actions_at disk (tree_items_view (take i items))) → last ≡ mid
+    → HasBegunActions first last (actions_at disk (tree_items_view items))
+begun_item disk items i first mid last h same = (i, subst (HasDoneActions first last) (sym (actions_take disk items i)) (subst (λ o. HasDoneActions first o (actions_at disk (tree_items_view (take i items)))) (sym same) h))
 
 pub at_error : {X E : Type 0} (r : Result X E) (P : Type 0) → P → OnErr r P
 at_error (Ok x) P h = tt

@@ -5,14 +5,14 @@ use Rattle.std.proofs.lemmas.List.{map-append}
 use Rattle.lfs_model.specs.Content.{content_at}
 use Rattle.lfs_model.specs.Disk.{Disk}
 use Rattle.lfs_model.specs.Thread.{Pair, anchor, next_of}
-use Rattle.lfs_tool.specs.Broken.{IsBroken}
-use Rattle.lfs_tool.specs.Found.{IsFound}
+use Rattle.lfs_tool.specs.BrokenRules.{BreaksRule}
+use Rattle.lfs_tool.specs.Findings.{IsFindingOf}
 use Rattle.lfs_tool.specs.declared.findings.Finding.{Finding}
-use Rattle.lfs_tool.specs.Held.{plain_pair}
-use Rattle.lfs_tool.specs.HeldView.{pair_view, pairs_view}
-use Rattle.lfs_tool.specs.Leading.{IsNamed, LinksTo}
-use Rattle.lfs_tool.specs.Reading.{AreHeld, IsHeld}
-use Rattle.lfs_tool.specs.declared.held_parts.HeldPair.{HeldPair}
+use Rattle.lfs_tool.specs.OwnedSlots.{pair_without_attributes}
+use Rattle.lfs_tool.specs.OwnedSlotView.{pair_view, pairs_view}
+use Rattle.lfs_tool.specs.ThreadBeginnings.{IsNamedByThread, LinksTo}
+use Rattle.lfs_tool.specs.PairReads.{AreFirstPairs, IsPairAt}
+use Rattle.lfs_tool.specs.declared.owned_parts.OwnedPair.{OwnedPair}
 
 links_more : (from next : Option (ℕ × ℕ)) (ps : List Pair) (p : Pair) → LinksTo from ps next → next ≡ Some p.at → LinksTo from (ps ++ p ∷ []) (next_of p.content.tail)
 links_more from next [] p l e = (l ∙ e, refl)
@@ -24,11 +24,11 @@ contents_more disk [] p all e = (e, tt)
 contents_more disk (q ∷ ps) p all e = (all.0, contents_more disk ps p all.1 e)
 
 -- the thread names what stands behind these pairs
-pub named_next : (disk : Disk) (at : ℕ × ℕ) (held : List HeldPair) → AreHeld disk (Some at) held → IsNamed disk at
+pub named_next : (disk : Disk) (at : ℕ × ℕ) (held : List OwnedPair) → AreFirstPairs disk (Some at) held → IsNamedByThread disk at
 named_next disk at held h = (h.pairs, h.begins)
 
 -- one pair more
-pub held_more : (disk : Disk) (at : ℕ × ℕ) (held all : List HeldPair) (h : HeldPair) → AreHeld disk (Some at) held → IsHeld disk at h → all ≡ held ++ h ∷ [] → AreHeld disk (next_of (pair_view h).content.tail) all
+pub held_more : (disk : Disk) (at : ℕ × ℕ) (held all : List OwnedPair) (h : OwnedPair) → AreFirstPairs disk (Some at) held → IsPairAt disk at h → all ≡ held ++ h ∷ [] → AreFirstPairs disk (next_of (pair_view h).content.tail) all
 held_more disk at held all h before is same =
     let p : Pair = record { at = at; content = is.content } in
     record {
@@ -37,9 +37,9 @@ held_more disk at held all h before is same =
         links = subst (λ t. LinksTo (Some anchor) (before.pairs ++ p ∷ []) (next_of t)) (sym (ap (λ (q : Pair). q.content.tail) is.is)) (links_more (Some anchor) (Some at) before.pairs p before.begins.links refl);
         contents = contents_more disk before.pairs p before.begins.contents is.holds;
       };
-      are = ap pairs_view same ∙ map-append pair_view held (h ∷ []) ∙ ap₂ (λ xs y. xs ++ y ∷ []) before.are is.is ∙ sym (map-append plain_pair before.pairs (p ∷ []));
+      are = ap pairs_view same ∙ map-append pair_view held (h ∷ []) ∙ ap₂ (λ xs y. xs ++ y ∷ []) before.are is.is ∙ sym (map-append pair_without_attributes before.pairs (p ∷ []));
     }
 
 -- a rule that all pairs of the thread break
-pub whole_found : (disk : Disk) (held : List HeldPair) (f : Finding) → AreHeld disk None held → IsBroken disk (pairs_view held) f → IsFound disk f
-whole_found disk held f h broken = inr (h.pairs, (h.begins, subst (λ ps. IsBroken disk ps f) h.are broken))
+pub whole_found : (disk : Disk) (held : List OwnedPair) (f : Finding) → AreFirstPairs disk None held → BreaksRule disk (pairs_view held) f → IsFindingOf disk f
+whole_found disk held f h broken = inr (h.pairs, (h.begins, subst (λ ps. BreaksRule disk ps f) h.are broken))

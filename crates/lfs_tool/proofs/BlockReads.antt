@@ -12,8 +12,8 @@ use Rattle.lfs_tool.specs.ExcerptBlocks.{HaveSize, block_shown, blocks_shown}
 use Rattle.lfs_tool.specs.Excerpt.{AreExcerpts, IsBlockExcerpt}
 use Rattle.lfs_model.specs.Blocks.{Blocks, cut}
 use Rattle.lfs_model.specs.Disk.{IsImage}
-use Rattle.lfs_tool.specs.Blocks.{AreRead, Fills, IsPushed}
-use Rattle.lfs_tool.specs.Reported.{IsReadToEnd}
+use Rattle.lfs_tool.specs.Blocks.{AreExcerptsOfBytes, Fills, IsExcerptPushed}
+use Rattle.lfs_tool.specs.Reports.{IsReadToEnd}
 use Rattle.lfs_tool.proofs.Images.{image_fits}
 use Rattle.lfs_tool.proofs.KnownBytes.{ended_behind, past_the_most, reads_on}
 
@@ -55,13 +55,13 @@ shown_more : (blocks : List BlockExcerpt) (kept : BlockExcerpt) → blocks_shown
 shown_more [] kept = refl
 shown_more (b ∷ blocks) kept = ap (λ l. block_shown b ∷ l) (shown_more blocks kept)
 
-pub sizes_more : (size : ℕ) (block : List ℕ) (old new : List BlockExcerpt) → HaveSize size old → length block ≡ size → IsPushed block old new → HaveSize size new
+pub sizes_more : (size : ℕ) (block : List ℕ) (old new : List BlockExcerpt) → HaveSize size old → length block ≡ size → IsExcerptPushed block old new → HaveSize size new
 sizes_more size block old new have one pushed = subst (HaveSize size) (sym pushed.is) (All-push (λ b. b.size ≡ size) old pushed.kept have (pushed.size ∙ one))
 
-pub pushed_count : (block : List ℕ) (old new : List BlockExcerpt) → IsPushed block old new → length new ≡ length old + 1
+pub pushed_count : (block : List ℕ) (old new : List BlockExcerpt) → IsExcerptPushed block old new → length new ≡ length old + 1
 pushed_count block old new pushed = ap length pushed.is ∙ length-append old (pushed.kept ∷ [])
 
-pub read_more : (size : ℕ) (items block : List ℕ) (old new : List BlockExcerpt) → AreRead size items old → length block ≡ size → IsPushed block old new → AreRead size (items ++ block) new
+pub read_more : (size : ℕ) (items block : List ℕ) (old new : List BlockExcerpt) → AreExcerptsOfBytes size items old → length block ≡ size → IsExcerptPushed block old new → AreExcerptsOfBytes size (items ++ block) new
 read_more size items block old new are one pushed =
     let count = pushed_count block old new pushed in
     record {
@@ -87,19 +87,19 @@ comes_closer size len old new large few is more =
 
 -- ---- all that was read so far
 
-none_read : (size : ℕ) → AreRead size [] []
+none_read : (size : ℕ) → AreExcerptsOfBytes size [] []
 none_read size = record { whole = omega arith; excerpts = tt }
 
 -- whole blocks have been read
 abbrev pub HasRead : ℕ → Option (List ℕ) → Option (List ℕ) → List BlockExcerpt → Type 0
-HasRead size old new blocks = (items : List ℕ) × (Consumes old new items × AreRead size items blocks)
+HasRead size old new blocks = (items : List ℕ) × (Consumes old new items × AreExcerptsOfBytes size items blocks)
 
 pub has_read_none : (size : ℕ) (known : Option (List ℕ)) → HasRead size known known []
 has_read_none size None = ([], (tt, none_read size))
 has_read_none size (Some bytes) = ([], (refl, none_read size))
 
 pub has_read_more : (size : ℕ) (first old new : Option (List ℕ)) (n : ℕ) (buffer : List ℕ) (blocks more : List BlockExcerpt) → HasRead size first old blocks → Fills old new n buffer
-    → length buffer ≡ size → size ≤ n → IsPushed buffer blocks more → HasRead size first new more
+    → length buffer ≡ size → size ≤ n → IsExcerptPushed buffer blocks more → HasRead size first new more
 has_read_more size first old new n buffer blocks more (items, (read, are)) fills one full pushed =
     (items ++ buffer, (reads_on first old new items buffer read (subst (Consumes old new) (take_all n buffer (omega (arith, one))) fills.read), read_more size items buffer blocks more are one pushed))
 
@@ -115,9 +115,9 @@ if_same None f h = tt
 if_same (Some bytes) f h = f bytes h
 
 pub read_to_end : (size : ℕ) (first old new : Option (List ℕ)) (buffer : List ℕ) (blocks : List BlockExcerpt) → HasRead size first old blocks → Fills old new 0 buffer → 0 < length buffer
-    → IfSome first (λ bytes. AreRead size bytes blocks)
+    → IfSome first (λ bytes. AreExcerptsOfBytes size bytes blocks)
 read_to_end size first old new buffer blocks (items, (read, are)) fills some =
-    if_same first (λ bytes is. subst (λ b. AreRead size b blocks) (sym (is ∙ append-nil items)) are) (all_bytes first old new items [] read fills.read (fills.last some))
+    if_same first (λ bytes is. subst (λ b. AreExcerptsOfBytes size b blocks) (sym (is ∙ append-nil items)) are) (all_bytes first old new items [] read fills.read (fills.last some))
 
 -- a part of a block is left over
 not_whole : (size k n len q : ℕ) → 0 < n → n < size → len ≡ size * k + n → len ≡ size * q → ⊥

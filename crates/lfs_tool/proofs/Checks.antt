@@ -3,7 +3,7 @@ use Rattle.std.proofs.Common.{◌≡◌, ◌∙◌, ◌++◌, ◌<◌, ◌≤◌
 use Rattle.std.specs.Prelude.{IfSome}
 use Rattle.std.proofs.lemmas.List.{length-take, take_all}
 use Rattle.lfs_model.specs.Disk.{IsImage}
-use Rattle.lfs_tool.specs.Checked.{IsCheckedAs, IsGiven}
+use Rattle.lfs_tool.specs.CheckResults.{IsCheckedAs, AreGivenSizes}
 use Rattle.lfs_tool.specs.declared.check_result.Checked.{Checked}
 use Rattle.lfs_tool.specs.declared.check_result.Checked.TheVariants as checked
 use Rattle.lfs_tool.specs.declared.check_result.Given.{Given}
@@ -30,8 +30,8 @@ no_image block_size page bytes long is = let short = image_fits block_size page 
 
 -- where there are more bytes than an image may have
 pub refused_read : (known : Option (List ℕ)) (block_size page : ℕ) (items : List ℕ) (given : Given) (c : Checked) → IfSome known (λ bytes. items ≡ take most bytes) → 268435456 < length items
-    → IsGiven block_size page items given
-    → ((bytes : List ℕ) → 268435456 < length bytes → (IsImage block_size page bytes → ⊥) → IsGiven block_size page bytes given → IsCheckedAs block_size page bytes c)
+    → AreGivenSizes block_size page items given
+    → ((bytes : List ℕ) → 268435456 < length bytes → (IsImage block_size page bytes → ⊥) → AreGivenSizes block_size page bytes given → IsCheckedAs block_size page bytes c)
     → IfSome known (λ bytes. IsCheckedAs block_size page bytes c)
 refused_read None block_size page items given c read long is refused = tt
 refused_read (Some bytes) block_size page items given c read long is refused =

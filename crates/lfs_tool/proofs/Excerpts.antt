@@ -17,9 +17,9 @@ use Rattle.lfs_model.specs.Listing.{IsListing}
 use Rattle.lfs_model.specs.Thread.{Pair}
 use Rattle.lfs_model.specs.View.{HasView, IsAccepted, View}
 use Rattle.lfs_model.specs.declared.order.NameOrder.{NameOrder}
-use Rattle.lfs_tool.specs.Blocks.{AreRead, IsShownAs}
-use Rattle.lfs_tool.specs.Known.{IsListError}
-use Rattle.lfs_tool.specs.Listed.{HasLines, IsNotMounted, Lists, Refuses}
+use Rattle.lfs_tool.specs.Blocks.{AreExcerptsOfBytes, IsShownAs}
+use Rattle.lfs_tool.specs.KnownBytes.{IsListError}
+use Rattle.lfs_tool.specs.Listings.{HasLines, IsNotMounted, Lists, RefusesToList}
 use Rattle.lfs_tool.proofs.Walked.{HasSizes, listed_from}
 
 -- the disk of these blocks
@@ -29,19 +29,19 @@ disk_with block_size page order blocks = record { block_size = block_size; page 
 sizes_of : (block_size page : ℕ) (order : NameOrder) (blocks : List BlockExcerpt) → 1024 ≤ block_size → HaveSize block_size blocks → HasSizes (disk_with block_size page order blocks)
 sizes_of block_size page order blocks enough have = record { enough = enough; count = length blocks; divided = divided_shown block_size (length blocks) blocks refl have }
 
-blocks_read : (block_size : ℕ) (bytes : List ℕ) (blocks : List BlockExcerpt) → 1024 ≤ block_size → AreRead block_size bytes blocks → length bytes / block_size ≡ length blocks
+blocks_read : (block_size : ℕ) (bytes : List ℕ) (blocks : List BlockExcerpt) → 1024 ≤ block_size → AreExcerptsOfBytes block_size bytes blocks → length bytes / block_size ≡ length blocks
 blocks_read block_size bytes blocks enough are = ap (λ n. n / block_size) are.whole ∙ mul-div_cancel_left (length blocks) (omega arith)
 
-pub image_of_blocks : (block_size page : ℕ) (bytes : List ℕ) (blocks : List BlockExcerpt) → AreRead block_size bytes blocks → IsGeometry block_size page (length blocks) → IsImage block_size page bytes
+pub image_of_blocks : (block_size page : ℕ) (bytes : List ℕ) (blocks : List BlockExcerpt) → AreExcerptsOfBytes block_size bytes blocks → IsGeometry block_size page (length blocks) → IsImage block_size page bytes
 image_of_blocks block_size page bytes blocks are geometry = record {
   geometry = subst (IsGeometry block_size page) (sym (blocks_read block_size bytes blocks geometry.no_smaller are)) geometry;
   whole = ap (λ n. n % block_size) are.whole ∙ mul-mod_right block_size (length blocks);
 }
 
-pub no_image_of_blocks : (block_size page : ℕ) (bytes : List ℕ) (blocks : List BlockExcerpt) → AreRead block_size bytes blocks → (IsGeometry block_size page (length blocks) → ⊥) → IsImage block_size page bytes → ⊥
+pub no_image_of_blocks : (block_size page : ℕ) (bytes : List ℕ) (blocks : List BlockExcerpt) → AreExcerptsOfBytes block_size bytes blocks → (IsGeometry block_size page (length blocks) → ⊥) → IsImage block_size page bytes → ⊥
 no_image_of_blocks block_size page bytes blocks are none is = none (subst (IsGeometry block_size page) (blocks_read block_size bytes blocks is.geometry.no_smaller are) is.geometry)
 
-pub excerpt_of_blocks : (block_size page : ℕ) (order : NameOrder) (bytes : List ℕ) (blocks : List BlockExcerpt) → 1024 ≤ block_size → AreRead block_size bytes blocks
+pub excerpt_of_blocks : (block_size page : ℕ) (order : NameOrder) (bytes : List ℕ) (blocks : List BlockExcerpt) → 1024 ≤ block_size → AreExcerptsOfBytes block_size bytes blocks
     → IsExcerpt (disk_of block_size page order bytes) (disk_with block_size page order blocks)
 excerpt_of_blocks block_size page order bytes blocks enough are = record {
   block_size = refl;
@@ -54,7 +54,7 @@ excerpt_of_blocks block_size page order bytes blocks enough are = record {
 abbrev pub AreListedAlike : Type 0
 AreListedAlike = (disk excerpt : Disk) (view : View) → IsExcerpt disk excerpt → HasView excerpt view → (whole : View) × (HasView disk whole × ((text : List ℕ) → IsListing view.tree text → IsListing whole.tree text))
 
-pub lists_by_excerpt : AreListedAlike → (block_size page : ℕ) (bytes text : List ℕ) (blocks : List BlockExcerpt) (e : Excerpt) → AreRead block_size bytes blocks → IsGeometry block_size page (length blocks)
+pub lists_by_excerpt : AreListedAlike → (block_size page : ℕ) (bytes text : List ℕ) (blocks : List BlockExcerpt) (e : Excerpt) → AreExcerptsOfBytes block_size bytes blocks → IsGeometry block_size page (length blocks)
     → HaveSize block_size blocks → IsShownAs block_size page blocks e → (order : NameOrder) → HasLines (ordered order (shown (geometry_of e) (excerpt_blocks e))) text → Lists block_size page bytes text
 lists_by_excerpt alike block_size page bytes text blocks e are geometry have is order lines =
     let found = listed_from (disk_with block_size page order blocks) text (sizes_of block_size page order blocks geometry.no_smaller have) (subst (λ d. HasLines d text) (is.disk order) lines) in
@@ -65,8 +65,8 @@ lists_by_excerpt alike block_size page bytes text blocks e are geometry have is 
 abbrev pub AreRefusedAlike : Type 0
 AreRefusedAlike = (disk excerpt : Disk) (ps : List Pair) → IsExcerpt disk excerpt → IsAccepted disk ps → IsAccepted excerpt ps
 
-pub refuses_by_excerpt : AreRefusedAlike → (block_size page : ℕ) (bytes : List ℕ) (blocks : List BlockExcerpt) (e : Excerpt) (error : Error) → AreRead block_size bytes blocks → IsGeometry block_size page (length blocks)
-    → IsShownAs block_size page blocks e → IsNotMounted (shown (geometry_of e) (excerpt_blocks e)) error → Refuses block_size page bytes error
+pub refuses_by_excerpt : AreRefusedAlike → (block_size page : ℕ) (bytes : List ℕ) (blocks : List BlockExcerpt) (e : Excerpt) (error : Error) → AreExcerptsOfBytes block_size bytes blocks → IsGeometry block_size page (length blocks)
+    → IsShownAs block_size page blocks e → IsNotMounted (shown (geometry_of e) (excerpt_blocks e)) error → RefusesToList block_size page bytes error
 refuses_by_excerpt alike block_size page bytes blocks e Corrupt are geometry is none = (
   image_of_blocks block_size page bytes blocks are geometry,
   λ view (order, (ps, (accepted, same))).

@@ -6,24 +6,24 @@ use Rattle.std.specs.declared.cmp.Ordering.TheVariants.{Less}
 use Rattle.lfs_model.specs.declared.order.NameOrder.TheVariants.{ShorterFirst}
 use Rattle.lfs_model.specs.Names.{Name, is_component, name_cmp}
 use Rattle.lfs_model.specs.Tree.{Path, FileNode, DirectoryNode, Tree}
-use Rattle.lfs_model.specs.TreeEdits.{added, with_name, with_names}
+use Rattle.lfs_model.specs.TreeEdits.{tree_with_node, with_name, with_names}
 use Rattle.lfs_model.specs.Fresh.{empty_tree}
 use Rattle.lfs_model.specs.Operations.{path_bytes}
-use Rattle.lfs_model.specs.Source.{AFile, AFolder, IsTreeOf, IsNodeOf, Source, Standing, file_at, kind_given, given_names, path_in, standing}
+use Rattle.lfs_model.specs.Source.{AFile, AFolder, IsTreeOf, IsNodeOf, Source, Standing, file_at, kind_given, given_names, path_in, source_entry_at}
 use Rattle.lfs_model.specs.Refusals.{as_path}
 use Rattle.lfs_model.proofs.Counts.{Each, each_append, each_both, each_weaker}
 use Rattle.lfs_model.proofs.Paths.{append_step, cancel, not_longer}
-use Rattle.lfs_tool_folders.specs.InMemory.{items_by}
-use Rattle.lfs_tool_folders.specs.Entries.{AreAll, AreRead, AreWithin, HoldsSource, Place, places_in}
+use Rattle.lfs_tool_folders.specs.MemorySources.{items_by}
+use Rattle.lfs_tool_folders.specs.Entries.{AreAllEntries, AreEntriesAt, AreWithin, HoldsSource, Place, places_in}
 use Rattle.lfs_tool_folders.specs.declared.entries.SourceEntry.{SourceEntry}
-use Rattle.lfs_tool.specs.Applied.{node_by}
+use Rattle.lfs_tool.specs.AppliedOperations.{node_by}
 use Rattle.lfs_tool.proofs.NamesGiven.{Rising, before_it, each_given, each_names, kind_moved, less_unlike, name_at_end, none_given, rising_from, rising_right}
 use Rattle.lfs_tool.proofs.PathPlaces.{AreComponents, added_above, added_aside, added_there, path_more, read_back}
 
 -- ---- entries that come
 
 abbrev pub grown : SourceEntry → Tree → Tree
-grown e t = added (as_path e.path.items) (node_by (items_by e.bytes)) t
+grown e t = tree_with_node (as_path e.path.items) (node_by (items_by e.bytes)) t
 
 abbrev pub tree_after : List SourceEntry → Tree → Tree
 tree_after [] t = t
@@ -48,17 +48,17 @@ record Parted (known : Option Source) (ps qs : List Place) (es : List SourceEntr
   front : List SourceEntry
   back : List SourceEntry
   joined : es ≡ front ++ back
-  first : AreRead known ps front
-  second : AreRead known qs back
+  first : AreEntriesAt known ps front
+  second : AreEntriesAt known qs back
 
-parted : (known : Option Source) (ps qs : List Place) (es : List SourceEntry) → AreRead known (ps ++ qs) es → Parted known ps qs es
+parted : (known : Option Source) (ps qs : List Place) (es : List SourceEntry) → AreEntriesAt known (ps ++ qs) es → Parted known ps qs es
 parted known [] qs es h = record { front = []; back = es; joined = refl; first = tt; second = h }
 parted known (p ∷ ps) qs [] h = absurd h
 parted known (p ∷ ps) qs (e ∷ es) (path, (within, (holds, rest))) =
-    let k = parted known (places_in p.0 within ++ ps) qs es (subst (λ xs. AreRead known xs es) (sym (append_assoc (places_in p.0 within) ps qs)) rest) in
+    let k = parted known (places_in p.0 within ++ ps) qs es (subst (λ xs. AreEntriesAt known xs es) (sym (append_assoc (places_in p.0 within) ps qs)) rest) in
     record { front = e ∷ k.front; back = k.back; joined = ap (λ z. e ∷ z) k.joined; first = (path, (within, (holds, k.first))); second = k.second }
 
-none_read : (known : Option Source) (ps : List Place) (es : List SourceEntry) → ps ≡ [] → AreRead known ps es → es ≡ []
+none_read : (known : Option Source) (ps : List Place) (es : List SourceEntry) → ps ≡ [] → AreEntriesAt known ps es → es ≡ []
 none_read known [] [] e h = refl
 none_read known [] (x ∷ es) e h = absurd h
 none_read known (p ∷ ps) es e h = absurd (cc)
@@ -66,7 +66,7 @@ none_read known (p ∷ ps) es e h = absurd (cc)
 -- ---- a folder
 
 abbrev pub beneath : Source → List ℕ → Path → Bool → Option Standing
-beneath s path rest is_folder = cond is_folder (standing s path rest) (file_at s path rest)
+beneath s path rest is_folder = cond is_folder (source_entry_at s path rest) (file_at s path rest)
 
 -- what stands at a name of a folder and beneath it
 abbrev ShowsName : Source → Path → Tree → Name × Bool → Type 0
@@ -78,7 +78,7 @@ record IsWhole (s : Source) (f : Path) (within : List (Name × Bool)) (new : Tre
   below : Each (ShowsName s f new) within
   nothing : (m : Name) (rest : Path) → Each (λ g. m ≡ g.0 → ⊥) within → new (f ++ m ∷ rest) ≡ None
 
-whole_shows : (s : Source) (f : Path) (within : List (Name × Bool)) (new : Tree) → AreWithin (Some s) (path_bytes f) within → IsWhole s f within new → (rest : Path) → IsNodeOf (standing s (path_bytes f) rest) (new (f ++ rest))
+whole_shows : (s : Source) (f : Path) (within : List (Name × Bool)) (new : Tree) → AreWithin (Some s) (path_bytes f) within → IsWhole s f within new → (rest : Path) → IsNodeOf (source_entry_at s (path_bytes f) rest) (new (f ++ rest))
 whole_shows s f within new w h [] = subst (IsNodeOf (Some (AFolder (given_names (s.names (path_bytes f)))))) (sym (ap new (append-nil f) ∙ h.folder))
     (refl, IsPermutation-map (λ (g : Name × Bool). g.0) (s.names (path_bytes f)) within w.names, w.order.rise)
 whole_shows s f within new w h (m ∷ rest) =
@@ -92,7 +92,7 @@ whole_shows s f within new w h (m ∷ rest) =
 
 -- The folder has the names so far, the names that come are greater, and nothing is there yet.
 record IsSourceBegun (s : Source) (f : Path) (ns : List Name) (gs : List (Name × Bool)) (es : List SourceEntry) (t : Tree) : Type 0 where
-  read : AreRead (Some s) (places_in (path_bytes f) gs) es
+  read : AreEntriesAt (Some s) (places_in (path_bytes f) gs) es
   folder : t f ≡ Some (DirectoryNode [] ns)
   rising : Rising (ns ++ given_names gs)
   path : AreComponents f
@@ -120,7 +120,7 @@ a_file s p bytes t is there none [] = subst (IsNodeOf (Some (AFile (s.bytes (pat
 a_file s p bytes t is there none (m ∷ rest) = subst (IsNodeOf None) (sym (none m rest)) tt
 
 come : (n : ℕ) → Grows n → (s : Source) (p : Path) (is_folder : Bool) (o : Option (List ℕ)) (within : List (Name × Bool)) (es : List SourceEntry) (t : Tree) → length es ≤ n → HoldsSource (Some s) (path_bytes p) is_folder o within
-    → AreRead (Some s) (places_in (path_bytes p) within) es → AreComponents p → t p ≡ Some (node_by o) → ((m : Name) (rest : Path) → t (p ++ m ∷ rest) ≡ None) → HasCome s p is_folder es t
+    → AreEntriesAt (Some s) (places_in (path_bytes p) within) es → AreComponents p → t p ≡ Some (node_by o) → ((m : Name) (rest : Path) → t (p ++ m ∷ rest) ≡ None) → HasCome s p is_folder es t
 come n ih s p false None within es t few holds read path there none = absurd holds
 come n ih s p false (Some bytes) within es t few holds read path there none =
     let nothing : es ≡ [] = none_read (Some s) (places_in (path_bytes p) within) es (ap (places_in (path_bytes p)) holds.1) read in
@@ -181,8 +181,8 @@ module _ (n : ℕ) (ih : Grows n) (s : Source) (f : Path) (ns : List Name) (g : 
   abbrev one : Tree
   one = grown e t
 
-  one_is : one ≡ added p (node_by (items_by e.bytes)) t
-  one_is = ap (λ q. added q (node_by (items_by e.bytes)) t) at
+  one_is : one ≡ tree_with_node p (node_by (items_by e.bytes)) t
+  one_is = ap (λ q. tree_with_node q (node_by (items_by e.bytes)) t) at
 
   there : one p ≡ Some (node_by (items_by e.bytes))
   there = ap (λ (u : Tree). u p) one_is ∙ added_there p (node_by (items_by e.bytes)) t
@@ -205,7 +205,7 @@ module _ (n : ℕ) (ih : Grows n) (s : Source) (f : Path) (ns : List Name) (g : 
 
   comes : HasCome s p g.1 k.front one
   comes = come n ih s p g.1 (items_by e.bytes) within k.front one front_few (subst (λ x. HoldsSource (Some s) x g.1 (items_by e.bytes) within) spelled_path b.read.1.1.0)
-      (subst (λ x. AreRead (Some s) (places_in x within) k.front) spelled_path k.first) components there beyond
+      (subst (λ x. AreEntriesAt (Some s) (places_in x within) k.front) spelled_path k.first) components there beyond
 
   abbrev two : Tree
   two = tree_after k.front one
@@ -261,7 +261,7 @@ pub record IsCarriedTree (s : Source) (es : List SourceEntry) : Type 0 where
   pub tree : IsTreeOf s (tree_after es empty_tree)
   pub new : AreNew es empty_tree
 
-pub carried_tree : (s : Source) (es : List SourceEntry) → AreAll (Some s) es → IsCarriedTree s es
+pub carried_tree : (s : Source) (es : List SourceEntry) → AreAllEntries (Some s) es → IsCarriedTree s es
 carried_tree s es (top, (w, read)) =
     let h = grows (length es) s [] [] top es empty_tree (omega arith) (record {
       read = read;

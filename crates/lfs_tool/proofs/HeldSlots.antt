@@ -11,10 +11,10 @@ use Rattle.lfs_model.specs.Thread.{Pair}
 use Rattle.lfs_model.proofs.Completed.{complete_parts}
 use Rattle.lfs_tag.specs.ContentView.{tail_view}
 use Rattle.lfs_tag.specs.FieldsView.{move_view}
-use Rattle.lfs_tool.specs.Held.{listed, plain, plain_among}
-use Rattle.lfs_tool.specs.HeldView.{held_view}
-use Rattle.lfs_tool.specs.Reading.{IsHeld}
-use Rattle.lfs_tool.specs.declared.held_parts.HeldPair.{HeldPair}
+use Rattle.lfs_tool.specs.OwnedSlots.{slot_list, without_attributes, complete_slots_among}
+use Rattle.lfs_tool.specs.OwnedSlotView.{owned_slot_view}
+use Rattle.lfs_tool.specs.PairReads.{IsPairAt}
+use Rattle.lfs_tool.specs.declared.owned_parts.OwnedPair.{OwnedPair}
 
 parts_of : {X : Type 0} (f : X → RawSlot) (xs : List X) (i : ℕ) (d : X) → HaveParts (map f xs) → i < length xs → HasParts (f (get_or xs i d))
 parts_of f [] i d h l = absurd (omega arith)
@@ -24,18 +24,18 @@ parts_of f (x ∷ xs) (suc i) d h l = parts_of f xs i d h.1 (omega arith)
 pub parts_at : {X : Type 0} (f : X → RawSlot) (xs : List X) (i : ℕ) (x : X) → HaveParts (map f xs) → i < length xs → x ≡ get_or xs i x → HasParts (f x)
 parts_at f xs i x h l at = subst (λ z. HasParts (f z)) (sym at) (parts_of f xs i x h l)
 
-plain_complete : (raw : List RawSlot) (all : List Slot) → complete_all raw ≡ Some all → plain_among raw ≡ map plain all
-plain_complete [] all h = ap (map plain) (same_Some [] all h)
+plain_complete : (raw : List RawSlot) (all : List Slot) → complete_all raw ≡ Some all → complete_slots_among raw ≡ map without_attributes all
+plain_complete [] all h = ap (map without_attributes) (same_Some [] all h)
 plain_complete (x ∷ xs) all h =
     let p = complete_parts x xs all h in
-    ap₂ (λ o rest. listed (option_map plain o) ++ rest) p.is_first (plain_complete xs p.others p.are_others) ∙ ap (map plain) (sym p.all_are)
+    ap₂ (λ o rest. slot_list (option_map without_attributes o) ++ rest) p.is_first (plain_complete xs p.others p.are_others) ∙ ap (map without_attributes) (sym p.all_are)
 
 -- a content whose slots are complete is held
-pub is_held : (disk : Disk) (at : ℕ × ℕ) (raw : RawContent) (held : HeldPair) → raw_at disk at ≡ Some raw → is_some (complete_all raw.slots) ≡ true → address_of held.at ≡ at
-    → map held_view held.slots.items ≡ plain_among raw.slots → option_map tail_view held.tail ≡ raw.tail → move_view held.delta ≡ raw.move → IsHeld disk at held
+pub is_held : (disk : Disk) (at : ℕ × ℕ) (raw : RawContent) (held : OwnedPair) → raw_at disk at ≡ Some raw → is_some (complete_all raw.slots) ≡ true → address_of held.at ≡ at
+    → map owned_slot_view held.slots.items ≡ complete_slots_among raw.slots → option_map tail_view held.tail ≡ raw.tail → move_view held.delta ≡ raw.move → IsPairAt disk at held
 is_held disk at raw held is full same slots tail move = go (complete_all raw.slots) refl full
   where
-    go : (o : Option (List Slot)) → complete_all raw.slots ≡ o → is_some {T = List Slot} o ≡ true → IsHeld disk at held
+    go : (o : Option (List Slot)) → complete_all raw.slots ≡ o → is_some {T = List Slot} o ≡ true → IsPairAt disk at held
     go None e k = absurd (cc)
     go (Some all) e k =
         let with_slots : List Slot → Content = λ s. record { slots = s; tail = raw.tail; move = raw.move } in
@@ -43,8 +43,8 @@ is_held disk at raw held is full same slots tail move = go (complete_all raw.slo
         record {
           content = with_slots all;
           holds = ap (λ r. option_and_then completed r) is ∙ ap (option_map with_slots) e;
-          is = ap (λ a. pair a (map held_view held.slots.items) (option_map tail_view held.tail) (move_view held.delta)) same
+          is = ap (λ a. pair a (map owned_slot_view held.slots.items) (option_map tail_view held.tail) (move_view held.delta)) same
               ∙ ap (λ s. pair at s (option_map tail_view held.tail) (move_view held.delta)) (slots ∙ plain_complete raw.slots all e)
-              ∙ ap (λ t. pair at (map plain all) t (move_view held.delta)) tail
-              ∙ ap (λ m. pair at (map plain all) raw.tail m) move;
+              ∙ ap (λ t. pair at (map without_attributes all) t (move_view held.delta)) tail
+              ∙ ap (λ m. pair at (map without_attributes all) raw.tail m) move;
         }

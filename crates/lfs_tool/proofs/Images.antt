@@ -5,7 +5,7 @@ use Rattle.std.proofs.lemmas.List.{length-take, take_all}
 use Rattle.lfs_model.specs.Disk.{IsImage}
 use Rattle.lfs_device.specs.declared.error.Error.{Error}
 use Rattle.lfs_device.specs.declared.error.Error.TheVariants.{Corrupt, Invalid, NoMemory}
-use Rattle.lfs_tool.specs.Listed.{IsBad, Lists, Refuses}
+use Rattle.lfs_tool.specs.Listings.{IsNotAccepted, Lists, RefusesToList}
 
 abbrev pub most : ℕ
 most = 268435457
@@ -28,14 +28,14 @@ image_read block_size page bytes items read is =
     let short = image_fits block_size page bytes is in
     subst (IsImage block_size page) (sym (read ∙ take_all most bytes (omega arith))) is
 
-refuses_bytes : (block_size page : ℕ) (bytes items : List ℕ) (e : Error) → items ≡ take most bytes → Refuses block_size page items e → Refuses block_size page bytes e
+refuses_bytes : (block_size page : ℕ) (bytes items : List ℕ) (e : Error) → items ≡ take most bytes → RefusesToList block_size page items e → RefusesToList block_size page bytes e
 refuses_bytes block_size page bytes items Invalid read h = λ is. h (image_read block_size page bytes items read is)
 refuses_bytes block_size page bytes items NoMemory read h = tt
-refuses_bytes block_size page bytes items Corrupt read h = subst (λ (i : List ℕ). IsBad block_size page i) (all_read block_size page bytes items read h.0) h
+refuses_bytes block_size page bytes items Corrupt read h = subst (λ (i : List ℕ). IsNotAccepted block_size page i) (all_read block_size page bytes items read h.0) h
 refuses_bytes block_size page bytes items e read h = absurd h
 
-pub refuses_read : (known : Option (List ℕ)) (block_size page : ℕ) (items : List ℕ) (e : Error) → IfSome known (λ bytes. items ≡ take most bytes) → Refuses block_size page items e
-    → IfSome known (λ bytes. Refuses block_size page bytes e)
+pub refuses_read : (known : Option (List ℕ)) (block_size page : ℕ) (items : List ℕ) (e : Error) → IfSome known (λ bytes. items ≡ take most bytes) → RefusesToList block_size page items e
+    → IfSome known (λ bytes. RefusesToList block_size page bytes e)
 refuses_read None block_size page items e read h = tt
 refuses_read (Some bytes) block_size page items e read h = refuses_bytes block_size page bytes items e read h
 

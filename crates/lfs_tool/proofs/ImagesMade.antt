@@ -25,18 +25,18 @@ use Rattle.lfs_model.specs.Shown.{tree_in}
 use Rattle.lfs_model.proofs.Cuts.{length-cut}
 use Rattle.lfs_model.proofs.Kept.{fresh_defined, fresh_settled, fresh_true}
 use Rattle.lfs_model.proofs.Uniqueness.{one_thread}
-use Rattle.lfs_fs.specs.Held.{Held, system_state_of}
-use Rattle.lfs_tool_folders.specs.Entries.{AreAll}
+use Rattle.lfs_fs.specs.SessionView.{SessionView, system_state_of}
+use Rattle.lfs_tool_folders.specs.Entries.{AreAllEntries}
 use Rattle.lfs_tool_folders.specs.declared.entries.SourceEntry.{SourceEntry}
-use Rattle.lfs_tool.specs.Applied.{AreAllAccepted, IsFirstRefusal, operations_of, operations_of_all}
-use Rattle.lfs_tool.specs.Made.{AreLeft, Begins, IsMade, IsRefused}
+use Rattle.lfs_tool.specs.AppliedOperations.{AreAllAccepted, IsFirstRefusal, operations_of, operations_of_all}
+use Rattle.lfs_tool.specs.MadeImages.{AreBytesLeftBy, BeginsOnFresh, IsImageOf, RefusesEntries}
 use Rattle.lfs_tool.proofs.Growing.{carried_tree, tree_after}
 use Rattle.lfs_tool.proofs.Refusing.{IsFromFresh, anywhere, comes, has_carried}
 
 -- ---- the geometry
 
-pub begins : (g : Geometry) (d : RamDevice) (h : Held) → geometry_of d ≡ g → IsFresh h.tree.disk → (system_state_of h).state ≡ Healthy (mounted empty_tree) → SameGeometry (device.ordered g.order (device.disk_of (geometry_of d) (ram_blocks d))) h.tree.disk
-    → Begins g (system_state_of h)
+pub begins : (g : Geometry) (d : RamDevice) (h : SessionView) → geometry_of d ≡ g → IsFresh h.tree.disk → (system_state_of h).state ≡ Healthy (mounted empty_tree) → SameGeometry (device.ordered g.order (device.disk_of (geometry_of d) (ram_blocks d))) h.tree.disk
+    → BeginsOnFresh g (system_state_of h)
 begins g d h is fresh state same = record {
   fresh = fresh;
   block_size = same.block_size ∙ ap (λ (x : Geometry). x.block_size) is;
@@ -69,9 +69,9 @@ some_bytes : (g : Geometry) → 1 ≤ g.block_size
 some_bytes g = let least : 1024 ≤ g.block_size = g.valid.no_smaller in omega (arith, least)
 
 -- what the run left in the device
-pub left : (g : Geometry) (from to : SystemState) (es : List SourceEntry) (d : RamDevice) (bytes : List ℕ) → Begins g from → AreAllAccepted from (operations_of_all es) to
+pub left : (g : Geometry) (from to : SystemState) (es : List SourceEntry) (d : RamDevice) (bytes : List ℕ) → BeginsOnFresh g from → AreAllAccepted from (operations_of_all es) to
     → device.ordered to.disk.order (device.disk_of (geometry_of d) (ram_blocks d)) ≡ to.disk
-    → bytes ≡ bytes_of d → AreLeft g es bytes
+    → bytes ≡ bytes_of d → AreBytesLeftBy g es bytes
 left g from to es d bytes b c shown is =
     let same = session_steps_geometry (operations_of_all es) c.replies from to c.session_steps in
     let size : (geometry_of d).block_size ≡ g.block_size = ap (λ (k : Disk). k.block_size) shown ∙ same.block_size ∙ b.block_size in
@@ -99,7 +99,7 @@ same_session s t e = ap or_else e
     or_else HasFailed = s
     or_else (Healthy z) = z
 
-pub made : (g : Geometry) (known : Option Source) (es : List SourceEntry) (bytes : List ℕ) → AreAll known es → AreLeft g es bytes → IsMade g known bytes
+pub made : (g : Geometry) (known : Option Source) (es : List SourceEntry) (bytes : List ℕ) → AreAllEntries known es → AreBytesLeftBy g es bytes → IsImageOf g known bytes
 made g known es bytes all l = record {
   len = l.len;
   image = record {
@@ -126,7 +126,7 @@ made g known es bytes all l = record {
     after = same_session t.session (session_after_all anywhere (mounted empty_tree) (flat_map operations_of es) l.carried.replies)
         (sym t.healthy ∙ fresh_defined (operations_of_all es) l.carried.replies l.to anywhere (comes l.from l.to (operations_of_all es) (record { fresh = l.begins.fresh; mounts = l.begins.mounts }) l.carried))
 
-    shows : (k : Option Source) → AreAll k es → IfSome k (λ src. IsTreeOf src (tree_in (disk_of g.block_size g.page g.order bytes) s.pairs))
+    shows : (k : Option Source) → AreAllEntries k es → IfSome k (λ src. IsTreeOf src (tree_in (disk_of g.block_size g.page g.order bytes) s.pairs))
     shows None a = tt
     shows (Some src) a =
         let whole = carried_tree src es a in
@@ -137,10 +137,10 @@ made g known es bytes all l = record {
 
 -- ---- what is passed on
 
-pub refused : {X : Type 0} (r : Result X Error) (e : Error) (g : Geometry) (from : SystemState) (es : List SourceEntry) → IsErrAnd r (λ f. f ≡ e) → Begins g from → (e ≢ NoMemory → IsFirstRefusal from (operations_of_all es) e)
-    → IfErr r (λ f. f ≢ NoMemory → IsRefused g es f)
+pub refused : {X : Type 0} (r : Result X Error) (e : Error) (g : Geometry) (from : SystemState) (es : List SourceEntry) → IsErrAnd r (λ f. f ≡ e) → BeginsOnFresh g from → (e ≢ NoMemory → IsFirstRefusal from (operations_of_all es) e)
+    → IfErr r (λ f. f ≢ NoMemory → RefusesEntries g es f)
 refused (Ok x) e g from es is b h = tt
 refused (Err f) e g from es is b h = λ other. record { from = from; begins = b; first = subst (IsFirstRefusal from (operations_of_all es)) (sym is) (h (λ x. other (is ∙ x))) }
 
-pub passed : (g : Geometry) (es slice : List SourceEntry) (image written : List ℕ) → slice ≡ es → written ≡ image → AreLeft g slice image → AreLeft g es written
-passed g es slice image written same is l = subst (λ xs. AreLeft g es xs) (sym is) (subst (λ xs. AreLeft g xs image) same l)
+pub passed : (g : Geometry) (es slice : List SourceEntry) (image written : List ℕ) → slice ≡ es → written ≡ image → AreBytesLeftBy g slice image → AreBytesLeftBy g es written
+passed g es slice image written same is l = subst (λ xs. AreBytesLeftBy g es xs) (sym is) (subst (λ xs. AreBytesLeftBy g xs image) same l)

@@ -6,11 +6,11 @@ use Rattle.lfs_model.specs.declared.order.NameOrder.{NameOrder}
 use Rattle.lfs_model.proofs.Histories.{OnlyReads-trans}
 use Rattle.lfs_thread.specs.Kept.{Kept}
 use Rattle.lfs_thread.specs.Steps.{IsOnlyRead}
-use Rattle.lfs_tool.specs.Summary.{HasOrders}
-use Rattle.lfs_tool.specs.Verdict.{IsAcceptedWith, IsRefused, IsVerdict}
+use Rattle.lfs_tool.specs.ImageSummaries.{HasOrders}
+use Rattle.lfs_tool.specs.Verdict.{IsAcceptedWith, IsInNoOrder, IsVerdict}
 use Rattle.lfs_tool.proofs.Reordered.{found_alike}
-use Rattle.lfs_tool.specs.declared.verdict.Orders.{Orders}
-use Rattle.lfs_tool.specs.declared.verdict.Orders.TheVariants as orders
+use Rattle.lfs_tool.specs.declared.verdict.AcceptedOrders.{AcceptedOrders}
+use Rattle.lfs_tool.specs.declared.verdict.AcceptedOrders.TheVariants as orders
 use Rattle.lfs_tool.specs.declared.verdict.Verdict.{Verdict}
 use Rattle.lfs_tool.specs.declared.verdict.Verdict.TheVariants as verdict
 
@@ -23,13 +23,13 @@ read_on a b c x y = record {
   map = y.map ∙ x.map;
 }
 
-pub orders_alike : (d e : Disk) (o : NameOrder) (fits : Orders) → ordered o d ≡ ordered o e → HasOrders d fits → HasOrders e fits
+pub orders_alike : (d e : Disk) (o : NameOrder) (fits : AcceptedOrders) → ordered o d ≡ ordered o e → HasOrders d fits → HasOrders e fits
 orders_alike d e o orders.LongerFirst is h = let P : Disk → Type 0 = λ x. HasOrders x orders.LongerFirst in subst P is h
 orders_alike d e o orders.ShorterFirst is h = let P : Disk → Type 0 = λ x. HasOrders x orders.ShorterFirst in subst P is h
 orders_alike d e o orders.Either is h = let P : Disk → Type 0 = λ x. HasOrders x orders.Either in subst P is h
 
-refused_alike : (d e : Disk) (o : NameOrder) → ordered o d ≡ ordered o e → IsRefused d → IsRefused e
-refused_alike d e o is h = subst IsRefused is h
+refused_alike : (d e : Disk) (o : NameOrder) → ordered o d ≡ ordered o e → IsInNoOrder d → IsInNoOrder e
+refused_alike d e o is h = subst IsInNoOrder is h
 
 pub verdict_alike : (d e : Disk) (o : NameOrder) (v : Verdict) → ordered o d ≡ ordered o e → IsVerdict d v → IsVerdict e v
 verdict_alike d e o (verdict.Accepted summary fits) is h =

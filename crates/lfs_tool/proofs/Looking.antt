@@ -7,7 +7,7 @@ use Rattle.lfs_device.specs.declared.error.Error.TheVariants.{Io, NoMemory}
 use Rattle.lfs_device.specs.Calls.{ReadsOnly, ReportsFaults}
 use Rattle.lfs_model.specs.History.{faults}
 use Rattle.lfs_model.proofs.Histories.{OnlyReads-trans, began}
-use Rattle.lfs_tool.specs.Device.{Looks}
+use Rattle.lfs_tool.specs.Device.{OnlyReadsDevice}
 
 -- looks that answered
 pub record HasLooked {D : Type 0} (g : Ghosts D) (old new : D) : Type 0 where
@@ -26,14 +26,14 @@ on g old mid new a b = record {
   no_fault = b.no_fault ∙ a.no_fault;
 }
 
-pub answers : {D X : Type 0} (g : Ghosts D) (old new : D) (r : Result X Error) (x : X) → r ≡ Ok x → HasLooked g old new → Looks g old new r
+pub answers : {D X : Type 0} (g : Ghosts D) (old new : D) (r : Result X Error) (x : X) → r ≡ Ok x → HasLooked g old new → OnlyReadsDevice g old new r
 answers {X = X} g old new r x e h = record {
   device = h.device;
   errors = subst (λ (z : Result X Error). IfErr z (λ f. (f ≡ Io) ⊎ (f ≡ NoMemory))) (sym e) tt;
   faults = record { fault = λ k. let z = sym e ∙ k in absurd (cc); no_fault = λ k. h.no_fault };
 }
 
-pub lacks_memory : {D X : Type 0} (g : Ghosts D) (old new : D) (r : Result X Error) → r ≡ Err NoMemory → HasLooked g old new → Looks g old new r
+pub lacks_memory : {D X : Type 0} (g : Ghosts D) (old new : D) (r : Result X Error) → r ≡ Err NoMemory → HasLooked g old new → OnlyReadsDevice g old new r
 lacks_memory {X = X} g old new r e h = record {
   device = h.device;
   errors = subst (λ (z : Result X Error). IfErr z (λ f. (f ≡ Io) ⊎ (f ≡ NoMemory))) (sym e) (inr refl);
@@ -41,7 +41,7 @@ lacks_memory {X = X} g old new r e h = record {
 }
 
 -- a look behind others
-pub further : {D X : Type 0} (g : Ghosts D) (old mid new : D) (r : Result X Error) → HasLooked g old mid → Looks g mid new r → Looks g old new r
+pub further : {D X : Type 0} (g : Ghosts D) (old mid new : D) (r : Result X Error) → HasLooked g old mid → OnlyReadsDevice g mid new r → OnlyReadsDevice g old new r
 further g old mid new r a b = let same = a.no_fault in record {
   device = record { same = b.device.same ∙ a.device.same; geometry = b.device.geometry ∙ a.device.geometry; reads = OnlyReads-trans a.device.reads b.device.reads a.device.same };
   errors = b.errors;
@@ -52,7 +52,7 @@ same_error : (X : Type 0) (e f : Error) → (let r : Result X Error = Err e in r
 same_error X e f h = cc
 
 -- an error is passed on
-pub passed : {D X Y : Type 0} (g : Ghosts D) (old new : D) (r : Result X Error) (s : Result Y Error) (e f : Error) → r ≡ Err e → s ≡ Err f → f ≡ e → Looks g old new r → Looks g old new s
+pub passed : {D X Y : Type 0} (g : Ghosts D) (old new : D) (r : Result X Error) (s : Result Y Error) (e f : Error) → r ≡ Err e → s ≡ Err f → f ≡ e → OnlyReadsDevice g old new r → OnlyReadsDevice g old new s
 passed {X = X} {Y = Y} g old new r s e f is now same h = record {
   device = h.device;
   errors = subst (λ (z : Result Y Error). IfErr z (λ k. (k ≡ Io) ⊎ (k ≡ NoMemory))) (sym (now ∙ ap Err same)) (subst (λ (z : Result X Error). IfErr z (λ k. (k ≡ Io) ⊎ (k ≡ NoMemory))) is h.errors);
@@ -63,10 +63,10 @@ passed {X = X} {Y = Y} g old new r s e f is now same h = record {
 }
 
 -- no error but want of memory, behind looks
-pub quiet : {D X : Type 0} (g : Ghosts D) (old new : D) (r : Result X Error) → IfErr r (λ e. e ≡ NoMemory) → HasLooked g old new → Looks g old new r
+pub quiet : {D X : Type 0} (g : Ghosts D) (old new : D) (r : Result X Error) → IfErr r (λ e. e ≡ NoMemory) → HasLooked g old new → OnlyReadsDevice g old new r
 quiet g old new (Ok x) q h = answers g old new (Ok x) x refl h
 quiet g old new (Err e) q h = lacks_memory g old new (Err e) (ap Err q) h
 
 -- a look that answered
-pub seen : {D X : Type 0} (g : Ghosts D) (old new : D) (r : Result X Error) (x : X) → r ≡ Ok x → Looks g old new r → HasLooked g old new
+pub seen : {D X : Type 0} (g : Ghosts D) (old new : D) (r : Result X Error) (x : X) → r ≡ Ok x → OnlyReadsDevice g old new r → HasLooked g old new
 seen g old new r x e h = looked g old new r x e h.device h.faults

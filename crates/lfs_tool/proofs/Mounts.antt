@@ -9,7 +9,7 @@ use Rattle.lfs_model.specs.Thread.{Pair}
 use Rattle.lfs_model.specs.View.{IsAccepted}
 use Rattle.lfs_model.specs.declared.order.NameOrder.{NameOrder}
 use Rattle.lfs_mount.specs.Device.{IsMountError}
-use Rattle.lfs_tool.specs.Listed.{IsNotMounted}
+use Rattle.lfs_tool.specs.Listings.{IsNotMounted}
 
 -- without a fault it isn't for a fault
 pub not_mounted : (disk : Disk) (e : Error) (old new : List Event) → IsMountError e → (e ≡ Corrupt → (order : NameOrder) (ps : List Pair) → IsAccepted (ordered order disk) ps → ⊥) → (e ≡ Io → faults old < faults new) → faults new ≡ faults old → IsNotMounted disk e

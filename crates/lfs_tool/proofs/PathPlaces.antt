@@ -6,7 +6,7 @@ use Rattle.std.proofs.lemmas.Bool.{and_from}
 use Rattle.std.proofs.lemmas.Grind.{flat_map-append}
 use Rattle.lfs_model.specs.Names.{Name, is_component, slash}
 use Rattle.lfs_model.specs.Tree.{Path, Node, Tree}
-use Rattle.lfs_model.specs.TreeEdits.{added, last_name, parent_of, same_path, with_name, with_names}
+use Rattle.lfs_model.specs.TreeEdits.{tree_with_node, last_name, parent_of, same_path, with_name, with_names}
 use Rattle.lfs_model.specs.Operations.{path_bytes}
 use Rattle.lfs_model.specs.Source.{path_in}
 use Rattle.lfs_model.specs.Refusals.{as_path}
@@ -39,17 +39,17 @@ other_path p q ne = go (paths p q)
     go (path_alike e s) = absurd (ne e)
     go (path_unlike n s) = s
 
-pub added_there : (p : Path) (node : Node) (t : Tree) → added p node t p ≡ Some node
+pub added_there : (p : Path) (node : Node) (t : Tree) → tree_with_node p node t p ≡ Some node
 added_there p node t = ap (λ b. cond b (Some node) (cond (same_path (parent_of p) p) (option_map (with_names (with_name (last_name p))) (t p)) (t p))) (path_itself p)
 
-pub added_above : (f : Path) (n : Name) (node : Node) (t : Tree) → added (f ++ n ∷ []) node t f ≡ option_map (with_names (with_name n)) (t f)
+pub added_above : (f : Path) (n : Name) (node : Node) (t : Tree) → tree_with_node (f ++ n ∷ []) node t f ≡ option_map (with_names (with_name n)) (t f)
 added_above f n node t =
     ap (λ b. cond b (Some node) (cond (same_path (parent_of (f ++ n ∷ [])) f) (option_map (with_names (with_name (last_name (f ++ n ∷ [])))) (t f)) (t f))) (other_path (f ++ n ∷ []) f (λ e. not_longer f n [] (sym e)))
     ∙ ap (λ (q : Path). cond (same_path q f) (option_map (with_names (with_name (last_name (f ++ n ∷ [])))) (t f)) (t f)) (parent_is f n)
     ∙ ap (λ b. cond b (option_map (with_names (with_name (last_name (f ++ n ∷ [])))) (t f)) (t f)) (path_itself f)
     ∙ ap (λ (m : Name). option_map (with_names (with_name m)) (t f)) (last_is f n)
 
-pub added_aside : (f : Path) (n : Name) (node : Node) (t : Tree) (q : Path) → (q ≡ f → ⊥) → (q ≡ f ++ n ∷ [] → ⊥) → added (f ++ n ∷ []) node t q ≡ t q
+pub added_aside : (f : Path) (n : Name) (node : Node) (t : Tree) (q : Path) → (q ≡ f → ⊥) → (q ≡ f ++ n ∷ [] → ⊥) → tree_with_node (f ++ n ∷ []) node t q ≡ t q
 added_aside f n node t q above there =
     ap (λ b. cond b (Some node) (cond (same_path (parent_of (f ++ n ∷ [])) q) (option_map (with_names (with_name (last_name (f ++ n ∷ [])))) (t q)) (t q))) (other_path (f ++ n ∷ []) q (λ e. there (sym e)))
     ∙ ap (λ (r : Path). cond (same_path r q) (option_map (with_names (with_name (last_name (f ++ n ∷ [])))) (t q)) (t q)) (parent_is f n)

@@ -1,7 +1,7 @@
 -- What is done at paths.
 use Rattle.std.proofs.Common.{◌≡◌, ◌⊎◌, inl, inr, Result, Ok, Err}
 use Rattle.std.specs.Prelude.{OnOk}
-use Rattle.lfs_tool.specs.Reported.{ReportsWriter}
+use Rattle.lfs_tool.specs.Reports.{ReportsWriter}
 use Rattle.lfs_tool.specs.declared.errors.ToolError.{ToolError}
 use Rattle.lfs_tool.specs.declared.writer.Writer.{Ghosts}
 

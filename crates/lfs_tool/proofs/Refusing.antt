@@ -16,11 +16,11 @@ use Rattle.lfs_model.specs.Slots.{no_gstate}
 use Rattle.lfs_model.specs.State.{Healthy, is_remount, mounted}
 use Rattle.lfs_model.proofs.Counts.{Each, each_right}
 use Rattle.lfs_model.proofs.Kept.{fresh_defined}
-use Rattle.lfs_fs.specs.Held.{FailsBy}
+use Rattle.lfs_fs.specs.SessionView.{FailsBy}
 use Rattle.lfs_lookup.specs.Refusals as refusals
-use Rattle.lfs_tool_folders.specs.InMemory.{items_by}
+use Rattle.lfs_tool_folders.specs.MemorySources.{items_by}
 use Rattle.lfs_tool_folders.specs.declared.entries.SourceEntry.{SourceEntry}
-use Rattle.lfs_tool.specs.Applied.{AreAllAccepted, AreEndedBy, Ends, HasNoFile, IsFirstRefusal, node_by, operations_of}
+use Rattle.lfs_tool.specs.AppliedOperations.{AreAllAccepted, AreEndedBy, Ends, HasNoFile, IsFirstRefusal, node_by, operations_of}
 use Rattle.lfs_tool.proofs.Runs.{ended_before, ended_on}
 use Rattle.lfs_tool.proofs.Stepping.{HasCarried, carried_from}
 

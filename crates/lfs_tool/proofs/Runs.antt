@@ -12,12 +12,12 @@ use Rattle.lfs_model.specs.Tree.{FileNode}
 use Rattle.lfs_model.specs.Run.{IsSessionStep, SystemState, is_refusal}
 use Rattle.lfs_model.proofs.Counts.{each_append}
 use Rattle.lfs_model.proofs.SessionSteps.{session_steps_joined}
-use Rattle.lfs_fs.specs.Held.{Answers, Held, system_state_of}
+use Rattle.lfs_fs.specs.SessionView.{Answers, SessionView, system_state_of}
 use Rattle.lfs_fs.specs.Replies.{reply_in}
 use Rattle.lfs_lookup.specs.Refusals as refusals
 use Rattle.lfs_lookup.specs.Refusals.{refusal_in}
 use Rattle.lfs_tool_folders.specs.declared.entries.SourceEntry.{SourceEntry}
-use Rattle.lfs_tool.specs.Applied.{AreAllAccepted, AreEndedBy, AppliesAll, Ends, HasNoFile, operations_of}
+use Rattle.lfs_tool.specs.AppliedOperations.{AreAllAccepted, AreEndedBy, AppliesAll, Ends, HasNoFile, operations_of}
 use Rattle.lfs_tool.proofs.Stepping.{opened_first}
 
 abbrev IsAccepted : Reply → Type 0
@@ -31,7 +31,7 @@ one_carried a b op reply turn accepted = record { replies = reply ∷ []; sessio
 pub none_carried : (a : SystemState) → AreAllAccepted a [] a
 none_carried a = record { replies = []; session_steps = refl; accepted = All-from_recursion IsAccepted [] tt }
 
-pub one_ends : {X : Type 0} (old new : Held) (op : Operation) (reply : X → Reply) (e : Error) → Answers old op (reply_in reply (Err e)) new → Ends (refusals.is_refusal e) e (system_state_of old) op (system_state_of new)
+pub one_ends : {X : Type 0} (old new : SessionView) (op : Operation) (reply : X → Reply) (e : Error) → Answers old op (reply_in reply (Err e)) new → Ends (refusals.is_refusal e) e (system_state_of old) op (system_state_of new)
 one_ends old new op reply e = go (refusals.is_refusal e)
   where
     go : (b : Bool) → Answers old op (cond b (Ok (ops.Refused (refusal_in e))) (Err e)) new → Ends b e (system_state_of old) op (system_state_of new)
@@ -76,7 +76,7 @@ ended_before e xs ys a c k = record {
 -- ---- results
 
 -- a call of one operation
-pub carries_one : {X : Type 0} (old new : Held) (op : Operation) (reply : Reply) (r : Result X Error) → is_refusal reply ≡ false → Answers old op (reply_in (λ x. reply) r) new → AppliesAll (system_state_of old) (op ∷ []) r (system_state_of new)
+pub carries_one : {X : Type 0} (old new : SessionView) (op : Operation) (reply : Reply) (r : Result X Error) → is_refusal reply ≡ false → Answers old op (reply_in (λ x. reply) r) new → AppliesAll (system_state_of old) (op ∷ []) r (system_state_of new)
 carries_one {X} old new op reply (Ok x) accepted h = one_carried (system_state_of old) (system_state_of new) op reply h accepted
 carries_one {X} old new op reply (Err e) accepted h = ended_at e [] op [] (system_state_of old) (system_state_of old) (system_state_of new) (none_carried (system_state_of old)) (one_ends {X = X} old new op (λ x. reply) e h)
 
@@ -92,11 +92,11 @@ passed_on (Err f) e a operations c is h = subst (λ g. AreEndedBy g a operations
 -- ---- a file
 
 -- the file is open under the first number
-pub record IsOpened (old : Held) (path : List ℕ) (fd : ℕ) (new : Held) : Type 0 where
+pub record IsOpened (old : SessionView) (path : List ℕ) (fd : ℕ) (new : SessionView) : Type 0 where
   pub number : fd ≡ 0
   pub carried : AreAllAccepted (system_state_of old) (ops.Open path new_file_flags ∷ []) (system_state_of new)
 
-pub opens : (old new : Held) (path : List ℕ) (flags : Flags) (fd : ℕ) → flags ≡ new_file_flags → HasNoFile (system_state_of old) → IsSessionStep (system_state_of old) (ops.Open path flags) (ops.Opened fd) (system_state_of new) → IsOpened old path fd new
+pub opens : (old new : SessionView) (path : List ℕ) (flags : Flags) (fd : ℕ) → flags ≡ new_file_flags → HasNoFile (system_state_of old) → IsSessionStep (system_state_of old) (ops.Open path flags) (ops.Opened fd) (system_state_of new) → IsOpened old path fd new
 opens old new path flags fd is none turn =
     let opened : IsSessionStep (system_state_of old) (ops.Open path new_file_flags) (ops.Opened fd) (system_state_of new) = subst (λ f. IsSessionStep (system_state_of old) (ops.Open path f) (ops.Opened fd) (system_state_of new)) is turn in
     record {
@@ -104,20 +104,20 @@ opens old new path flags fd is none turn =
       carried = one_carried (system_state_of old) (system_state_of new) (ops.Open path new_file_flags) (ops.Opened fd) opened refl;
     }
 
-pub fails_to_open : (old new : Held) (path : List ℕ) (flags : Flags) (more : List Operation) (e : Error) → flags ≡ new_file_flags → Answers old (ops.Open path flags) (reply_in ops.Opened (Err e)) new
+pub fails_to_open : (old new : SessionView) (path : List ℕ) (flags : Flags) (more : List Operation) (e : Error) → flags ≡ new_file_flags → Answers old (ops.Open path flags) (reply_in ops.Opened (Err e)) new
     → AreEndedBy e (system_state_of old) (ops.Open path new_file_flags ∷ more) (system_state_of new)
 fails_to_open old new path flags more e is h =
     ended_at e [] (ops.Open path new_file_flags) more (system_state_of old) (system_state_of old) (system_state_of new) (none_carried (system_state_of old))
     (one_ends old new (ops.Open path new_file_flags) ops.Opened e (subst (λ f. Answers old (ops.Open path f) (reply_in ops.Opened (Err e)) new) is h))
 
-pub fails_to_write : (old between new : Held) (path bytes : List ℕ) (fd : ℕ) (e : Error) → IsOpened old path fd between → Answers between (ops.Write fd bytes) (reply_in ops.Count (Err e)) new
+pub fails_to_write : (old between new : SessionView) (path bytes : List ℕ) (fd : ℕ) (e : Error) → IsOpened old path fd between → Answers between (ops.Write fd bytes) (reply_in ops.Count (Err e)) new
     → AreEndedBy e (system_state_of old) (operations_for path (FileNode [] bytes)) (system_state_of new)
 fails_to_write old between new path bytes fd e o h =
     ended_on e (ops.Open path new_file_flags ∷ []) (ops.Write 0 bytes ∷ ops.Close 0 ∷ []) (system_state_of old) (system_state_of between) (system_state_of new) o.carried
     (ended_at e [] (ops.Write 0 bytes) (ops.Close 0 ∷ []) (system_state_of between) (system_state_of between) (system_state_of new) (none_carried (system_state_of between))
     (one_ends between new (ops.Write 0 bytes) ops.Count e (subst (λ n. Answers between (ops.Write n bytes) (reply_in ops.Count (Err e)) new) o.number h)))
 
-pub closes : {X : Type 0} (old between written new : Held) (path bytes : List ℕ) (fd count : ℕ) (r : Result X Error) → IsOpened old path fd between → IsSessionStep (system_state_of between) (ops.Write fd bytes) (ops.Count count) (system_state_of written)
+pub closes : {X : Type 0} (old between written new : SessionView) (path bytes : List ℕ) (fd count : ℕ) (r : Result X Error) → IsOpened old path fd between → IsSessionStep (system_state_of between) (ops.Write fd bytes) (ops.Count count) (system_state_of written)
     → Answers written (ops.Close fd) (reply_in (λ x. ops.Done) r) new → AppliesAll (system_state_of old) (operations_for path (FileNode [] bytes)) r (system_state_of new)
 closes old between written new path bytes fd count r o turn h =
     let write : AreAllAccepted (system_state_of between) (ops.Write 0 bytes ∷ []) (system_state_of written) =

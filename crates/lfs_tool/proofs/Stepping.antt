@@ -2,22 +2,22 @@
 use Rattle.std.proofs.Common.{ℕ, ◌≡◌, ◌∙◌, ◌+◌, ◌++◌, Bool, true, false, cond, List, [], ◌∷◌, length, Option, Some, None, drop, is_none, refl, sym, ap, ap₂, subst, append-nil, flat_map, option_map}
 use Rattle.std.proofs.Math.Seq.{drop-nil}
 use Rattle.std.proofs.lemmas.Option.{same_Some}
-use Rattle.lfs_model.specs.TreeEdits.{added, bytes_at, change_at, same_path}
+use Rattle.lfs_model.specs.TreeEdits.{tree_with_node, bytes_at, change_at, same_path}
 use Rattle.lfs_model.specs.Listing.{new_file_flags, operations_for}
 use Rattle.lfs_model.specs.Operations as ops
 use Rattle.lfs_model.specs.Operations.{Operation, Refusal, Reply}
 use Rattle.lfs_model.specs.Session.{Files, Session, Surroundings, Writer, Writing, free_number}
 use Rattle.lfs_model.specs.Writers.{after_write, opened_writer}
-use Rattle.lfs_model.specs.Effects.{applied, committed, effect_of, reply_or, with_bytes}
+use Rattle.lfs_model.specs.Effects.{refusal_or_effect, tree_after_commit, effect_of, reply_or, with_bytes}
 use Rattle.lfs_model.specs.Refusals.{as_path, refusal_of}
-use Rattle.lfs_model.specs.State.{Healthy, State, answered_in}
+use Rattle.lfs_model.specs.State.{Healthy, State, answer_of_state}
 use Rattle.lfs_model.specs.Tree.{Path, FileNode, DirectoryNode, Tree}
 use Rattle.lfs_model.specs.Run.{AreSessionSteps, IsSessionStep, SystemState, is_refusal}
 use Rattle.lfs_model.specs.Headline.{session_after_all}
 use Rattle.lfs_model.proofs.Counts.{Each}
-use Rattle.lfs_tool_folders.specs.InMemory.{items_by}
+use Rattle.lfs_tool_folders.specs.MemorySources.{items_by}
 use Rattle.lfs_tool_folders.specs.declared.entries.SourceEntry.{SourceEntry}
-use Rattle.lfs_tool.specs.Applied.{AreClosed, node_by, operations_of}
+use Rattle.lfs_tool.specs.AppliedOperations.{AreClosed, node_by, operations_of}
 use Rattle.lfs_tool.proofs.Growing.{AreNew, grown, tree_after}
 
 pub first_is_free : (files : Files) → AreClosed files → free_number files ≡ 0
@@ -39,25 +39,25 @@ opened t p = opened_writer p new_file_flags (bytes_at (t p))
 
 -- the tree once the file is there, and once its bytes are
 abbrev tree_opened : Tree → Path → Tree
-tree_opened t p = cond (is_none (t p)) (added p (FileNode [] []) t) t
+tree_opened t p = cond (is_none (t p)) (tree_with_node p (FileNode [] []) t) t
 
 abbrev tree_closed : Tree → Path → List ℕ → Tree
-tree_closed t p bytes = committed (Some (Writing (after_write (opened t p) bytes))) (tree_opened t p)
+tree_closed t p bytes = tree_after_commit (Some (Writing (after_write (opened t p) bytes))) (tree_opened t p)
 
-changed_added : (p : Path) (bytes : List ℕ) (t : Tree) → change_at p (with_bytes bytes) (added p (FileNode [] []) t) ≡ added p (FileNode [] bytes) t
+changed_added : (p : Path) (bytes : List ℕ) (t : Tree) → change_at p (with_bytes bytes) (tree_with_node p (FileNode [] []) t) ≡ tree_with_node p (FileNode [] bytes) t
 changed_added p bytes t = λ i q. at q i
   where
-    at : (q : Path) → change_at p (with_bytes bytes) (added p (FileNode [] []) t) q ≡ added p (FileNode [] bytes) t q
+    at : (q : Path) → change_at p (with_bytes bytes) (tree_with_node p (FileNode [] []) t) q ≡ tree_with_node p (FileNode [] bytes) t q
     at q = go (same_path p q) _
       where
         go : (b : Bool) (rest : Option _) → cond b (option_map (with_bytes bytes) (cond b (Some (FileNode [] [])) rest)) (cond b (Some (FileNode [] [])) rest) ≡ cond b (Some (FileNode [] bytes)) rest
         go true rest = refl
         go false rest = refl
 
-file_comes : (t : Tree) (p : Path) (bytes : List ℕ) → t p ≡ None → tree_closed t p bytes ≡ added p (FileNode [] bytes) t
-file_comes t p [] e = ap (λ o. cond (is_none o) (added p (FileNode [] []) t) t) e
+file_comes : (t : Tree) (p : Path) (bytes : List ℕ) → t p ≡ None → tree_closed t p bytes ≡ tree_with_node p (FileNode [] bytes) t
+file_comes t p [] e = ap (λ o. cond (is_none o) (tree_with_node p (FileNode [] []) t) t) e
 file_comes t p (b ∷ bytes) e =
-    ap₂ (λ c (u : Tree). change_at p (with_bytes c) u) all (ap (λ o. cond (is_none o) (added p (FileNode [] []) t) t) e) ∙ changed_added p (b ∷ bytes) t
+    ap₂ (λ c (u : Tree). change_at p (with_bytes c) u) all (ap (λ o. cond (is_none o) (tree_with_node p (FileNode [] []) t) t) e) ∙ changed_added p (b ∷ bytes) t
   where
     all : (after_write (opened t p) (b ∷ bytes)).contents ≡ b ∷ bytes
     all = ap (λ o. b ∷ (bytes ++ drop (0 + length (b ∷ bytes)) (bytes_at o))) e ∙ ap (λ xs. b ∷ (bytes ++ xs)) (drop-nil (0 + length (b ∷ bytes))) ∙ ap (λ xs. b ∷ xs) (append-nil bytes)
@@ -74,7 +74,7 @@ record HasStepped (around : Surroundings) (path : List ℕ) (o : Option (List �
   accepted : Accepted left
   closed : AreClosed left_open
   is : session_after_all around (with_files t files) (operations_for path (node_by o) ++ more) replies ≡ session_after_all around (with_files tree left_open) more left
-  comes : t (as_path path) ≡ None → tree ≡ added (as_path path) (node_by o) t
+  comes : t (as_path path) ≡ None → tree ≡ tree_with_node (as_path path) (node_by o) t
 
 -- an accepted operation has its effect
 accepted_effect : (around : Surroundings) (s : Session) (op : Operation) (reply : Reply) (more : List Operation) (left : List Reply) → is_refusal reply ≡ false
@@ -85,7 +85,7 @@ folder_stepped : (around : Surroundings) (path : List ℕ) (more : List Operatio
     → AreSessionSteps from (ops.Mkdir path ∷ more) replies to → HasStepped around path None more t files replies to
 folder_stepped around path more t files [] from to closed accepted h = absurd h
 folder_stepped around path more t files (reply ∷ left) from to closed accepted (between, (turn, rest)) = record {
-  tree = added (as_path path) (DirectoryNode [] []) t;
+  tree = tree_with_node (as_path path) (DirectoryNode [] []) t;
   left_open = files;
   left = left;
   between = between;
@@ -168,6 +168,6 @@ number_in around s path fd (Some error) e = absurd (cc)
 pub opened_first : (from to : SystemState) (s : Session) (path : List ℕ) (fd : ℕ) → from.state ≡ Healthy s → AreClosed s.files → IsSessionStep from (ops.Open path new_file_flags) (ops.Opened fd) to → fd ≡ 0
 opened_first from to s path fd state closed turn =
     let a = turn.answered in
-    let e : answered_in a.around (Healthy s) (ops.Open path new_file_flags) ≡ (Some (ops.Opened fd), to.state) = ap (λ z. answered_in a.around z (ops.Open path new_file_flags)) (sym state) ∙ a.answers in
-    let reply : (applied a.around s (ops.Open path new_file_flags)).0 ≡ ops.Opened fd = same_Some _ _ (ap (λ (z : Option Reply × State). z.0) e) in
+    let e : answer_of_state a.around (Healthy s) (ops.Open path new_file_flags) ≡ (Some (ops.Opened fd), to.state) = ap (λ z. answer_of_state a.around z (ops.Open path new_file_flags)) (sym state) ∙ a.answers in
+    let reply : (refusal_or_effect a.around s (ops.Open path new_file_flags)).0 ≡ ops.Opened fd = same_Some _ _ (ap (λ (z : Option Reply × State). z.0) e) in
     sym (number_in a.around s path fd (refusal_of a.around s (ops.Open path new_file_flags)) reply) ∙ first_is_free s.files closed

@@ -14,8 +14,8 @@ use Rattle.lfs_device.specs.Shown.{ordered}
 use Rattle.lfs_lookup.specs.Walk.{AllShow, IsWalked, Place, PlaceShows, ShowsNode}
 use Rattle.lfs_tool.specs.declared.errors.ToolError.{ToolError}
 use Rattle.lfs_tool.specs.declared.errors.ToolError.TheVariants.{Fs, Output}
-use Rattle.lfs_tool.specs.Listed.{Refuses}
-use Rattle.lfs_tool.specs.Unpacked.{AreLists, FailsToUnpack, FailsToUnpackImage, HasBegun, HasDone, IsBegunOf, IsBegunOfImage, IsDoneOf, IsDoneOfImage, IsUnpacked, ReportsTarget, Unpacks, action_at, action_below, actions_at}
+use Rattle.lfs_tool.specs.Listings.{RefusesToList}
+use Rattle.lfs_tool.specs.Unpackings.{AreLists, FailsToUnpack, FailsToUnpackImage, HasBegunActions, HasDoneActions, IsBegunOf, IsBegunOfImage, IsDoneOf, IsDoneOfImage, IsUnpacked, ReportsTarget, Unpacks, action_at, action_below, actions_at}
 use Rattle.lfs_tool.proofs.Images.{all_read, most}
 
 -- ---- what was found of a tree unpacks it
@@ -53,11 +53,11 @@ module _ (disk now : Disk) (order : NameOrder) (ps : List Pair) (places : List P
       let (entries, (walk, shows)) = walked in
       (view_in (ordered order disk) ps, ((order, (ps, (accepted, refl))), (entries, (walk, actions_shown (ordered order disk) places entries shows))))
 
-  pub done_of : (old new : Option (List Action)) → HasDone old new (actions_at now places) → IsDoneOf disk old new
-  done_of old new h = (actions_at (ordered order disk) places, (unpacks, subst (λ d. HasDone old new (actions_at d places)) same h))
+  pub done_of : (old new : Option (List Action)) → HasDoneActions old new (actions_at now places) → IsDoneOf disk old new
+  done_of old new h = (actions_at (ordered order disk) places, (unpacks, subst (λ d. HasDoneActions old new (actions_at d places)) same h))
 
-  pub begun_of : (old new : Option (List Action)) → HasBegun old new (actions_at now places) → IsBegunOf disk old new
-  begun_of old new h = (actions_at (ordered order disk) places, (unpacks, subst (λ d. HasBegun old new (actions_at d places)) same h))
+  pub begun_of : (old new : Option (List Action)) → HasBegunActions old new (actions_at now places) → IsBegunOf disk old new
+  begun_of old new h = (actions_at (ordered order disk) places, (unpacks, subst (λ d. HasBegunActions old new (actions_at d places)) same h))
 
 pub fails_begun : {X : Type 0} (disk : Disk) (old new : Option (List Action)) (was now : ℕ) (r : Result X ToolError) (begun : Type 0) → OnErr r begun → (begun → IsBegunOf disk old new)
     → ReportsTarget was now r → IfErr r (FailsToUnpack disk old new)
@@ -113,7 +113,7 @@ begun_at_error known block_size page items old new (Fs NoMemory) read (inr begun
 begun_at_error known block_size page items old new Output read h = inr (begun_read known block_size page items old new read h)
 begun_at_error known block_size page items old new e read h = absurd h
 
-pub refused_at : (block_size page : ℕ) (items : List ℕ) (old new : Option (List Action)) (e : Error) → FailsToUnpackImage block_size page items old new (Fs e) → Refuses block_size page items e
+pub refused_at : (block_size page : ℕ) (items : List ℕ) (old new : Option (List Action)) (e : Error) → FailsToUnpackImage block_size page items old new (Fs e) → RefusesToList block_size page items e
 refused_at block_size page items old new Corrupt h = h.0
 refused_at block_size page items old new Invalid h = h.0
 refused_at block_size page items old new NoMemory h = tt

@@ -8,7 +8,7 @@ use Rattle.lfs_model.specs.Tree.{Node}
 use Rattle.lfs_model.specs.View.{HasView, View, view_in}
 use Rattle.lfs_model.proofs.ListSizes.{length-bytes_of}
 use Rattle.lfs_lookup.specs.Walk.{AllShow, Place, PlaceShows, ShowsNode}
-use Rattle.lfs_tool.specs.Listed.{HasLines, line_at, line_with, lines_at, size_in}
+use Rattle.lfs_tool.specs.Listings.{HasLines, line_at, line_with, lines_at, size_in}
 
 pub record HasSizes (disk : Disk) : Type 0 where
   pub enough : 1024 ≤ disk.block_size

@@ -12,16 +12,16 @@ use Rattle.lfs_model.specs.Listing as listing
 use Rattle.lfs_model.specs.Listing.{IsCarryingOver, IsWalk, operations_for, paths_in}
 use Rattle.lfs_model.specs.Names.{Name, name_cmp}
 use Rattle.lfs_model.specs.Operations.{Operation, path_bytes}
-use Rattle.lfs_model.specs.Source.{AFile, AFolder, IsTreeOf, IsNodeOf, Source, kind_given, given_names, path_in, standing}
+use Rattle.lfs_model.specs.Source.{AFile, AFolder, IsTreeOf, IsNodeOf, Source, kind_given, given_names, path_in, source_entry_at}
 use Rattle.lfs_model.specs.Tree.{Path, Node, FileNode, DirectoryNode, Tree}
 use Rattle.lfs_model.proofs.Counts.{Each, each_weaker}
 use Rattle.lfs_model.proofs.Names.{greater}
 use Rattle.lfs_model.proofs.Paths.{append_step}
-use Rattle.lfs_tool_folders.specs.Entries.{AreAll, AreRead, AreWithin, HoldsSource, Place, places_in}
-use Rattle.lfs_tool_folders.specs.InMemory.{items_by}
+use Rattle.lfs_tool_folders.specs.Entries.{AreAllEntries, AreEntriesAt, AreWithin, HoldsSource, Place, places_in}
+use Rattle.lfs_tool_folders.specs.MemorySources.{items_by}
 use Rattle.lfs_tool_folders.specs.declared.entries.SourceEntry.{SourceEntry}
-use Rattle.lfs_tool.specs.Applied.{node_by, operations_of, operations_of_all}
-use Rattle.lfs_tool.specs.Made.{CarryOver}
+use Rattle.lfs_tool.specs.AppliedOperations.{node_by, operations_of, operations_of_all}
+use Rattle.lfs_tool.specs.MadeImages.{CarryOver}
 use Rattle.lfs_tool.proofs.Growing.{beneath, carried_tree, tree_after}
 use Rattle.lfs_tool.proofs.NamesGiven.{Rising, each_found, kind_moved, less_unlike, rising_from}
 use Rattle.lfs_tool.proofs.PathPlaces.{path_more}
@@ -77,7 +77,7 @@ same_rising (x ∷ xs) (y ∷ ys) r s h k =
 -- what stands at the path is what stands at the place
 record Stands (s : Source) (q : Path) (p : Place) : Type 0 where
   bytes : path_bytes q ≡ p.0
-  leads : (rest : Path) → standing s [] (q ++ rest) ≡ beneath s p.0 rest p.1
+  leads : (rest : Path) → source_entry_at s [] (q ++ rest) ≡ beneath s p.0 rest p.1
 
 abbrev AllStand : Source → List Path → List Place → Type 0
 AllStand s [] [] = Unit {0}
@@ -91,13 +91,13 @@ stand_append s [] rs (p ∷ ps) os h k = absurd h
 stand_append s (q ∷ qs) rs [] os h k = absurd h
 stand_append s (q ∷ qs) rs (p ∷ ps) os h k = (h.0, stand_append s qs rs ps os h.1 k)
 
-below_stand : (s : Source) (q : Path) (folder : List ℕ) (given : List (Name × Bool)) → path_bytes q ≡ folder → ((rest : Path) → standing s [] (q ++ rest) ≡ standing s folder rest)
+below_stand : (s : Source) (q : Path) (folder : List ℕ) (given : List (Name × Bool)) → path_bytes q ≡ folder → ((rest : Path) → source_entry_at s [] (q ++ rest) ≡ source_entry_at s folder rest)
     → Each (λ g. kind_given g.0 (s.names folder) ≡ Some g.1) given → AllStand s (map (λ n. q ++ n ∷ []) (given_names given)) (places_in folder given)
 below_stand s q folder [] at leads kinds = tt
 below_stand s q folder (g ∷ given) at leads kinds = (
   record {
     bytes = path_more q g.0 ∙ ap (λ f. path_in f g.0) at;
-    leads = λ rest. ap (standing s []) (append_step q g.0 rest) ∙ leads (g.0 ∷ rest) ∙ ap (option_and_then (beneath s (path_in folder g.0) rest)) kinds.0;
+    leads = λ rest. ap (source_entry_at s []) (append_step q g.0 rest) ∙ leads (g.0 ∷ rest) ∙ ap (option_and_then (beneath s (path_in folder g.0) rest)) kinds.0;
   },
   below_stand s q folder given at leads kinds.1,
 )
@@ -133,7 +133,7 @@ met_file s tree q folder bytes within (Some (FileNode attributes shown)) e at is
 }
 met_file s tree q folder bytes within (Some (DirectoryNode attributes shown)) e at is none h = absurd h
 
-met_folder : (s : Source) (tree : Tree) (q : Path) (folder : List ℕ) (within : List (Name × Bool)) (o : Option Node) → tree q ≡ o → path_bytes q ≡ folder → ((rest : Path) → standing s [] (q ++ rest) ≡ standing s folder rest)
+met_folder : (s : Source) (tree : Tree) (q : Path) (folder : List ℕ) (within : List (Name × Bool)) (o : Option Node) → tree q ≡ o → path_bytes q ≡ folder → ((rest : Path) → source_entry_at s [] (q ++ rest) ≡ source_entry_at s folder rest)
     → AreWithin (Some s) folder within → IsNodeOf (Some (AFolder (given_names (s.names folder)))) o → IsMet s tree q (folder, true) None within
 met_folder s tree q folder within None e at leads w h = absurd h
 met_folder s tree q folder within (Some (FileNode attributes shown)) e at leads w h = absurd h
@@ -154,12 +154,12 @@ met : (s : Source) (tree : Tree) (q : Path) (folder : List ℕ) (k : Bool) (o : 
     → IsMet s tree q (folder, k) o within
 met s tree q folder false None within shows stands holds = absurd holds
 met s tree q folder false (Some bytes) within shows stands holds =
-    met_file s tree q folder bytes within (tree q) refl stands.bytes holds.0 holds.1 (subst (λ x. IsNodeOf x (tree q)) (ap (standing s []) (sym (append-nil q)) ∙ stands.leads []) (shows q))
+    met_file s tree q folder bytes within (tree q) refl stands.bytes holds.0 holds.1 (subst (λ x. IsNodeOf x (tree q)) (ap (source_entry_at s []) (sym (append-nil q)) ∙ stands.leads []) (shows q))
 met s tree q folder true None within shows stands holds =
-    met_folder s tree q folder within (tree q) refl stands.bytes stands.leads holds (subst (λ x. IsNodeOf x (tree q)) (ap (standing s []) (sym (append-nil q)) ∙ stands.leads []) (shows q))
+    met_folder s tree q folder within (tree q) refl stands.bytes stands.leads holds (subst (λ x. IsNodeOf x (tree q)) (ap (source_entry_at s []) (sym (append-nil q)) ∙ stands.leads []) (shows q))
 met s tree q folder true (Some bytes) within shows stands holds = absurd holds
 
-walked : (s : Source) (tree : Tree) → IsTreeOf s tree → (es : List SourceEntry) (qs : List Path) (ps : List Place) → AllStand s qs ps → AreRead (Some s) ps es → IsWalked tree qs es
+walked : (s : Source) (tree : Tree) → IsTreeOf s tree → (es : List SourceEntry) (qs : List Path) (ps : List Place) → AllStand s qs ps → AreEntriesAt (Some s) ps es → IsWalked tree qs es
 walked s tree shows [] [] [] h read = record { entries = []; walk = tt; same = refl }
 walked s tree shows [] (q ∷ qs) [] h read = absurd h
 walked s tree shows [] qs (p ∷ ps) h read = absurd read
@@ -174,7 +174,7 @@ walked s tree shows (e ∷ es) (q ∷ qs) (p ∷ ps) h (path, (within, (holds, r
       same = ap₂ (λ (xs ys : List Operation). xs ++ ys) (ap (λ f. operations_for f (node_by (items_by e.bytes))) path ∙ m.operations) w.same;
     }
 
-pub carry_over : (known : Option Source) (es : List SourceEntry) → AreAll known es → CarryOver known (operations_of_all es)
+pub carry_over : (known : Option Source) (es : List SourceEntry) → AreAllEntries known es → CarryOver known (operations_of_all es)
 carry_over None es all = tt
 carry_over (Some s) es (top, (w, read)) =
     let whole = carried_tree s es (top, (w, read)) in

@@ -4,7 +4,7 @@ use Rattle.std.specs.Prelude.{OnErr, OnOk}
 use Rattle.lfs_tool.specs.declared.errors.ToolError.{ToolError}
 use Rattle.lfs_tool.specs.declared.errors.ToolError.TheVariants.{Output}
 use Rattle.lfs_tool.specs.declared.writer.Writer.{Ghosts}
-use Rattle.lfs_tool.specs.Reported.{ReportsWriter}
+use Rattle.lfs_tool.specs.Reports.{ReportsWriter}
 
 -- a text was written to it
 pub reports_written : {W X : Type 0} (g : Ghosts W) (old new : W) (r : Result X ToolError) → OnOk r (g.faults new ≡ g.faults old) → OnOk r (g.pending new ≡ 0)

@@ -17,12 +17,12 @@ pub record Fills (old new : Option (List ℕ)) (n : ℕ) (buffer : List ℕ) : T
   pub last : n < length buffer → IsAtEnd new
 
 -- the bytes are whole blocks, and these are excerpts of them
-pub record AreRead (size : ℕ) (bytes : List ℕ) (blocks : List BlockExcerpt) : Type 0 where
+pub record AreExcerptsOfBytes (size : ℕ) (bytes : List ℕ) (blocks : List BlockExcerpt) : Type 0 where
   pub whole : length bytes ≡ size * length blocks
   pub excerpts : AreExcerpts (cut size (length blocks) bytes) (blocks_shown blocks)
 
 -- an excerpt of this block follows the old blocks
-pub record IsPushed (block : List ℕ) (old new : List BlockExcerpt) : Type 0 where
+pub record IsExcerptPushed (block : List ℕ) (old new : List BlockExcerpt) : Type 0 where
   pub kept : BlockExcerpt
   pub is : new ≡ old ++ kept ∷ []
   pub excerpt : IsBlockExcerpt block (block_shown kept)

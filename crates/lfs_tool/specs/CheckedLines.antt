@@ -9,11 +9,11 @@ use Rattle.lfs_tool.specs.declared.findings.Stated.TheVariants as stated
 use Rattle.lfs_model.specs.Listing.{escaped_text, newline}
 use Rattle.lfs_model.specs.Slots.{address_of}
 use Rattle.lfs_tool.specs.declared.check_result.Given.{Given}
-use Rattle.lfs_tool.specs.declared.verdict.Orders.{Orders}
-use Rattle.lfs_tool.specs.declared.verdict.Orders.TheVariants as orders
+use Rattle.lfs_tool.specs.declared.verdict.AcceptedOrders.{AcceptedOrders}
+use Rattle.lfs_tool.specs.declared.verdict.AcceptedOrders.TheVariants as orders
 use Rattle.lfs_tool.specs.declared.check_result.Reason.{Reason}
 use Rattle.lfs_tool.specs.declared.check_result.Reason.TheVariants as reason
-use Rattle.lfs_tool.specs.declared.verdict.Summary.{Summary}
+use Rattle.lfs_tool.specs.declared.verdict.ImageSummary.{ImageSummary}
 use Rattle.lfs_tool.specs.declared.check_result.Checked.{Checked}
 use Rattle.lfs_tool.specs.declared.check_result.Checked.TheVariants as checked
 
@@ -26,7 +26,7 @@ count_line label n = label ++ decimal n ++ newline
 abbrev pub used_line : ℕ → ℕ → List ℕ
 used_line used blocks = (codes "used " ++ decimal used ++ codes " of " ++ decimal blocks) ++ (codes " blocks" ++ newline)
 
-abbrev pub order_line : Orders → List ℕ
+abbrev pub order_line : AcceptedOrders → List ℕ
 order_line orders.LongerFirst = codes "order longer-first" ++ newline
 order_line orders.ShorterFirst = codes "order shorter-first" ++ newline
 order_line orders.Either = codes "order either" ++ newline
@@ -39,10 +39,10 @@ abbrev pub writable_line : Bool → List ℕ
 writable_line true = codes "writable yes" ++ newline
 writable_line false = codes "writable no: beyond what this library writes" ++ newline
 
-abbrev pub blocks_text : Summary → List ℕ
+abbrev pub blocks_text : ImageSummary → List ℕ
 blocks_text s = used_line s.used s.blocks ++ count_line (codes "free ") (s.blocks - s.used)
 
-abbrev pub summary_text : Summary → Orders → List ℕ
+abbrev pub summary_text : ImageSummary → AcceptedOrders → List ℕ
 summary_text s orders =
     (codes "ok" ++ newline) ++ count_line (codes "files ") s.files ++ count_line (codes "directories ") s.directories
     ++ blocks_text s ++ order_line orders ++ recover_line s.recover ++ writable_line s.writable

@@ -8,8 +8,8 @@ use Rattle.lfs_tool.specs.declared.excerpt.Excerpt.{Excerpt}
 use Rattle.lfs_tool.specs.ExcerptBlocks.{blocks_shown}
 
 -- the size of the blocks that it cuts
-abbrev pub size_of : Cutter → ℕ
-size_of c = length c.padded.items
+abbrev pub cutter_block_size : Cutter → ℕ
+cutter_block_size c = length c.padded.items
 
 abbrev pub geometry_of : Excerpt → Geometry
 geometry_of e = e.geometry

@@ -5,7 +5,7 @@ use Rattle.std.specs.Io.KnownBytes.{Appends}
 use Rattle.lfs_model.specs.Listing.{escaped_text, newline}
 use Rattle.lfs_device.specs.declared.error.Error.TheVariants as fs
 use Rattle.lfs_model.specs.Source.{Source}
-use Rattle.lfs_tool_folders.specs.Entries.{AreAll}
+use Rattle.lfs_tool_folders.specs.Entries.{AreAllEntries}
 use Rattle.lfs_tool_folders.specs.declared.entries.SourceEntry.{SourceEntry}
 use Rattle.lfs_tool_folders.specs.declared.fault_log.PlaceFault.{PlaceFault}
 use Rattle.lfs_tool_line.specs.Matches.{IsLineOf, is_explained, rows}
@@ -15,11 +15,11 @@ use Rattle.lfs_tool_line.specs.declared.line.Mode.{Mode}
 use Rattle.lfs_tool_line.specs.declared.line.Mode.TheVariants as mode
 use Rattle.lfs_tool_line.specs.declared.sizes.SizeRule.{SizeRule}
 use Rattle.lfs_tool_line.specs.declared.sizes.Sizes.{Sizes}
-use Rattle.lfs_tool.specs.Checked.{IsCheckedAs}
+use Rattle.lfs_tool.specs.CheckResults.{IsCheckedAs}
 use Rattle.lfs_tool.specs.CheckedLines.{checked_text}
-use Rattle.lfs_tool.specs.Known.{AppendsBeginning}
+use Rattle.lfs_tool.specs.KnownBytes.{AppendsBeginning}
 use Rattle.lfs_tool.specs.Needed.{TakesBlocks}
-use Rattle.lfs_tool.specs.Placed.{At, By}
+use Rattle.lfs_tool.specs.RunsAtPaths.{HoldsAtPath, HoldsForMode}
 use Rattle.lfs_tool.specs.declared.needed_blocks.NeededBlocks.{NeededBlocks}
 use Rattle.lfs_tool.specs.declared.errors.Fault.{Fault}
 use Rattle.lfs_tool.specs.declared.errors.Fault.TheVariants as fault
@@ -66,7 +66,7 @@ IsSizeBy mode.Check made read = read
 
 abbrev pub HasSize : {I : Type 0} → (I → List ℕ) → (I → Option (List ℕ)) → Line → ℕ → Type 0
 HasSize path_of bytes line size =
-    IsSizeBy line.mode (size ≡ line.size) (At path_of line.image.now (λ i. IfSome (bytes i) (λ image. size ≡ length (take 268435457 image))))
+    IsSizeBy line.mode (size ≡ line.size) (HoldsAtPath path_of line.image.now (λ i. IfSome (bytes i) (λ image. size ≡ length (take 268435457 image))))
 
 -- The sizes are the line's, and the rule is broken. With no rule there are images of these sizes.
 abbrev pub HasBroken : {I : Type 0} → (I → List ℕ) → (I → Option (List ℕ)) → Line → Explanation → Type 0
@@ -76,7 +76,7 @@ HasBroken path_of bytes line other = ⊥
 
 abbrev pub HasChecked : {I : Type 0} → (I → List ℕ) → (I → Option (List ℕ)) → Line → Explanation → Type 0
 HasChecked path_of bytes line (explanation.Checked checked) =
-    At path_of line.image.now (λ i. IfSome (bytes i) (λ image. IsCheckedAs line.block_size line.page image checked))
+    HoldsAtPath path_of line.image.now (λ i. IfSome (bytes i) (λ image. IsCheckedAs line.block_size line.page image checked))
 HasChecked path_of bytes line other = ⊥
 
 -- a file or a folder met a fault, or none is known
@@ -90,11 +90,11 @@ IsFaultOrNothing other = ⊥
 abbrev pub NeedsBlocks : {F : Type 0} → (F → List ℕ) → (F → Option Source) → Line → List ℕ → Explanation → Type 0
 NeedsBlocks folder_of shown line folder (explanation.Blocks needed) =
     (needed.blocks ≡ line.size / line.block_size)
-    × At folder_of folder (λ f. (entries : List SourceEntry) × (AreAll (shown f) entries × IfSome needed.enough (TakesBlocks line entries)))
+    × HoldsAtPath folder_of folder (λ f. (entries : List SourceEntry) × (AreAllEntries (shown f) entries × IfSome needed.enough (TakesBlocks line entries)))
 NeedsBlocks folder_of shown line folder other = ⊥
 
 abbrev pub HasBlocks : {F : Type 0} → (F → List ℕ) → (F → Option Source) → Line → Explanation → Type 0
-HasBlocks folder_of shown line e = By line.mode (e ≡ explanation.Nothing) (e ≡ explanation.Nothing) (λ folder. NeedsBlocks folder_of shown line folder e) (λ _. e ≡ explanation.Nothing)
+HasBlocks folder_of shown line e = HoldsForMode line.mode (e ≡ explanation.Nothing) (e ≡ explanation.Nothing) (λ folder. NeedsBlocks folder_of shown line folder e) (λ _. e ≡ explanation.Nothing)
 
 -- this explains the error: of sizes the rule that is broken, of an image what a check says, of too few blocks how many it takes
 abbrev pub IsExplanation : {I F : Type 0} → (I → List ℕ) → (I → Option (List ℕ)) → (F → List ℕ) → (F → Option Source) → Line → ToolError → Explanation → Type 0

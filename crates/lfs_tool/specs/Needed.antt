@@ -4,7 +4,7 @@ use Rattle.lfs_device.specs.declared.error.Error.TheVariants.{NoSpace}
 use Rattle.lfs_device.specs.declared.geometry.Geometry.{Geometry}
 use Rattle.lfs_tool_folders.specs.declared.entries.SourceEntry.{SourceEntry}
 use Rattle.lfs_tool_line.specs.declared.line.Line.{Line}
-use Rattle.lfs_tool.specs.Made.{AreLeft, IsRefused}
+use Rattle.lfs_tool.specs.MadeImages.{AreBytesLeftBy, RefusesEntries}
 
 -- the geometry has the line's blocks, pages and order, and so many blocks
 pub record HasCount (line : Line) (count : ℕ) (g : Geometry) : Type 0 where
@@ -18,13 +18,13 @@ pub record HasRoom (line : Line) (entries : List SourceEntry) (count : ℕ) : Ty
   pub geometry : Geometry
   pub sizes : HasCount line count geometry
   pub image : List ℕ
-  pub left : AreLeft geometry entries image
+  pub left : AreBytesLeftBy geometry entries image
 
 -- one of so many is refused: too few blocks are free
 pub record IsTooSmall (line : Line) (entries : List SourceEntry) (count : ℕ) : Type 0 where
   pub geometry : Geometry
   pub sizes : HasCount line count geometry
-  pub refused : IsRefused geometry entries NoSpace
+  pub refused : RefusesEntries geometry entries NoSpace
 
 -- so many blocks hold the entries, and one less doesn't
 pub record TakesBlocks (line : Line) (entries : List SourceEntry) (count : ℕ) : Type 0 where

@@ -4,7 +4,7 @@ use Rattle.std.specs.Global.{Global}
 use Rattle.std.specs.String.{string_bytes}
 use Rattle.std.specs.Io.Buffered.{reader_inner}
 use Rattle.std.specs.declared.io.buffered.BufReader.{BufReader}
-use Rattle.lfs_tool.specs.Watched.{inner_of}
+use Rattle.lfs_tool.specs.WatchedStreams.{inner_of}
 use Rattle.lfs_tool.specs.declared.watched_stream.Watched.{Watched}
 use Rattle.lfs_tool.specs.declared.noted_files.Noted.{Noted}
 use Rattle.lfs_tool.specs.declared.old_image.OldImage.{OldImage}

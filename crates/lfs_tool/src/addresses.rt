@@ -3,16 +3,16 @@
 ghost use Rattle.std.specs.Prelude.{◌≡◌, ◌↔◌, ◌<◌, IfNone, IfSome, IsTrue, Some};
 ghost use Rattle.lfs_model.specs.Disk.{Disk, block_count};
 ghost use Rattle.lfs_model.specs.Slots.{address_of};
-ghost use Rattle.lfs_tool.specs.Found.{Has, IsUnread};
-ghost use Rattle.lfs_tool.specs.Leading.{IsNamed};
-ghost use Rattle.lfs_tool.specs.Reading.{AreHeld};
+ghost use Rattle.lfs_tool.specs.Findings.{NamesBlock, IsThreadFault};
+ghost use Rattle.lfs_tool.specs.ThreadBeginnings.{IsNamedByThread};
+ghost use Rattle.lfs_tool.specs.PairReads.{AreFirstPairs};
 
 use crate::findings::Finding;
-use crate::held_parts::HeldPair;
+use crate::owned_parts::OwnedPair;
 
 // Returns what is wrong with the two addresses of a pair by themselves.
 pub(crate) fn range_fault(count: u32, pair: [u32; 2]) -> Option<Finding>
-    ensures fault { IfSome result (λ f. (disk : Disk) → block_count disk ≡ count → IsNamed disk (address_of pair) → IsUnread disk f) }
+    ensures fault { IfSome result (λ f. (disk : Disk) → block_count disk ≡ count → IsNamedByThread disk (address_of pair) → IsThreadFault disk f) }
     ensures first { IfNone result ((address_of pair).0 < count) }
     ensures second { IfNone result ((address_of pair).1 < count) }
 {
@@ -34,15 +34,15 @@ pub(crate) fn range_fault(count: u32, pair: [u32; 2]) -> Option<Finding>
 
 // Returns whether one of the two addresses is that block's.
 fn has(pair: [u32; 2], block: u32) -> bool
-    ensures { IsTrue result ↔ Has (address_of pair) block }
+    ensures { IsTrue result ↔ NamesBlock (address_of pair) block }
 {
     pair[0] == block || pair[1] == block
 }
 
 // Returns the block, if it is in one of these pairs, which come before the pair.
-fn block_fault(pairs: &[HeldPair], pair: [u32; 2], block: u32) -> Option<Finding>
-    requires { Has (address_of pair) block }
-    ensures { IfSome result (λ f. (disk : Disk) → AreHeld disk (Some (address_of pair)) pairs.now → IsUnread disk f) }
+fn block_fault(pairs: &[OwnedPair], pair: [u32; 2], block: u32) -> Option<Finding>
+    requires { NamesBlock (address_of pair) block }
+    ensures { IfSome result (λ f. (disk : Disk) → AreFirstPairs disk (Some (address_of pair)) pairs.now → IsThreadFault disk f) }
 {
     for held in pairs {
         if has(held.at, block) {
@@ -60,10 +60,10 @@ fn block_fault(pairs: &[HeldPair], pair: [u32; 2], block: u32) -> Option<Finding
 // these pairs, so the others aren't searched. The pair's blocks are marked then.
 pub(crate) fn twice_fault(
     marks: &mut Vec<bool>,
-    pairs: &[HeldPair],
+    pairs: &[OwnedPair],
     pair: [u32; 2],
 ) -> Option<Finding>
-    ensures { IfSome result (λ f. (disk : Disk) → AreHeld disk (Some (address_of pair)) pairs.now → IsUnread disk f) }
+    ensures { IfSome result (λ f. (disk : Disk) → AreFirstPairs disk (Some (address_of pair)) pairs.now → IsThreadFault disk f) }
 {
     for block in pair {
         let place = block as usize;

@@ -3,10 +3,10 @@
 ghost use Rattle.std.specs.Prelude.{◌≡◌, ◌≤◌, ◌*◌, IfErr, IfOk, IfSome, OnOk, None, length, suc};
 ghost use Rattle.lfs_tool.specs.ExcerptBlocks.{HaveSize};
 ghost use Rattle.lfs_model.specs.Disk.{IsImage};
-ghost use Rattle.lfs_tool.specs.ExcerptView.{size_of};
-ghost use Rattle.lfs_tool.specs.Blocks.{AreRead, Fills, IsPushed};
-ghost use Rattle.lfs_tool.specs.Known.{FailsToRead};
-ghost use Rattle.lfs_tool.specs.Reported.{IsReadToEnd};
+ghost use Rattle.lfs_tool.specs.ExcerptView.{cutter_block_size};
+ghost use Rattle.lfs_tool.specs.Blocks.{AreExcerptsOfBytes, Fills, IsExcerptPushed};
+ghost use Rattle.lfs_tool.specs.KnownBytes.{FailsToRead};
+ghost use Rattle.lfs_tool.specs.Reports.{IsReadToEnd};
 
 use crate::input::IMAGE_MAX;
 use crate::{BlockExcerpt, Cutter, Reader, ToolError};
@@ -39,7 +39,7 @@ pub(crate) fn read_blocks<R: Reader>(
     block_size: u32,
 ) -> Result<Option<Vec<BlockExcerpt>>, ToolError>
     requires { 1024 ≤ block_size }
-    ensures blocks { IfOk result (λ found. IfSome found (λ blocks. IfSome (R.remaining image.old) (λ bytes. AreRead block_size bytes blocks.items))) }
+    ensures blocks { IfOk result (λ found. IfSome found (λ blocks. IfSome (R.remaining image.old) (λ bytes. AreExcerptsOfBytes block_size bytes blocks.items))) }
     ensures sizes { IfOk result (λ found. IfSome found (λ blocks. HaveSize block_size blocks.items × (block_size * length blocks.items ≤ IMAGE_MAX))) }
     ensures none { IfOk result (λ found. found ≡ None → IfSome (R.remaining image.old) (λ bytes. (page : _) → ¬ IsImage block_size page bytes)) }
     ensures read { OnOk result (IsReadToEnd (R.remaining image.old) (R.remaining image.new)) }
@@ -65,7 +65,7 @@ pub(crate) fn read_blocks<R: Reader>(
 // Makes the cutter of blocks of so many bytes, and the buffer for one block.
 fn room_for(alloc: Global, size: usize) -> Result<(Cutter, Vec<u8>), Error>
     requires { 1024 ≤ size }
-    ensures sizes { IfOk result (λ room. (size_of room.0 ≡ size) × (length room.1.items ≡ size)) }
+    ensures sizes { IfOk result (λ room. (cutter_block_size room.0 ≡ size) × (length room.1.items ≡ size)) }
     ensures err { IfErr result (λ e. e ≡ Error.NoMemory) }
 {
     let cutter = Cutter::new(alloc, size)?;
@@ -80,9 +80,9 @@ fn push_block(
     block: &[u8],
     blocks: &mut Vec<BlockExcerpt>,
 ) -> Result<(), Error>
-    requires { length block.now ≡ size_of cutter.old }
-    ensures pushed { OnOk result (IsPushed block.now blocks.old.items blocks.new.items) }
-    ensures same { size_of cutter.new ≡ size_of cutter.old }
+    requires { length block.now ≡ cutter_block_size cutter.old }
+    ensures pushed { OnOk result (IsExcerptPushed block.now blocks.old.items blocks.new.items) }
+    ensures same { cutter_block_size cutter.new ≡ cutter_block_size cutter.old }
     ensures err { IfErr result (λ e. e ≡ Error.NoMemory) }
 {
     let kept = cutter.cut(alloc, block)?;

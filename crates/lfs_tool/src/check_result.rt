@@ -1,7 +1,7 @@
 // The result of a check of an image.
 
 use crate::findings::{Finding, Stated};
-use crate::verdict::{Orders, Summary};
+use crate::verdict::{AcceptedOrders, ImageSummary};
 
 /// The sizes with which an image is checked: of a block and a page in bytes, and the number of
 /// whole blocks.
@@ -28,6 +28,12 @@ pub enum Reason {
 /// Whether an image is accepted, and with what, or why not.
 #[derive(Drop)]
 pub enum Checked {
-    Accepted { summary: Summary, orders: Orders },
-    Refused { reason: Reason, given: Given },
+    Accepted {
+        summary: ImageSummary,
+        orders: AcceptedOrders,
+    },
+    Refused {
+        reason: Reason,
+        given: Given,
+    },
 }

@@ -9,7 +9,7 @@ ghost use Rattle.lfs_tool.specs.CheckedLines.{address_text, blocks_text, count_l
 use crate::check_result::{Checked, Given, Reason};
 use crate::escape::escape_path;
 use crate::findings::{Finding, Place, Stated};
-use crate::verdict::{Orders, Summary};
+use crate::verdict::{AcceptedOrders, ImageSummary};
 use std::alloc::{AllocError, Global};
 use std::io::Write;
 
@@ -62,7 +62,7 @@ fn push_usage(text: &mut Vec<u8>, used: u32, blocks: u32) -> Result<(), AllocErr
     Ok(())
 }
 
-fn push_blocks(text: &mut Vec<u8>, summary: &Summary) -> Result<(), AllocError>
+fn push_blocks(text: &mut Vec<u8>, summary: &ImageSummary) -> Result<(), AllocError>
     ensures { OnOk result (text.new.items ≡ text.old.items ++ blocks_text summary.now) }
 {
     let free = summary.blocks.saturating_sub(summary.used);
@@ -71,13 +71,13 @@ fn push_blocks(text: &mut Vec<u8>, summary: &Summary) -> Result<(), AllocError>
     Ok(())
 }
 
-fn push_order(text: &mut Vec<u8>, orders: Orders) -> Result<(), AllocError>
+fn push_order(text: &mut Vec<u8>, orders: AcceptedOrders) -> Result<(), AllocError>
     ensures { OnOk result (text.new.items ≡ text.old.items ++ order_line orders) }
 {
     match orders {
-        Orders::LongerFirst => push_line(text, "order longer-first"),
-        Orders::ShorterFirst => push_line(text, "order shorter-first"),
-        Orders::Either => push_line(text, "order either"),
+        AcceptedOrders::LongerFirst => push_line(text, "order longer-first"),
+        AcceptedOrders::ShorterFirst => push_line(text, "order shorter-first"),
+        AcceptedOrders::Either => push_line(text, "order either"),
     }
 }
 
@@ -102,7 +102,11 @@ fn push_writable(text: &mut Vec<u8>, writable: bool) -> Result<(), AllocError>
 }
 
 // Adds the lines of an accepted image.
-fn push_summary(text: &mut Vec<u8>, summary: &Summary, orders: Orders) -> Result<(), AllocError>
+fn push_summary(
+    text: &mut Vec<u8>,
+    summary: &ImageSummary,
+    orders: AcceptedOrders,
+) -> Result<(), AllocError>
     ensures { OnOk result (text.new.items ≡ text.old.items ++ summary_text summary.now orders) }
 {
     push_line(text, "ok")?;

@@ -1,8 +1,8 @@
 ghost use Rattle.std.specs.Prelude.{◌≡◌, ◌≢◌, IfErr, IfOk, IsErrOf, OnOk};
-ghost use Rattle.lfs_fs.specs.Held.{system_state_of};
-ghost use Rattle.lfs_tool.specs.Reported.{ReportsWriter};
-ghost use Rattle.lfs_tool.specs.Made.{AreLeft, Begins, HasRefusal, IsBeginningOfImage, IsCreated, IsRefused, ReportsSource};
-ghost use Rattle.lfs_tool_folders.specs.Entries.{AreAll};
+ghost use Rattle.lfs_fs.specs.SessionView.{system_state_of};
+ghost use Rattle.lfs_tool.specs.Reports.{ReportsWriter};
+ghost use Rattle.lfs_tool.specs.MadeImages.{AreBytesLeftBy, BeginsOnFresh, HasRefusal, IsBeginningOfImage, HasWrittenImageOf, RefusesEntries, ReportsSource};
+ghost use Rattle.lfs_tool_folders.specs.Entries.{AreAllEntries};
 
 use crate::source_entries::carry_over;
 use crate::{ToolError, Writer, write_bytes};
@@ -16,7 +16,7 @@ pub(crate) fn read_source<S: Source>(
     alloc: Global,
     source: &mut S,
 ) -> Result<Vec<SourceEntry>, ToolError>
-    ensures entries { IfOk result (λ v. AreAll (S.shown source.old) v.items) }
+    ensures entries { IfOk result (λ v. AreAllEntries (S.shown source.old) v.items) }
     ensures source { ReportsSource (S.faults source.old) (S.faults source.new) (S.shown source.old) result }
     ensures other { IfErr result (λ e. e ≢ ToolError.Input → e ≡ ToolError.Fs Error.NoMemory) }
 {
@@ -29,7 +29,7 @@ pub(crate) fn read_source<S: Source>(
 
 // Begins a session over an empty image in memory.
 fn begin(alloc: Global, geometry: Geometry) -> Result<Session<RamDevice>, Error>
-    ensures begins { IfOk result (λ s. Begins geometry (system_state_of s)) }
+    ensures begins { IfOk result (λ s. BeginsOnFresh geometry (system_state_of s)) }
     ensures err { IfErr result (λ e. e ≡ Error.NoMemory) }
 {
     let device = RamDevice::blank(alloc, geometry)?;
@@ -46,8 +46,8 @@ pub(crate) fn make(
     geometry: Geometry,
     entries: &[SourceEntry],
 ) -> Result<Vec<u8>, Error>
-    ensures ok { IfOk result (λ v. AreLeft geometry entries.now v.items) }
-    ensures err { IfErr result (λ e. e ≢ Error.NoMemory → IsRefused geometry entries.now e) }
+    ensures ok { IfOk result (λ v. AreBytesLeftBy geometry entries.now v.items) }
+    ensures err { IfErr result (λ e. e ≢ Error.NoMemory → RefusesEntries geometry entries.now e) }
 {
     let mut session = begin(alloc, geometry)?;
     carry_over(alloc, &mut session, entries)?;
@@ -74,7 +74,7 @@ pub fn create<S: Source, W: Writer>(
     geometry: Geometry,
     out: &mut W,
 ) -> Result<(), ToolError>
-    ensures ok { OnOk result (IsCreated geometry (S.shown source.old) (W.contents out.old) (W.contents out.new)) }
+    ensures ok { OnOk result (HasWrittenImageOf geometry (S.shown source.old) (W.contents out.old) (W.contents out.new)) }
 
     // The writer isn't called, unless it fails: then a beginning of the image may be written.
     ensures writer { ReportsWriter W.Writer out.old out.new result }

@@ -1,7 +1,7 @@
 ghost use Rattle.std.specs.Prelude.{◌≡◌, ◌≢◌, ◌⊎◌, IsErrOf, OnOk};
-ghost use Rattle.lfs_tool.specs.Reported.{ReportsWriter};
-ghost use Rattle.lfs_tool.specs.Made.{HasRefusal, IsBeginningOfImage, IsCreated, ReportsSource};
-ghost use Rattle.lfs_tool.specs.Asked.{HasNoGeometry, HasSizes};
+ghost use Rattle.lfs_tool.specs.Reports.{ReportsWriter};
+ghost use Rattle.lfs_tool.specs.MadeImages.{HasRefusal, IsBeginningOfImage, HasWrittenImageOf, ReportsSource};
+ghost use Rattle.lfs_tool.specs.RequestedSizes.{HasNoGeometry, HasSizesOfLine};
 
 use crate::{Line, ToolError, Writer, create, geometry_for};
 use lfs_device::Error;
@@ -20,16 +20,16 @@ pub fn create_by_line<S: Source, W: Writer>(
     source: &mut S,
     out: &mut W,
 ) -> Result<(), ToolError>
-    ensures ok { OnOk result ((g : _) × (HasSizes line.now g × IsCreated g (S.shown source.old) (W.contents out.old) (W.contents out.new))) }
+    ensures ok { OnOk result ((g : _) × (HasSizesOfLine line.now g × HasWrittenImageOf g (S.shown source.old) (W.contents out.old) (W.contents out.new))) }
 
     // The writer isn't called, unless it fails: then a beginning of the image may be written.
     ensures writer { ReportsWriter W.Writer out.old out.new result }
     ensures beginning { IsErrOf result ToolError.Output
-        → (g : _) × (HasSizes line.now g × IsBeginningOfImage g (S.shown source.old) (W.contents out.old) (W.contents out.new)) }
+        → (g : _) × (HasSizesOfLine line.now g × IsBeginningOfImage g (S.shown source.old) (W.contents out.old) (W.contents out.new)) }
 
     // When each other error comes. The source has a fault at `Input` alone.
     ensures refused { (e : _) → IsErrOf result (ToolError.Fs e) → e ≢ Error.NoMemory
-        → HasNoGeometry line.now e ⊎ ((g : _) × (HasSizes line.now g × HasRefusal g (S.shown source.old) e)) }
+        → HasNoGeometry line.now e ⊎ ((g : _) × (HasSizesOfLine line.now g × HasRefusal g (S.shown source.old) e)) }
     ensures source { ReportsSource (S.faults source.old) (S.faults source.new) (S.shown source.old) result }
     ensures unread { HasNoGeometry line.now Error.Invalid → (source.new ≡ source.old) × IsErrOf result (ToolError.Fs Error.Invalid) }
 {

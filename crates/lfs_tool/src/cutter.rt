@@ -21,7 +21,7 @@ pub struct Cutter {
 impl Cutter {
     ghost use Rattle.std.specs.Prelude.{◌≡◌, IfOk};
     ghost use Rattle.lfs_tool.specs.ExcerptBlocks.{block_shown};
-    ghost use Rattle.lfs_tool.specs.ExcerptView.{size_of};
+    ghost use Rattle.lfs_tool.specs.ExcerptView.{cutter_block_size};
     ghost use Rattle.lfs_tool.specs.Excerpt.{IsBlockExcerpt, is_kept_whole, kept_bytes};
 
     /// Makes a cutter for blocks of so many bytes, at least 132.
@@ -29,7 +29,7 @@ impl Cutter {
     /// Errors: `NoMemory` where memory for a block isn't granted.
     pub fn new(alloc: Global, block_size: usize) -> Result<Cutter, Error>
         requires { 132 ≤ block_size }
-        ensures size { IfOk result (λ c. size_of c ≡ block_size) }
+        ensures size { IfOk result (λ c. cutter_block_size c ≡ block_size) }
         ensures err { IfErr result (λ e. e ≡ Error.NoMemory) }
     {
         let padded = Vec::from_elem(alloc, 0xffu8, block_size)?;
@@ -42,10 +42,10 @@ impl Cutter {
     ///
     /// Errors: `NoMemory` where memory for the excerpt isn't granted.
     pub fn cut(&mut self, alloc: Global, block: &[u8]) -> Result<BlockExcerpt, Error>
-        requires { length block.now ≡ size_of self.old }
+        requires { length block.now ≡ cutter_block_size self.old }
         ensures excerpt { IfOk result (λ b. IsBlockExcerpt block.now (block_shown b)) }
         ensures sizes { IfOk result (λ b. (b.size ≡ length block.now) × (length b.bytes.items ≡ kept_bytes block.now)) }
-        ensures same { size_of self.new ≡ size_of self.old }
+        ensures same { cutter_block_size self.new ≡ cutter_block_size self.old }
         ensures err { IfErr result (λ e. e ≡ Error.NoMemory) }
     {
         let len = if self.keeps_whole(block) {
@@ -59,10 +59,10 @@ impl Cutter {
 
     // Returns whether the block has a commit, or would have one with 0xff after its first bytes.
     fn keeps_whole(&mut self, block: &[u8]) -> bool
-        requires size { length block.now ≡ size_of self.old }
+        requires size { length block.now ≡ cutter_block_size self.old }
         requires room { 132 ≤ length block.now }
         ensures is { result ≡ is_kept_whole block.now }
-        ensures same { size_of self.new ≡ size_of self.old }
+        ensures same { cutter_block_size self.new ≡ cutter_block_size self.old }
     {
         if Log::read(block).has_commit() {
             return true;

@@ -1,9 +1,9 @@
 ghost use Rattle.std.specs.Prelude.{◌≡◌, IfSome, None, false, true};
 ghost use Rattle.std.specs.Io.KnownBytes.{Appends};
-ghost use Rattle.lfs_tool.specs.Known.{AppendsBeginning};
-ghost use Rattle.lfs_tool.specs.Ending.{own_line, shows_help, status_of};
+ghost use Rattle.lfs_tool.specs.KnownBytes.{AppendsBeginning};
+ghost use Rattle.lfs_tool.specs.ExitStatus.{own_line, shows_help, status_of};
 ghost use Rattle.lfs_tool.specs.Errors.{tool_line, tool_status};
-ghost use Rattle.lfs_tool.specs.Reported.{HasShown};
+ghost use Rattle.lfs_tool.specs.Reports.{HasShown};
 
 use crate::output::write_bytes;
 use crate::{Fault, ToolError, Writer};

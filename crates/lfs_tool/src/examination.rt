@@ -1,17 +1,17 @@
 // Whether the bytes of an image are accepted, and with what, or why not.
 
 ghost use Rattle.std.specs.Prelude.{◌≡◌, ◌<◌, ◌≤◌, ◌^◌, List, ℕ, IfErr, IfOk, IfSome, IsErrOf, OnOk, length};
-ghost use Rattle.lfs_tool.specs.Stated.{IsStatedIn};
-ghost use Rattle.lfs_tool.specs.Checked.{AreRefused, IsCheckedAs, IsGiven, IsJudged, IsReason};
-ghost use Rattle.lfs_tool.specs.Known.{FailsToRead};
-ghost use Rattle.lfs_tool.specs.Reported.{IsReadToEnd};
+ghost use Rattle.lfs_tool.specs.WrongNumbers.{IsWrongNumberIn};
+ghost use Rattle.lfs_tool.specs.CheckResults.{AreRefused, IsCheckedAs, AreGivenSizes, IsVerdictOnBytes, IsReason};
+ghost use Rattle.lfs_tool.specs.KnownBytes.{FailsToRead};
+ghost use Rattle.lfs_tool.specs.Reports.{IsReadToEnd};
 
 use crate::check_result::{Checked, Given, Reason};
 use crate::findings::Stated;
 use crate::image_devices::device_of;
 use crate::input::{IMAGE_MAX, read_image};
 use crate::judgement::judge;
-use crate::superblocks::misstated_in;
+use crate::superblocks::wrong_number_in;
 use crate::verdict::Verdict;
 use crate::{Reader, ToolError};
 use lfs_device::Error;
@@ -25,7 +25,7 @@ fn judge_image(
     page: u32,
 ) -> Result<Option<Verdict>, Error>
     requires { length image.items < 2 ^ 32 }
-    ensures judged { IfOk result (IsJudged block_size page image.items) }
+    ensures judged { IfOk result (IsVerdictOnBytes block_size page image.items) }
     ensures err { IfErr result (λ e. e ≡ Error.NoMemory) }
 {
     match device_of(image, block_size, page) {
@@ -38,8 +38,8 @@ fn judge_image(
 }
 
 // Returns the sizes with which an image of so many bytes is checked.
-fn given_of(len: usize, block_size: u32, page: u32) -> Given
-    ensures { (image : List ℕ) → length image ≡ len → IsGiven block_size page image result }
+fn given_sizes(len: usize, block_size: u32, page: u32) -> Given
+    ensures { (image : List ℕ) → length image ≡ len → AreGivenSizes block_size page image result }
 {
     let blocks = if block_size == 0 {
         0
@@ -54,9 +54,9 @@ fn given_of(len: usize, block_size: u32, page: u32) -> Given
 }
 
 // Returns the result for an image that isn't accepted. What its superblock states comes first.
-fn refused_as(stated: Option<Stated>, reason: Reason, given: Given) -> Checked
-    ensures { (block_size : ℕ) (page : ℕ) (image : List ℕ) → AreRefused block_size page image → IfSome stated (IsStatedIn image block_size)
-        → IsReason block_size page image reason → IsGiven block_size page image given → IsCheckedAs block_size page image result }
+fn refusal_of_image(stated: Option<Stated>, reason: Reason, given: Given) -> Checked
+    ensures { (block_size : ℕ) (page : ℕ) (image : List ℕ) → AreRefused block_size page image → IfSome stated (IsWrongNumberIn image block_size)
+        → IsReason block_size page image reason → AreGivenSizes block_size page image given → IsCheckedAs block_size page image result }
 {
     let reason = match stated {
         Some(stated) => Reason::Stated(stated),
@@ -66,17 +66,17 @@ fn refused_as(stated: Option<Stated>, reason: Reason, given: Given) -> Checked
 }
 
 // Returns the result for the bytes.
-fn checked_as(stated: Option<Stated>, verdict: Option<Verdict>, given: Given) -> Checked
-    ensures { (block_size : ℕ) (page : ℕ) (image : List ℕ) → IfSome stated (IsStatedIn image block_size) → IsJudged block_size page image verdict
-        → IsGiven block_size page image given → IsCheckedAs block_size page image result }
+fn result_for_bytes(stated: Option<Stated>, verdict: Option<Verdict>, given: Given) -> Checked
+    ensures { (block_size : ℕ) (page : ℕ) (image : List ℕ) → IfSome stated (IsWrongNumberIn image block_size) → IsVerdictOnBytes block_size page image verdict
+        → AreGivenSizes block_size page image given → IsCheckedAs block_size page image result }
 {
     match verdict {
         Some(Verdict::Accepted { summary, orders }) => Checked::Accepted { summary, orders },
         Some(Verdict::Refused(Some(finding))) => {
-            refused_as(stated, Reason::Broken(finding), given)
+            refusal_of_image(stated, Reason::Broken(finding), given)
         }
-        Some(Verdict::Refused(None)) => refused_as(stated, Reason::Other, given),
-        None => refused_as(stated, Reason::NoImage, given),
+        Some(Verdict::Refused(None)) => refusal_of_image(stated, Reason::Other, given),
+        None => refusal_of_image(stated, Reason::NoImage, given),
     }
 }
 
@@ -91,10 +91,10 @@ fn examine_bytes(
     ensures checked { IfOk result (IsCheckedAs block_size page image.items) }
     ensures err { IfErr result (λ e. e ≡ Error.NoMemory) }
 {
-    let given = given_of(image.len(), block_size, page);
-    let stated = misstated_in(&image, block_size);
+    let given = given_sizes(image.len(), block_size, page);
+    let stated = wrong_number_in(&image, block_size);
     let verdict = judge_image(alloc, image, block_size, page)?;
-    Ok(checked_as(stated, verdict, given))
+    Ok(result_for_bytes(stated, verdict, given))
 }
 
 /// Returns whether an image is accepted, and with what, or why not. The result is `Accepted`
@@ -120,8 +120,8 @@ pub fn examine<R: Reader>(
 {
     let bytes = read_image(alloc, image)?;
     if bytes.len() > IMAGE_MAX {
-        let given = given_of(bytes.len(), block_size, page);
-        return Ok(refused_as(None, Reason::NoImage, given));
+        let given = given_sizes(bytes.len(), block_size, page);
+        return Ok(refusal_of_image(None, Reason::NoImage, given));
     }
     let checked = examine_bytes(alloc, bytes, block_size, page)?;
     Ok(checked)

@@ -4,8 +4,8 @@ ghost use Rattle.std.specs.Prelude.{◌≡◌, ◌⊎◌, IfOk, IfSome, length, 
 ghost use Rattle.std.specs.Io.KnownBytes.{Appends};
 ghost use Rattle.std.specs.String.{string_bytes};
 ghost use Rattle.lfs_tool.specs.Explained.{HasBlocks, HasBroken, HasChecked, HasSize, IsExplained, IsExplanation, IsFaultOrNothing, IsFollowed, NeedsBlocks};
-ghost use Rattle.lfs_tool.specs.Known.{AppendsBeginning};
-ghost use Rattle.lfs_tool.specs.Placed.{At};
+ghost use Rattle.lfs_tool.specs.KnownBytes.{AppendsBeginning};
+ghost use Rattle.lfs_tool.specs.RunsAtPaths.{HoldsAtPath};
 
 use crate::creation::read_source;
 use crate::explanation::{Explanation, explanation_lines};
@@ -20,7 +20,7 @@ use std::alloc::Global;
 
 // Returns the size in bytes of the image at a line's path.
 fn image_size<P: Places>(alloc: Global, places: &P, line: &Line<'_>) -> Result<usize, ToolError>
-    ensures { IfOk result (λ size. At P.image_path line.now.image.now (λ i. IfSome (P.Image.remaining i) (λ image. size ≡ length (take 268435457 image)))) }
+    ensures { IfOk result (λ size. HoldsAtPath P.image_path line.now.image.now (λ i. IfSome (P.Image.remaining i) (λ image. size ≡ length (take 268435457 image)))) }
 {
     let mut image = places.image(line.image)?;
     let bytes = read_image(alloc, &mut image)?;

@@ -6,13 +6,13 @@ ghost use Rattle.lfs_model.specs.EntryTypes.{SuperblockFields};
 ghost use Rattle.lfs_model.specs.Slots.{Inline, Struct as ModelStruct, address_of};
 ghost use Rattle.lfs_model.specs.Thread.{Pair, superblocks_before};
 ghost use Rattle.lfs_tag.specs.FieldsView.{superblock_view};
-ghost use Rattle.lfs_tool.specs.Broken.{HasFields, IsBroken, IsChained, IsMisstated};
+ghost use Rattle.lfs_tool.specs.BrokenRules.{HasFields, BreaksRule, IsChained, IsWrongNumberOf};
 ghost use Rattle.lfs_tool.specs.Device.{HasSizes};
 ghost use Rattle.lfs_lookup.specs.Items.{structure_view};
-ghost use Rattle.lfs_tool.specs.HeldView.{held_view, pair_view, pairs_view};
+ghost use Rattle.lfs_tool.specs.OwnedSlotView.{owned_slot_view, pair_view, pairs_view};
 
 use crate::findings::{Finding, Stated};
-use crate::held_parts::{HeldPair, HeldSlot};
+use crate::owned_parts::{OwnedPair, OwnedSlot};
 use crate::roots::starts_with_superblock;
 use crate::superblocks::unlike;
 use lfs_device::Geometry;
@@ -43,14 +43,14 @@ fn fields_in(bytes: &[u8]) -> Option<Superblock>
 
 // Returns which of these fields is wrong for the image.
 pub(crate) fn wrong_number(geometry: &Geometry, fields: &Superblock) -> Option<Stated>
-    ensures { IfSome result (λ stated. (disk : Disk) → HasSizes disk geometry.now → IsMisstated disk (superblock_view fields.now) stated) }
+    ensures { IfSome result (λ stated. (disk : Disk) → HasSizes disk geometry.now → IsWrongNumberOf disk (superblock_view fields.now) stated) }
 {
     unlike(geometry.block_size, geometry.block_count as usize, fields)
 }
 
 // Returns what is wrong with the fields of the superblock in a pair of the chain.
 fn fields_fault(geometry: &Geometry, pair: [u32; 2], fields: &Superblock) -> Option<Finding>
-    ensures { IfSome result (λ f. (disk : Disk) (ps : List Pair) (s : ModelStruct) → HasSizes disk geometry.now → IsChained ps (address_of pair) s → HasFields s (superblock_view fields.now) → IsBroken disk ps f) }
+    ensures { IfSome result (λ f. (disk : Disk) (ps : List Pair) (s : ModelStruct) → HasSizes disk geometry.now → IsChained ps (address_of pair) s → HasFields s (superblock_view fields.now) → BreaksRule disk ps f) }
 {
     match wrong_number(geometry, fields) {
         Some(stated) => Some(Finding::OtherFields { pair, stated }),
@@ -59,8 +59,8 @@ fn fields_fault(geometry: &Geometry, pair: [u32; 2], fields: &Superblock) -> Opt
 }
 
 // Returns what is wrong with the superblock in a pair of the chain.
-fn superblock_fault(geometry: &Geometry, pair: [u32; 2], first: &HeldSlot) -> Option<Finding>
-    ensures { IfSome result (λ f. (disk : Disk) (ps : List Pair) → HasSizes disk geometry.now → IsChained ps (address_of pair) (held_view first.now).struct → IsBroken disk ps f) }
+fn superblock_fault(geometry: &Geometry, pair: [u32; 2], first: &OwnedSlot) -> Option<Finding>
+    ensures { IfSome result (λ f. (disk : Disk) (ps : List Pair) → HasSizes disk geometry.now → IsChained ps (address_of pair) (owned_slot_view first.now).struct → BreaksRule disk ps f) }
 {
     match fields_of(&first.structure) {
         Some(fields) => fields_fault(geometry, pair, &fields),
@@ -69,8 +69,8 @@ fn superblock_fault(geometry: &Geometry, pair: [u32; 2], first: &HeldSlot) -> Op
 }
 
 // Returns what is wrong with the superblock in a pair of the chain, if the pair has one.
-fn pair_fault(geometry: &Geometry, pair: &HeldPair) -> Option<Finding>
-    ensures { IfSome result (λ f. (disk : Disk) (ps : List Pair) (index : ℕ) → HasSizes disk geometry.now → slice_get ps index ≡ Some (pair_view pair.now) → index ≤ superblocks_before ps → IsBroken disk ps f) }
+fn pair_fault(geometry: &Geometry, pair: &OwnedPair) -> Option<Finding>
+    ensures { IfSome result (λ f. (disk : Disk) (ps : List Pair) (index : ℕ) → HasSizes disk geometry.now → slice_get ps index ≡ Some (pair_view pair.now) → index ≤ superblocks_before ps → BreaksRule disk ps f) }
 {
     if pair.slots.is_empty() {
         None
@@ -81,10 +81,10 @@ fn pair_fault(geometry: &Geometry, pair: &HeldPair) -> Option<Finding>
 
 // Returns what is wrong with the superblocks of the chain, of which so many pairs are before the
 // root directory.
-fn chain_fault(geometry: &Geometry, pairs: &[HeldPair], root: usize) -> Option<Finding>
+fn chain_fault(geometry: &Geometry, pairs: &[OwnedPair], root: usize) -> Option<Finding>
     requires below { root < length pairs.now }
     requires root { root ≡ superblocks_before (pairs_view pairs.now) }
-    ensures { IfSome result (λ f. (disk : Disk) → HasSizes disk geometry.now → IsBroken disk (pairs_view pairs.now) f) }
+    ensures { IfSome result (λ f. (disk : Disk) → HasSizes disk geometry.now → BreaksRule disk (pairs_view pairs.now) f) }
 {
     for index in 0..root + 1 {
         if let Some(finding) = pair_fault(geometry, &pairs[index]) {
@@ -96,10 +96,10 @@ fn chain_fault(geometry: &Geometry, pairs: &[HeldPair], root: usize) -> Option<F
 
 // Returns what is wrong with the superblock's chain, of which so many pairs are before the root
 // directory (SPEC.md of littlefs, "0x0ff LFS_TYPE_SUPERBLOCK").
-pub(crate) fn head_fault(geometry: &Geometry, pairs: &[HeldPair], root: usize) -> Option<Finding>
+pub(crate) fn head_fault(geometry: &Geometry, pairs: &[OwnedPair], root: usize) -> Option<Finding>
     requires below { root < length pairs.now }
     requires root { root ≡ superblocks_before (pairs_view pairs.now) }
-    ensures { IfSome result (λ f. (disk : Disk) → HasSizes disk geometry.now → IsBroken disk (pairs_view pairs.now) f) }
+    ensures { IfSome result (λ f. (disk : Disk) → HasSizes disk geometry.now → BreaksRule disk (pairs_view pairs.now) f) }
 {
     if !starts_with_superblock(&pairs[root].slots) {
         return Some(Finding::NoSuperblock);

@@ -2,9 +2,9 @@
 
 ghost use Rattle.std.specs.Prelude.{◌≡◌, IfOk, IfSome, IsErrOf};
 ghost use Rattle.std.specs.Io.KnownBytes.{Appends};
-ghost use Rattle.lfs_tool.specs.Known.{AppendsBeginning};
-ghost use Rattle.lfs_tool.specs.Reported.{IsReadToEnd, ReportsOnce, ReportsWriter};
-ghost use Rattle.lfs_tool.specs.Checked.{IsCheckedAs, is_accepted};
+ghost use Rattle.lfs_tool.specs.KnownBytes.{AppendsBeginning};
+ghost use Rattle.lfs_tool.specs.Reports.{IsReadToEnd, ReportsOnce, ReportsWriter};
+ghost use Rattle.lfs_tool.specs.CheckResults.{IsCheckedAs, is_accepted};
 ghost use Rattle.lfs_tool.specs.CheckedLines.{checked_text};
 
 use crate::check_result::Checked;

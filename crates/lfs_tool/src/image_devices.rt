@@ -14,8 +14,8 @@ ghost use Rattle.lfs_mount.specs.Device.{IsMountError};
 ghost use Rattle.lfs_mount.specs.Either.{GivesDeviceBack};
 ghost use Rattle.lfs_thread.specs.Kept.{disk_on};
 ghost use Rattle.lfs_tool.specs.Blocks.{IsShownAs};
-ghost use Rattle.lfs_tool.specs.Listed.{HasItems, IsNotMounted};
-ghost use Rattle.lfs_lookup.specs.Walk.{founds_view};
+ghost use Rattle.lfs_tool.specs.Listings.{HasItems, IsNotMounted};
+ghost use Rattle.lfs_lookup.specs.Walk.{tree_items_view};
 
 use crate::{BlockExcerpt, Excerpt, excerpt_is_read_without_fault};
 use lfs_device::{BlockDevice, Error, Geometry, Ordered, RamDevice};
@@ -73,7 +73,7 @@ pub(crate) fn items_on<D: BlockDevice>(
     alloc: Global,
     device: D,
 ) -> Result<(Thread<Ordered<D>>, Vec<TreeItem>), (D, Error)>
-    ensures items { IfOk result (λ found. HasItems (disk_on D.BlockDevice device) found.0 (founds_view found.1.items)) }
+    ensures items { IfOk result (λ found. HasItems (disk_on D.BlockDevice device) found.0 (tree_items_view found.1.items)) }
     ensures corrupt { IfErr result (λ e. e.1 ≡ Error.Corrupt → (order : NameOrder) (ps : List Pair) → ¬ IsAccepted (ordered order (disk_on D.BlockDevice device)) ps) }
     ensures errors { IfErr result (λ e. IsMountError e.1) }
     ensures back { IfErr result (λ e. GivesDeviceBack D.BlockDevice device e.0 e.1) }
@@ -90,7 +90,7 @@ pub(crate) fn items_of_excerpt(
     alloc: Global,
     device: Excerpt,
 ) -> Result<(Thread<Ordered<Excerpt>>, Vec<TreeItem>), Error>
-    ensures items { IfOk result (λ found. HasItems (shown (excerpt.geometry_of device) (excerpt.excerpt_blocks device)) found.0 (founds_view found.1.items)) }
+    ensures items { IfOk result (λ found. HasItems (shown (excerpt.geometry_of device) (excerpt.excerpt_blocks device)) found.0 (tree_items_view found.1.items)) }
     ensures err { IfErr result (IsNotMounted (shown (excerpt.geometry_of device) (excerpt.excerpt_blocks device))) }
 {
     match items_on(alloc, device) {
@@ -107,7 +107,7 @@ pub(crate) fn items_in_memory(
     alloc: Global,
     device: RamDevice,
 ) -> Result<(Thread<Ordered<RamDevice>>, Vec<TreeItem>), Error>
-    ensures items { IfOk result (λ found. HasItems (shown (geometry_of device) (ram_blocks device)) found.0 (founds_view found.1.items)) }
+    ensures items { IfOk result (λ found. HasItems (shown (geometry_of device) (ram_blocks device)) found.0 (tree_items_view found.1.items)) }
     ensures err { IfErr result (IsNotMounted (shown (geometry_of device) (ram_blocks device))) }
 {
     match items_on(alloc, device) {

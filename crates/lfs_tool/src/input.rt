@@ -1,8 +1,8 @@
 // Whole images from readers.
 
 ghost use Rattle.std.specs.Prelude.{◌≡◌, ◌+◌, ◌≤◌, IfErr, IfOk, IfSome, OnOk, length, suc, take};
-ghost use Rattle.lfs_tool.specs.Known.{FailsToRead};
-ghost use Rattle.lfs_tool.specs.Reported.{IsReadToEnd};
+ghost use Rattle.lfs_tool.specs.KnownBytes.{FailsToRead};
+ghost use Rattle.lfs_tool.specs.Reports.{IsReadToEnd};
 
 use crate::{Reader, ToolError};
 use lfs_device::Error;
@@ -37,7 +37,7 @@ pub(crate) fn read_image<R: Reader>(alloc: Global, image: &mut R) -> Result<Vec<
 }
 
 // Reads as far, but keeps nothing.
-pub(crate) fn pass_image<R: Reader>(image: &mut R) -> Result<(), ToolError>
+pub(crate) fn read_past_image<R: Reader>(image: &mut R) -> Result<(), ToolError>
     ensures read { OnOk result (IsReadToEnd (R.remaining image.old) (R.remaining image.new)) }
     ensures kept { OnOk result (R.faults image.new ≡ R.faults image.old) }
     ensures err { IfErr result (λ e. (e ≡ ToolError.Input) × (R.faults image.new ≡ suc (R.faults image.old))) }

@@ -3,8 +3,8 @@
 ghost use Rattle.std.specs.Prelude.{◌≡◌, ◌↔◌, IfErr, IfOk, IfSome, IsTrue, false};
 ghost use Rattle.lfs_device.specs.RamDevice.{ram_blocks, geometry_of};
 ghost use Rattle.lfs_device.specs.Shown.{disk_of, ordered};
-ghost use Rattle.lfs_tool.specs.Found.{IsFound};
-ghost use Rattle.lfs_tool.specs.Summary.{HasOrders, IsAcceptedIn};
+ghost use Rattle.lfs_tool.specs.Findings.{IsFindingOf};
+ghost use Rattle.lfs_tool.specs.ImageSummaries.{HasOrders, IsAcceptedIn};
 ghost use Rattle.lfs_tool.specs.Verdict.{IsVerdict};
 ghost use Rattle.lfs_model.specs.BlockSets.{AreUsed};
 ghost use Rattle.lfs_model.specs.Shown.{used_blocks};
@@ -15,7 +15,7 @@ ghost use Rattle.lfs_model.specs.declared.order.NameOrder.TheVariants.{LongerFir
 use crate::findings::Finding;
 use crate::searches::find;
 use crate::summaries::summary_of;
-use crate::verdict::{Orders, Verdict};
+use crate::verdict::{AcceptedOrders, Verdict};
 use lfs_device::{Error, NameOrder, Ordered, RamDevice};
 use lfs_mount::{mount, mount_either};
 use lfs_thread::Thread;
@@ -35,19 +35,19 @@ fn is_accepted_in(alloc: Global, device: RamDevice, order: NameOrder) -> Result<
 
 // Returns in which orders of names the image of a device is accepted. The order `first` is one of
 // these.
-fn orders_of(alloc: Global, device: RamDevice, first: NameOrder) -> Result<Orders, Error>
+fn orders_of(alloc: Global, device: RamDevice, first: NameOrder) -> Result<AcceptedOrders, Error>
     requires first { IsAcceptedIn first (disk_of (geometry_of device) (ram_blocks device)) }
     requires longer { first ≡ ShorterFirst → ¬ IsAcceptedIn LongerFirst (disk_of (geometry_of device) (ram_blocks device)) }
     ensures orders { IfOk result (HasOrders (disk_of (geometry_of device) (ram_blocks device))) }
     ensures err { IfErr result (λ e. e ≡ Error.NoMemory) }
 {
     match first {
-        NameOrder::ShorterFirst => Ok(Orders::ShorterFirst),
+        NameOrder::ShorterFirst => Ok(AcceptedOrders::ShorterFirst),
         NameOrder::LongerFirst => {
             if is_accepted_in(alloc, device, NameOrder::ShorterFirst)? {
-                Ok(Orders::Either)
+                Ok(AcceptedOrders::Either)
             } else {
-                Ok(Orders::LongerFirst)
+                Ok(AcceptedOrders::LongerFirst)
             }
         }
     }
@@ -55,7 +55,7 @@ fn orders_of(alloc: Global, device: RamDevice, first: NameOrder) -> Result<Order
 
 // Returns a rule that the image of a device breaks.
 fn finding_on(alloc: Global, device: &mut RamDevice) -> Result<Option<Finding>, Error>
-    ensures found { IfOk result (λ found. IfSome found (IsFound (disk_of (geometry_of device.old) (ram_blocks device.old)))) }
+    ensures found { IfOk result (λ found. IfSome found (IsFindingOf (disk_of (geometry_of device.old) (ram_blocks device.old)))) }
     ensures err { IfErr result (λ e. e ≡ Error.NoMemory) }
 {
     match find(alloc, device) {

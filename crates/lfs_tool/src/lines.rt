@@ -1,8 +1,8 @@
 // The lines that list an image.
 
 ghost use Rattle.std.specs.Prelude.{◌≡◌, ◌++◌, IfOk, None, OnOk, Some};
-ghost use Rattle.lfs_tool.specs.Listed.{line_at, line_with, lines_at};
-ghost use Rattle.lfs_lookup.specs.Walk.{found_view, founds_view};
+ghost use Rattle.lfs_tool.specs.Listings.{line_at, line_with, lines_at};
+ghost use Rattle.lfs_lookup.specs.Walk.{tree_item_view, tree_items_view};
 
 use crate::escape::escape_path;
 use lfs_lookup::{Structure, TreeItem};
@@ -33,7 +33,7 @@ fn push_directory(text: &mut Vec<u8>, path: &[u8]) -> Result<(), AllocError>
 
 // Adds the line of an entry that was found.
 fn push_line(text: &mut Vec<u8>, found: &TreeItem) -> Result<(), AllocError>
-    ensures { OnOk result (text.new.items ≡ text.old.items ++ line_at (found_view found.now)) }
+    ensures { OnOk result (text.new.items ≡ text.old.items ++ line_at (tree_item_view found.now)) }
 {
     match &found.structure {
         Structure::Inline(bytes) => push_file(text, bytes.len(), &found.path),
@@ -44,7 +44,7 @@ fn push_line(text: &mut Vec<u8>, found: &TreeItem) -> Result<(), AllocError>
 
 // Returns the lines of the entries, in order.
 pub(crate) fn lines_of(alloc: Global, found: &[TreeItem]) -> Result<Vec<u8>, AllocError>
-    ensures { IfOk result (λ text. text.items ≡ lines_at (founds_view found.now)) }
+    ensures { IfOk result (λ text. text.items ≡ lines_at (tree_items_view found.now)) }
 {
     let mut text = Vec::new(alloc);
     for one in found {

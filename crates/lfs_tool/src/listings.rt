@@ -6,14 +6,14 @@ ghost use Rattle.lfs_device.specs.Shown.{disk_of as shown, ordered};
 ghost use Rattle.lfs_model.specs.Disk.{IsImage};
 ghost use Rattle.lfs_model.specs.Geometry.{IsGeometry};
 ghost use Rattle.lfs_model.specs.declared.order.NameOrder.{NameOrder};
-ghost use Rattle.lfs_tool.specs.Blocks.{AreRead};
-ghost use Rattle.lfs_tool.specs.Known.{AppendsBeginning, FailsToList, IsListError};
-ghost use Rattle.lfs_tool.specs.Reported.{IsReadToEnd, ReportsOnce, ReportsWriter};
-ghost use Rattle.lfs_tool.specs.Listed.{HasLines, IsNotMounted, Lists, Refuses};
+ghost use Rattle.lfs_tool.specs.Blocks.{AreExcerptsOfBytes};
+ghost use Rattle.lfs_tool.specs.KnownBytes.{AppendsBeginning, FailsToList, IsListError};
+ghost use Rattle.lfs_tool.specs.Reports.{IsReadToEnd, ReportsOnce, ReportsWriter};
+ghost use Rattle.lfs_tool.specs.Listings.{HasLines, IsNotMounted, Lists, RefusesToList};
 
 use crate::blocks::read_blocks;
 use crate::image_devices::{excerpt_of, items_of_excerpt};
-use crate::input::pass_image;
+use crate::input::read_past_image;
 use crate::lines::lines_of;
 use crate::output::write_bytes;
 use crate::{BlockExcerpt, Excerpt, Reader, ToolError, Writer, excerpt_is_listed_alike};
@@ -39,8 +39,8 @@ fn lines_of_blocks(
 ) -> Result<Vec<u8>, Error>
     requires many { length blocks.items < 2 ^ 32 }
     requires sizes { HaveSize block_size blocks.items }
-    ensures ok { IfOk result (λ text. (bytes : List ℕ) → AreRead block_size bytes blocks.items → Lists block_size page bytes text.items) }
-    ensures err { IfErr result (λ e. (bytes : List ℕ) → AreRead block_size bytes blocks.items → Refuses block_size page bytes e) }
+    ensures ok { IfOk result (λ text. (bytes : List ℕ) → AreExcerptsOfBytes block_size bytes blocks.items → Lists block_size page bytes text.items) }
+    ensures err { IfErr result (λ e. (bytes : List ℕ) → AreExcerptsOfBytes block_size bytes blocks.items → RefusesToList block_size page bytes e) }
     ensures kinds { IfErr result IsListError }
 {
     excerpt_is_listed_alike();
@@ -68,13 +68,13 @@ fn read_lines<R: Reader>(
     page: u32,
 ) -> Result<Vec<u8>, ToolError>
     ensures ok { IfOk result (λ text. IfSome (R.remaining image.old) (λ bytes. Lists block_size page bytes text.items)) }
-    ensures refused { (e : _) → IsErrOf result (ToolError.Fs e) → IfSome (R.remaining image.old) (λ bytes. Refuses block_size page bytes e) }
+    ensures refused { (e : _) → IsErrOf result (ToolError.Fs e) → IfSome (R.remaining image.old) (λ bytes. RefusesToList block_size page bytes e) }
     ensures kept { OnOk result (R.faults image.new ≡ R.faults image.old) }
     ensures failed { IfErr result (λ e. FailsToList e (R.faults image.old) (R.faults image.new)) }
     ensures read { ¬ IsErrOf result ToolError.Input → ¬ IsErrOf result (ToolError.Fs Error.NoMemory) → IsReadToEnd (R.remaining image.old) (R.remaining image.new) }
 {
     if let Err(error) = check_sizes(block_size, page) {
-        pass_image(image)?;
+        read_past_image(image)?;
         return Err(ToolError::Fs(error));
     }
     let Some(blocks) = read_blocks(alloc, image, block_size)? else {
@@ -119,7 +119,7 @@ pub fn list<R: Reader, W: Writer>(
         (text : _) × (Lists block_size page bytes text × AppendsBeginning (W.contents out.old) (W.contents out.new) text)) }
 
     // When each other error comes.
-    ensures refused { (e : _) → IsErrOf result (ToolError.Fs e) → IsListError e × IfSome (R.remaining image.old) (λ bytes. Refuses block_size page bytes e) }
+    ensures refused { (e : _) → IsErrOf result (ToolError.Fs e) → IsListError e × IfSome (R.remaining image.old) (λ bytes. RefusesToList block_size page bytes e) }
     ensures input { ReportsOnce ToolError.Input (R.faults image.old) (R.faults image.new) result }
     ensures read { ¬ IsErrOf result ToolError.Input → ¬ IsErrOf result (ToolError.Fs Error.NoMemory) → IsReadToEnd (R.remaining image.old) (R.remaining image.new) }
 {

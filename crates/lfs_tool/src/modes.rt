@@ -1,8 +1,8 @@
 // The modes of a command line, at its places.
 
 ghost use Rattle.std.specs.Prelude.{◌≡◌, ◌≢◌, IfOk, IsErrOf, OnOk, false, suc, true};
-ghost use Rattle.lfs_tool.specs.Reported.{ReportsWriter};
-ghost use Rattle.lfs_tool.specs.Placed.{By, ChecksAt, EndsWell, FailsAt, FailsToRead, ListsAt, MakesAt, RefusesAt, RefusesToMake, UnpacksAt, writes_lines};
+ghost use Rattle.lfs_tool.specs.Reports.{ReportsWriter};
+ghost use Rattle.lfs_tool.specs.RunsAtPaths.{HoldsForMode, ChecksAt, MayEndWith, FailsAt, FailsToReadFolder, ListsAt, MakesAt, RefusesAt, RefusesToMake, UnpacksAt, writes_lines};
 
 use crate::{
     Line, Mode, Places, ToolError, Writer, check_by_line, create_by_line, list_by_line,
@@ -56,7 +56,7 @@ fn create_at<P: Places>(
 ) -> Result<(), ToolError>
     ensures made { OnOk result (MakesAt P.folder_path P.Folder.shown P.new_image_path P.NewImage.contents P.NewImage.pending line.now folder.now) }
     ensures refused { (e : _) → IsErrOf result (ToolError.Fs e) → e ≢ Error.NoMemory → RefusesToMake P.folder_path P.Folder.shown line.now e folder.now }
-    ensures input { IsErrOf result ToolError.Input → FailsToRead P.folder_path P.Folder.faults P.Folder.shown folder.now }
+    ensures input { IsErrOf result ToolError.Input → FailsToReadFolder P.folder_path P.Folder.faults P.Folder.shown folder.now }
     ensures output { IsErrOf result ToolError.Output → FailsAt P.new_image_path P.NewImage.faults line.now.image.now }
 {
     let mut source = places.folder(folder, line.size)?;
@@ -91,22 +91,22 @@ pub(crate) fn carry_out<P: Places, W: Writer>(
 ) -> Result<bool, ToolError>
     ensures writer { writes_lines line.now.mode ≡ true → ReportsWriter W.Writer out.old out.new result }
     ensures unlisted { writes_lines line.now.mode ≡ false → out.new ≡ out.old }
-    ensures done { IfOk result (λ accepted. EndsWell line.now.mode accepted × By line.now.mode
+    ensures done { IfOk result (λ accepted. MayEndWith line.now.mode accepted × HoldsForMode line.now.mode
         (ListsAt P.image_path P.Image.remaining line.now (W.contents out.old) (W.contents out.new) × (W.pending out.new ≡ 0))
         (ChecksAt P.image_path P.Image.remaining line.now accepted (W.contents out.old) (W.contents out.new) × (W.pending out.new ≡ 0))
         (MakesAt P.folder_path P.Folder.shown P.new_image_path P.NewImage.contents P.NewImage.pending line.now)
         (UnpacksAt P.image_path P.Image.remaining P.new_folder_path P.NewFolder.done line.now)) }
-    ensures refused { (e : _) → IsErrOf result (ToolError.Fs e) → e ≢ Error.NoMemory → By line.now.mode
+    ensures refused { (e : _) → IsErrOf result (ToolError.Fs e) → e ≢ Error.NoMemory → HoldsForMode line.now.mode
         (RefusesAt P.image_path P.Image.remaining line.now e)
         ⊥
         (RefusesToMake P.folder_path P.Folder.shown line.now e)
         (λ _. RefusesAt P.image_path P.Image.remaining line.now e) }
-    ensures input { IsErrOf result ToolError.Input → By line.now.mode
+    ensures input { IsErrOf result ToolError.Input → HoldsForMode line.now.mode
         (FailsAt P.image_path P.Image.faults line.now.image.now)
         (FailsAt P.image_path P.Image.faults line.now.image.now)
-        (FailsToRead P.folder_path P.Folder.faults P.Folder.shown)
+        (FailsToReadFolder P.folder_path P.Folder.faults P.Folder.shown)
         (λ _. FailsAt P.image_path P.Image.faults line.now.image.now) }
-    ensures output { IsErrOf result ToolError.Output → By line.now.mode
+    ensures output { IsErrOf result ToolError.Output → HoldsForMode line.now.mode
         (W.faults out.new ≡ suc (W.faults out.old))
         (W.faults out.new ≡ suc (W.faults out.old))
         (λ _. FailsAt P.new_image_path P.NewImage.faults line.now.image.now)

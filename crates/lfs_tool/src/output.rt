@@ -2,7 +2,7 @@
 
 ghost use Rattle.std.specs.Prelude.{◌≡◌, OnErr, OnOk, suc};
 ghost use Rattle.std.specs.Io.KnownBytes.{Appends};
-ghost use Rattle.lfs_tool.specs.Known.{AppendsBeginning};
+ghost use Rattle.lfs_tool.specs.KnownBytes.{AppendsBeginning};
 
 use crate::{ToolError, Writer};
 

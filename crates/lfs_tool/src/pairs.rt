@@ -8,14 +8,14 @@ ghost use Rattle.lfs_model.specs.Disk.{Disk};
 ghost use Rattle.lfs_model.specs.LoggedContent.{HaveParts};
 ghost use Rattle.lfs_model.specs.Slots.{address_of};
 ghost use Rattle.lfs_tag.specs.ContentView.{content_view, slot_view};
-ghost use Rattle.lfs_tool.specs.Device.{Looks};
-ghost use Rattle.lfs_tool.specs.Found.{IsUnread};
-ghost use Rattle.lfs_tool.specs.Leading.{IsNamed};
-ghost use Rattle.lfs_tool.specs.Reading.{IsRead};
+ghost use Rattle.lfs_tool.specs.Device.{OnlyReadsDevice};
+ghost use Rattle.lfs_tool.specs.Findings.{IsThreadFault};
+ghost use Rattle.lfs_tool.specs.ThreadBeginnings.{IsNamedByThread};
+ghost use Rattle.lfs_tool.specs.PairReads.{IsPairOrFault};
 
 use crate::findings::{Finding, Place};
-use crate::held_parts::HeldPair;
-use crate::held_slots::{first_incomplete, hold_all};
+use crate::owned_parts::OwnedPair;
+use crate::owned_slots::{first_incomplete, own_slots};
 use lfs_device::{BlockDevice, Error, read_block};
 use lfs_tag::{Content, ContentError, Log, Slot, is_later};
 use std::alloc::{AllocError, Global};
@@ -23,12 +23,12 @@ use std::alloc::{AllocError, Global};
 // A pair, or what is wrong with it.
 #[derive(Drop)]
 pub(crate) enum Read {
-    Pair(HeldPair),
+    Pair(OwnedPair),
     Broken(Finding),
 }
 
 // Returns the block of a pair that holds.
-fn holding<'a>(first: &'a [u8], second: &'a [u8]) -> Option<&'a [u8]>
+fn holding_block<'a>(first: &'a [u8], second: &'a [u8]) -> Option<&'a [u8]>
     ensures { option_map (λ b. b.now) result ≡ holder first.now second.now }
 {
     let log = Log::read(first);
@@ -47,7 +47,7 @@ fn holding<'a>(first: &'a [u8], second: &'a [u8]) -> Option<&'a [u8]>
 }
 
 // Returns what the slot of that number lacks, which has no name or no struct.
-fn lacking(
+fn missing_part(
     alloc: Global,
     pair: [u32; 2],
     slots: &[Slot<'_>],
@@ -56,7 +56,7 @@ fn lacking(
     requires below { slot < length slots.now }
     requires incomplete { complete (slot_of_id (map slot_view slots.now) slot) ≡ None }
     ensures { IfOk result (λ f. (disk : Disk) (c : RawContent) → raw_at disk (address_of pair) ≡ Some c → c.slots ≡ map slot_view slots.now
-        → IsNamed disk (address_of pair) → IsUnread disk f) }
+        → IsNamedByThread disk (address_of pair) → IsThreadFault disk f) }
 {
     match slots[slot].name {
         None => Ok(Finding::NoName { pair, slot }),
@@ -68,16 +68,16 @@ fn lacking(
 }
 
 // Returns the pair at an address that has that content.
-fn hold_content(alloc: Global, at: [u32; 2], content: &Content<'_>) -> Result<Read, AllocError>
+fn pair_with_content(alloc: Global, at: [u32; 2], content: &Content<'_>) -> Result<Read, AllocError>
     requires { HaveParts (content_view content.now).slots }
-    ensures { IfOk result (λ read. (disk : Disk) → raw_at disk (address_of at) ≡ Some (content_view content.now) → IsRead disk (address_of at) read) }
+    ensures { IfOk result (λ read. (disk : Disk) → raw_at disk (address_of at) ≡ Some (content_view content.now) → IsPairOrFault disk (address_of at) read) }
 {
     if let Some(slot) = first_incomplete(&content.slots) {
-        let finding = lacking(alloc, at, &content.slots, slot)?;
+        let finding = missing_part(alloc, at, &content.slots, slot)?;
         return Ok(Read::Broken(finding));
     }
-    let slots = hold_all(alloc, &content.slots)?;
-    Ok(Read::Pair(HeldPair {
+    let slots = own_slots(alloc, &content.slots)?;
+    Ok(Read::Pair(OwnedPair {
         at,
         slots,
         tail: content.tail,
@@ -86,13 +86,13 @@ fn hold_content(alloc: Global, at: [u32; 2], content: &Content<'_>) -> Result<Re
 }
 
 // Returns the pair at an address of which that block holds.
-fn hold_block(alloc: Global, at: [u32; 2], block: &[u8]) -> Result<Read, Error>
-    ensures read { IfOk result (λ read. (disk : Disk) → holder_at disk (address_of at) ≡ Some block.now → IsRead disk (address_of at) read) }
+fn pair_of_block(alloc: Global, at: [u32; 2], block: &[u8]) -> Result<Read, Error>
+    ensures read { IfOk result (λ read. (disk : Disk) → holder_at disk (address_of at) ≡ Some block.now → IsPairOrFault disk (address_of at) read) }
     ensures errors { IfErr result (λ e. e ≡ Error.NoMemory) }
 {
     match Content::read(alloc, &Log::read(block)) {
         Ok(content) => {
-            let read = hold_content(alloc, at, &content)?;
+            let read = pair_with_content(alloc, at, &content)?;
             Ok(read)
         }
         Err(ContentError::Malformed) => Ok(Read::Broken(Finding::Malformed { pair: at })),
@@ -108,13 +108,13 @@ pub(crate) fn read_pair<D: BlockDevice>(
 ) -> Result<Read, Error>
     requires first { (address_of at).0 < (D.geometry device.old).block_count }
     requires second { (address_of at).1 < (D.geometry device.old).block_count }
-    ensures read { IfOk result (IsRead (disk_of (D.geometry device.old) (D.blocks device.old)) (address_of at)) }
-    ensures looks { Looks D.BlockDevice device.old device.new result }
+    ensures read { IfOk result (IsPairOrFault (disk_of (D.geometry device.old) (D.blocks device.old)) (address_of at)) }
+    ensures looks { OnlyReadsDevice D.BlockDevice device.old device.new result }
 {
     let first = read_block(alloc, device, at[0])?;
     let second = read_block(alloc, device, at[1])?;
-    match holding(&first, &second) {
-        Some(block) => hold_block(alloc, at, block),
+    match holding_block(&first, &second) {
+        Some(block) => pair_of_block(alloc, at, block),
         None => Ok(Read::Broken(Finding::NoCommit { pair: at })),
     }
 }

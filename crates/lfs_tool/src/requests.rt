@@ -2,12 +2,12 @@
 
 ghost use Rattle.std.specs.Prelude.{◌≡◌, ◌≢◌, ◌⊎◌, IfErr, IfOk, IfSome, IsErrOf, OnErr, OnOk};
 ghost use Rattle.std.specs.Io.KnownBytes.{Appends};
-ghost use Rattle.lfs_tool.specs.Known.{AppendsBeginning, IsListError};
-ghost use Rattle.lfs_tool.specs.Listed.{Lists, Refuses};
-ghost use Rattle.lfs_tool.specs.Unpacked.{IsBegunOfImage, IsDoneOfImage};
-ghost use Rattle.lfs_tool.specs.Checked.{IsCheckedAs, is_accepted};
+ghost use Rattle.lfs_tool.specs.KnownBytes.{AppendsBeginning, IsListError};
+ghost use Rattle.lfs_tool.specs.Listings.{Lists, RefusesToList};
+ghost use Rattle.lfs_tool.specs.Unpackings.{IsBegunOfImage, IsDoneOfImage};
+ghost use Rattle.lfs_tool.specs.CheckResults.{IsCheckedAs, is_accepted};
 ghost use Rattle.lfs_tool.specs.CheckedLines.{checked_text};
-ghost use Rattle.lfs_tool.specs.Reported.{IsReadToEnd, ReportsOnce, ReportsWriter};
+ghost use Rattle.lfs_tool.specs.Reports.{IsReadToEnd, ReportsOnce, ReportsWriter};
 
 use crate::{Line, Reader, ToolError, Writer, check, list, unpack};
 use lfs_device::Error;
@@ -34,7 +34,7 @@ pub fn list_by_line<R: Reader, W: Writer>(
 
     // When each other error comes.
     ensures refused { (e : _) → IsErrOf result (ToolError.Fs e)
-        → IsListError e × IfSome (R.remaining image.old) (λ bytes. Refuses line.now.block_size line.now.page bytes e) }
+        → IsListError e × IfSome (R.remaining image.old) (λ bytes. RefusesToList line.now.block_size line.now.page bytes e) }
     ensures input { ReportsOnce ToolError.Input (R.faults image.old) (R.faults image.new) result }
     ensures read { ¬ IsErrOf result ToolError.Input → ¬ IsErrOf result (ToolError.Fs Error.NoMemory) → IsReadToEnd (R.remaining image.old) (R.remaining image.new) }
 {
@@ -87,7 +87,7 @@ pub fn unpack_by_line<R: Reader, T: Target>(
         IsBegunOfImage line.now.block_size line.now.page bytes (T.done target.old) (T.done target.new))) }
 
     // When each error comes.
-    ensures refused { (e : _) → IsErrOf result (ToolError.Fs e) → IfSome (R.remaining image.old) (λ bytes. Refuses line.now.block_size line.now.page bytes e) }
+    ensures refused { (e : _) → IsErrOf result (ToolError.Fs e) → IfSome (R.remaining image.old) (λ bytes. RefusesToList line.now.block_size line.now.page bytes e) }
     ensures input { ReportsOnce ToolError.Input (R.faults image.old) (R.faults image.new) result }
     ensures read { ¬ IsErrOf result ToolError.Input → ¬ IsErrOf result (ToolError.Fs Error.NoMemory) → IsReadToEnd (R.remaining image.old) (R.remaining image.new) }
     ensures output { ReportsOnce ToolError.Output (T.faults target.old) (T.faults target.new) result }

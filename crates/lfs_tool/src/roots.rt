@@ -2,14 +2,14 @@
 
 ghost use Rattle.std.specs.Prelude.{◌≡◌, ◌<◌, ◌+◌, ◌^◌, ◌&&◌, if◌then◌else◌, length, map};
 ghost use Rattle.lfs_model.specs.Thread.{is_bare, is_hard, leads_on, starts_with_superblock, superblock_or, superblocks_before};
-ghost use Rattle.lfs_tool.specs.HeldView.{held_view, pair_view, pairs_view};
+ghost use Rattle.lfs_tool.specs.OwnedSlotView.{owned_slot_view, pair_view, pairs_view};
 
-use crate::held_parts::{HeldPair, HeldSlot};
+use crate::owned_parts::{OwnedPair, OwnedSlot};
 use lfs_tag::is_hard;
 
 // Returns whether slot 0 is a superblock's.
-pub(crate) fn starts_with_superblock(slots: &[HeldSlot]) -> bool
-    ensures { result ≡ starts_with_superblock (map held_view slots.now) }
+pub(crate) fn starts_with_superblock(slots: &[OwnedSlot]) -> bool
+    ensures { result ≡ starts_with_superblock (map owned_slot_view slots.now) }
 {
     match slots {
         [] => false,
@@ -18,8 +18,8 @@ pub(crate) fn starts_with_superblock(slots: &[HeldSlot]) -> bool
 }
 
 // Returns whether slot 0 is a superblock's, or there is no slot and `later` is true.
-fn superblock_or(slots: &[HeldSlot], later: bool) -> bool
-    ensures { result ≡ superblock_or (map held_view slots.now) later }
+fn superblock_or(slots: &[OwnedSlot], later: bool) -> bool
+    ensures { result ≡ superblock_or (map owned_slot_view slots.now) later }
 {
     match slots {
         [] => later,
@@ -28,8 +28,8 @@ fn superblock_or(slots: &[HeldSlot], later: bool) -> bool
 }
 
 // Returns whether there is no slot, or a superblock alone.
-fn is_bare(slots: &[HeldSlot]) -> bool
-    ensures { result ≡ is_bare (map held_view slots.now) }
+fn is_bare(slots: &[OwnedSlot]) -> bool
+    ensures { result ≡ is_bare (map owned_slot_view slots.now) }
 {
     match slots {
         [] => true,
@@ -39,7 +39,7 @@ fn is_bare(slots: &[HeldSlot]) -> bool
 }
 
 // Returns whether the superblock's chain may continue after the pair.
-fn leads_on(pair: &HeldPair) -> bool
+fn leads_on(pair: &OwnedPair) -> bool
     ensures { result ≡ leads_on (pair_view pair.now) }
 {
     is_bare(&pair.slots) && is_hard(pair.tail)
@@ -47,7 +47,7 @@ fn leads_on(pair: &HeldPair) -> bool
 
 // Returns how many pairs are before the root, after one pair is put before others. Of the others
 // `behind` pairs are before the root. `meets` tells whether the others meet a superblock.
-fn with_pair(pair: &HeldPair, meets: bool, behind: usize) -> usize
+fn with_pair(pair: &OwnedPair, meets: bool, behind: usize) -> usize
     requires { behind < 2 ^ 63 }
     ensures { result ≡ (if meets && leads_on (pair_view pair.now) then 1 + behind else 0) }
 {
@@ -59,7 +59,7 @@ fn with_pair(pair: &HeldPair, meets: bool, behind: usize) -> usize
 }
 
 // Returns whether a pair and those after it meet a superblock, by whether these alone do.
-fn meets_with(pair: &HeldPair, meets: bool) -> bool
+fn meets_with(pair: &OwnedPair, meets: bool) -> bool
     ensures { result ≡ superblock_or (pair_view pair.now).content.slots (is_hard (pair_view pair.now).content.tail && meets) }
 {
     superblock_or(&pair.slots, is_hard(pair.tail) && meets)
@@ -67,7 +67,7 @@ fn meets_with(pair: &HeldPair, meets: bool) -> bool
 
 // Returns how many pairs are before the root directory's first one: the superblock's chain, without
 // its last pair (SPEC.md of littlefs, "0x0ff LFS_TYPE_SUPERBLOCK").
-pub(crate) fn root_of(pairs: &[HeldPair]) -> usize
+pub(crate) fn root_of(pairs: &[OwnedPair]) -> usize
     requires { 0 < length pairs.now }
     ensures count { result ≡ superblocks_before (pairs_view pairs.now) }
     ensures below { result < length pairs.now }

@@ -3,15 +3,15 @@
 ghost use Rattle.std.specs.Prelude.{◌≡◌, IfErr, IfOk, IfSome};
 ghost use Rattle.lfs_device.specs.Shown.{disk_of};
 ghost use Rattle.lfs_model.specs.Disk.{Disk};
-ghost use Rattle.lfs_tool.specs.Broken.{IsBroken};
-ghost use Rattle.lfs_tool.specs.Device.{HasSizes, Looks};
-ghost use Rattle.lfs_tool.specs.Found.{IsFound};
-ghost use Rattle.lfs_tool.specs.HeldView.{pairs_view};
-ghost use Rattle.lfs_tool.specs.Reading.{IsFollowed};
+ghost use Rattle.lfs_tool.specs.BrokenRules.{BreaksRule};
+ghost use Rattle.lfs_tool.specs.Device.{HasSizes, OnlyReadsDevice};
+ghost use Rattle.lfs_tool.specs.Findings.{IsFindingOf};
+ghost use Rattle.lfs_tool.specs.OwnedSlotView.{pairs_view};
+ghost use Rattle.lfs_tool.specs.PairReads.{IsFollowed};
 
 use crate::findings::Finding;
 use crate::heads::head_fault;
-use crate::held_parts::HeldPair;
+use crate::owned_parts::OwnedPair;
 use crate::roots::root_of;
 use crate::slots::slots_fault;
 use crate::thread_walk::{Followed, follow};
@@ -22,9 +22,9 @@ use std::alloc::{AllocError, Global};
 fn pairs_fault(
     alloc: Global,
     geometry: &Geometry,
-    pairs: &[HeldPair],
+    pairs: &[OwnedPair],
 ) -> Result<Option<Finding>, AllocError>
-    ensures { IfOk result (λ found. IfSome found (λ f. (disk : Disk) → HasSizes disk geometry.now → IsBroken disk (pairs_view pairs.now) f)) }
+    ensures { IfOk result (λ found. IfSome found (λ f. (disk : Disk) → HasSizes disk geometry.now → BreaksRule disk (pairs_view pairs.now) f)) }
 {
     if pairs.is_empty() {
         return Ok(None);
@@ -42,7 +42,7 @@ fn fault_in(
     geometry: &Geometry,
     followed: Followed,
 ) -> Result<Option<Finding>, Error>
-    ensures found { IfOk result (λ found. IfSome found (λ f. (disk : Disk) → HasSizes disk geometry.now → IsFollowed disk followed → IsFound disk f)) }
+    ensures found { IfOk result (λ found. IfSome found (λ f. (disk : Disk) → HasSizes disk geometry.now → IsFollowed disk followed → IsFindingOf disk f)) }
     ensures errors { IfErr result (λ e. e ≡ Error.NoMemory) }
 {
     match followed {
@@ -63,8 +63,8 @@ fn fault_in(
 ///
 /// Errors: `Io` where a read failed. `NoMemory` where memory isn't granted.
 pub fn find<D: BlockDevice>(alloc: Global, device: &mut D) -> Result<Option<Finding>, Error>
-    ensures found { IfOk result (λ found. IfSome found (IsFound (disk_of (D.geometry device.old) (D.blocks device.old)))) }
-    ensures looks { Looks D.BlockDevice device.old device.new result }
+    ensures found { IfOk result (λ found. IfSome found (IsFindingOf (disk_of (D.geometry device.old) (D.blocks device.old)))) }
+    ensures looks { OnlyReadsDevice D.BlockDevice device.old device.new result }
 {
     let geometry = device.geometry();
     match follow(alloc, device)? {

@@ -5,12 +5,12 @@ ghost use Rattle.lfs_model.specs.Disk.{Disk};
 ghost use Rattle.lfs_model.specs.Slots.{address_of};
 ghost use Rattle.lfs_model.specs.Thread.{Pair, superblocks_before};
 ghost use Rattle.lfs_model.specs.View.{Suits};
-ghost use Rattle.lfs_tool.specs.Broken.{HasAt, IsBroken, IsEntrySlot};
+ghost use Rattle.lfs_tool.specs.BrokenRules.{HoldsAtPlace, BreaksRule, IsEntrySlot};
 ghost use Rattle.lfs_tool.specs.Entries.{HasFault};
-ghost use Rattle.lfs_tool.specs.HeldView.{held_view, pair_view, pairs_view};
+ghost use Rattle.lfs_tool.specs.OwnedSlotView.{owned_slot_view, pair_view, pairs_view};
 
 use crate::findings::{Finding, Place};
-use crate::held_parts::{HeldPair, HeldSlot};
+use crate::owned_parts::{OwnedPair, OwnedSlot};
 use lfs_lookup::Structure;
 use lfs_tag::{Kind, is_name};
 use std::alloc::{AllocError, Global};
@@ -24,8 +24,8 @@ pub(crate) enum EntryFault {
 }
 
 // Returns whether a slot's kind matches its struct.
-fn suits(slot: &HeldSlot) -> bool
-    ensures { IsTrue result ↔ Suits (held_view slot.now).kind (held_view slot.now).struct }
+fn suits(slot: &OwnedSlot) -> bool
+    ensures { IsTrue result ↔ Suits (owned_slot_view slot.now).kind (owned_slot_view slot.now).struct }
 {
     match (slot.kind, &slot.structure) {
         (Kind::File, Structure::Inline(_)) => true,
@@ -36,8 +36,8 @@ fn suits(slot: &HeldSlot) -> bool
 }
 
 // Returns what is wrong with a slot that has to be an entry.
-fn fault_of(slot: &HeldSlot) -> Option<EntryFault>
-    ensures { IfSome result (HasFault (held_view slot.now)) }
+fn fault_of(slot: &OwnedSlot) -> Option<EntryFault>
+    ensures { IfSome result (HasFault (owned_slot_view slot.now)) }
 {
     if slot.kind.is_superblock() {
         return Some(EntryFault::IsSuperblock);
@@ -56,9 +56,9 @@ fn place_of(
     alloc: Global,
     pair: [u32; 2],
     slot: usize,
-    held: &HeldSlot,
+    held: &OwnedSlot,
 ) -> Result<Place, AllocError>
-    ensures { IfOk result (λ place. (place.pair ≡ pair) × (place.slot ≡ slot) × (place.name.items ≡ (held_view held.now).name)) }
+    ensures { IfOk result (λ place. (place.pair ≡ pair) × (place.slot ≡ slot) × (place.name.items ≡ (owned_slot_view held.now).name)) }
 {
     let name = Vec::from_slice(alloc, &held.name)?;
     Ok(Place { pair, slot, name })
@@ -66,7 +66,7 @@ fn place_of(
 
 // Returns the finding for a slot at a place.
 fn finding_of(fault: EntryFault, place: Place) -> Finding
-    ensures { (disk : Disk) (ps : List Pair) → HasAt (λ s. HasFault s fault) ps place → IsBroken disk ps result }
+    ensures { (disk : Disk) (ps : List Pair) → HoldsAtPlace (λ s. HasFault s fault) ps place → BreaksRule disk ps result }
 {
     match fault {
         EntryFault::IsSuperblock => Finding::SecondSuperblock(place),
@@ -80,9 +80,9 @@ fn slot_fault(
     alloc: Global,
     pair: [u32; 2],
     id: usize,
-    slot: &HeldSlot,
+    slot: &OwnedSlot,
 ) -> Result<Option<Finding>, AllocError>
-    ensures { IfOk result (λ found. IfSome found (λ f. (disk : Disk) (ps : List Pair) → IsEntrySlot ps (address_of pair) id (held_view slot.now) → IsBroken disk ps f)) }
+    ensures { IfOk result (λ found. IfSome found (λ f. (disk : Disk) (ps : List Pair) → IsEntrySlot ps (address_of pair) id (owned_slot_view slot.now) → BreaksRule disk ps f)) }
 {
     let Some(fault) = fault_of(slot) else {
         return Ok(None);
@@ -92,8 +92,8 @@ fn slot_fault(
 }
 
 // Returns what is wrong with the slots of a pair from a number on, which have to be entries.
-fn pair_fault(alloc: Global, pair: &HeldPair, from: usize) -> Result<Option<Finding>, AllocError>
-    ensures { IfOk result (λ found. IfSome found (λ f. (disk : Disk) (ps : List Pair) (index : ℕ) → slice_get ps index ≡ Some (pair_view pair.now) → (superblocks_before ps < index) ⊎ (0 < from) → IsBroken disk ps f)) }
+fn pair_fault(alloc: Global, pair: &OwnedPair, from: usize) -> Result<Option<Finding>, AllocError>
+    ensures { IfOk result (λ found. IfSome found (λ f. (disk : Disk) (ps : List Pair) (index : ℕ) → slice_get ps index ≡ Some (pair_view pair.now) → (superblocks_before ps < index) ⊎ (0 < from) → BreaksRule disk ps f)) }
 {
     for id in from..pair.slots.len() {
         if let Some(finding) = slot_fault(alloc, pair.at, id, &pair.slots[id])? {
@@ -115,11 +115,11 @@ fn first_entry(root: usize, index: usize) -> usize
 // chain. So many of these are before the root directory.
 pub(crate) fn slots_fault(
     alloc: Global,
-    pairs: &[HeldPair],
+    pairs: &[OwnedPair],
     root: usize,
 ) -> Result<Option<Finding>, AllocError>
     requires { root ≡ superblocks_before (pairs_view pairs.now) }
-    ensures { IfOk result (λ found. IfSome found (λ f. (disk : Disk) → IsBroken disk (pairs_view pairs.now) f)) }
+    ensures { IfOk result (λ found. IfSome found (λ f. (disk : Disk) → BreaksRule disk (pairs_view pairs.now) f)) }
 {
     for index in 0..pairs.len() {
         let from = first_entry(root, index);

@@ -6,8 +6,8 @@ ghost use Rattle.lfs_model.specs.Listing.{new_file_flags, operations_for};
 ghost use Rattle.lfs_model.specs.State.{Healthy, mounted};
 ghost use Rattle.lfs_model.specs.Tree.{FileNode};
 ghost use Rattle.lfs_fs.specs.FlagsView.{flags_view};
-ghost use Rattle.lfs_fs.specs.Held.{system_state_of};
-ghost use Rattle.lfs_tool.specs.Applied.{AreAllAccepted, AppliesAll, HasNoFile, IsFirstRefusal, operations_of, operations_of_all};
+ghost use Rattle.lfs_fs.specs.SessionView.{system_state_of};
+ghost use Rattle.lfs_tool.specs.AppliedOperations.{AreAllAccepted, AppliesAll, HasNoFile, IsFirstRefusal, operations_of, operations_of_all};
 
 use bitflags::Flags;
 use lfs_device::{Error, RamDevice};
@@ -40,7 +40,11 @@ fn put_file(
 }
 
 // Makes a file with its bytes, or a folder without names.
-fn carry(alloc: Global, session: &mut Session<RamDevice>, entry: &SourceEntry) -> Result<(), Error>
+fn carry_entry(
+    alloc: Global,
+    session: &mut Session<RamDevice>,
+    entry: &SourceEntry,
+) -> Result<(), Error>
     requires { HasNoFile (system_state_of session.old) }
     ensures { AppliesAll (system_state_of session.old) (operations_of entry.now) result (system_state_of session.new) }
 {
@@ -62,7 +66,7 @@ pub(crate) fn carry_over(
     ensures refused { IfErr result (λ e. e ≢ Error.NoMemory → IsFirstRefusal (system_state_of session.old) (operations_of_all entries.now) e) }
 {
     for entry in entries {
-        if let Err(error) = carry(alloc, session, entry) {
+        if let Err(error) = carry_entry(alloc, session, entry) {
             // The device had no fault, so memory ran out where nothing was refused.
             let _device = session.device();
             return Err(error);

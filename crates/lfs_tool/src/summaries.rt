@@ -9,10 +9,10 @@ ghost use Rattle.lfs_model.specs.View.{IsAccepted};
 ghost use Rattle.lfs_tag.specs.FieldsView.{move_view};
 ghost use Rattle.lfs_thread.specs.Steps.{IsOnlyRead};
 ghost use Rattle.lfs_lookup.specs.Items.{structure_view};
-ghost use Rattle.lfs_lookup.specs.Walk.{IsWalked, founds_view};
-ghost use Rattle.lfs_tool.specs.Summary.{HasSummary, is_file_item, is_file_struct, is_half_done};
+ghost use Rattle.lfs_lookup.specs.Walk.{IsWalked, tree_items_view};
+ghost use Rattle.lfs_tool.specs.ImageSummaries.{HasSummary, is_file_item, is_file_struct, is_half_done};
 
-use crate::verdict::Summary;
+use crate::verdict::ImageSummary;
 use lfs_device::{Error, Ordered, RamDevice};
 use lfs_lookup::{Structure, TreeItem, find_root, is_writable, walk};
 use lfs_tag::MoveState;
@@ -54,7 +54,7 @@ fn is_half_done(state: &MoveState) -> bool
 fn items_in(alloc: Global, thread: &mut Thread<Ordered<RamDevice>>) -> Result<Vec<TreeItem>, Error>
     requires works { thread.old.failed ≡ false }
     requires accepted { IsAccepted thread.old.kept.disk thread.old.kept.pairs }
-    ensures walked { IfOk result (λ items. IsWalked thread.old.kept.disk thread.old.kept.pairs (founds_view items.items)) }
+    ensures walked { IfOk result (λ items. IsWalked thread.old.kept.disk thread.old.kept.pairs (tree_items_view items.items)) }
     ensures only { (IsOnlyRead thread.old.kept thread.new.kept) × (thread.new.failed ≡ false) }
     ensures err { IfErr result (λ e. e ≡ Error.NoMemory) }
 {
@@ -113,7 +113,7 @@ fn writable_in(
 pub(crate) fn summary_of(
     alloc: Global,
     thread: &mut Thread<Ordered<RamDevice>>,
-) -> Result<Summary, Error>
+) -> Result<ImageSummary, Error>
     requires works { thread.old.failed ≡ false }
     requires accepted { IsAccepted thread.old.kept.disk thread.old.kept.pairs }
     requires used { AreUsed thread.old.kept.map (used_blocks thread.old.kept.disk thread.old.kept.pairs) }
@@ -126,7 +126,7 @@ pub(crate) fn summary_of(
     let writable = writable_in(alloc, thread, root)?;
     let files = count_files(&items);
     let state = thread.state();
-    Ok(Summary {
+    Ok(ImageSummary {
         files,
         directories: items.len() - files,
         used: thread.used_count(),

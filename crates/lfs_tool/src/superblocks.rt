@@ -2,14 +2,14 @@
 
 ghost use Rattle.std.specs.Prelude.{◌≡◌, ◌⊎◌, ◌<◌, ◌/◌, ◌^◌, IfSome, length};
 ghost use Rattle.lfs_tag.specs.FieldsView.{superblock_view};
-ghost use Rattle.lfs_tool.specs.Stated.{IsStatedIn, IsUnlike, StandsAt};
+ghost use Rattle.lfs_tool.specs.WrongNumbers.{IsWrongNumberIn, IsWrongField, IsSuperblockAt};
 
 use crate::findings::Stated;
 use lfs_tag::{Superblock, superblock_of};
 
 // Returns which of these fields is wrong for so many blocks of that size.
 pub(crate) fn unlike(block_size: u32, count: usize, fields: &Superblock) -> Option<Stated>
-    ensures { IfSome result (IsUnlike block_size count (superblock_view fields.now)) }
+    ensures { IfSome result (IsWrongField block_size count (superblock_view fields.now)) }
 {
     if fields.block_size != block_size {
         return Some(Stated::BlockSize(fields.block_size));
@@ -26,7 +26,7 @@ pub(crate) fn unlike(block_size: u32, count: usize, fields: &Superblock) -> Opti
 // Returns the fields of the superblock at the beginning of a block at that offset.
 fn fields_at(bytes: &[u8], from: usize) -> Option<Superblock>
     requires { from < 2 ^ 32 }
-    ensures { IfSome result (λ fields. StandsAt bytes.now from (superblock_view fields)) }
+    ensures { IfSome result (λ fields. IsSuperblockAt bytes.now from (superblock_view fields)) }
 {
     if bytes.len() < from + 44 || &bytes[from + 8..from + 16] != Superblock::NAME {
         return None;
@@ -38,10 +38,10 @@ fn fields_at(bytes: &[u8], from: usize) -> Option<Superblock>
 }
 
 // Returns which field of that superblock is wrong for the bytes.
-fn stated_at(bytes: &[u8], block_size: u32, from: usize) -> Option<Stated>
+fn wrong_number_at(bytes: &[u8], block_size: u32, from: usize) -> Option<Stated>
     requires size { 0 < block_size }
     requires from { (from ≡ 0) ⊎ (from ≡ block_size) }
-    ensures { IfSome result (IsStatedIn bytes.now block_size) }
+    ensures { IfSome result (IsWrongNumberIn bytes.now block_size) }
 {
     let count = bytes.len() / block_size as usize;
     match fields_at(bytes, from) {
@@ -55,14 +55,14 @@ fn stated_at(bytes: &[u8], block_size: u32, from: usize) -> Option<Stated>
 /// place, without a checksum. So blocks of another size needn't be known.
 ///
 /// Returns None where neither block begins with a superblock, or each has right numbers.
-pub fn misstated_in(bytes: &[u8], block_size: u32) -> Option<Stated>
-    ensures { IfSome result (IsStatedIn bytes.now block_size) }
+pub fn wrong_number_in(bytes: &[u8], block_size: u32) -> Option<Stated>
+    ensures { IfSome result (IsWrongNumberIn bytes.now block_size) }
 {
     if block_size == 0 {
         return None;
     }
-    match stated_at(bytes, block_size, 0) {
+    match wrong_number_at(bytes, block_size, 0) {
         Some(stated) => Some(stated),
-        None => stated_at(bytes, block_size, block_size as usize),
+        None => wrong_number_at(bytes, block_size, block_size as usize),
     }
 }

@@ -3,12 +3,12 @@
 ghost use Rattle.std.specs.Prelude.{IfOk, IfSome, Some};
 ghost use Rattle.lfs_model.specs.Slots.{address_of};
 ghost use Rattle.lfs_device.specs.Shown.{disk_of};
-ghost use Rattle.lfs_tool.specs.Device.{Looks};
-ghost use Rattle.lfs_tool.specs.Reading.{AreHeld, IsFollowed, IsNext};
+ghost use Rattle.lfs_tool.specs.Device.{OnlyReadsDevice};
+ghost use Rattle.lfs_tool.specs.PairReads.{AreFirstPairs, IsFollowed, IsNextPair};
 
 use crate::addresses::{range_fault, twice_fault};
 use crate::findings::Finding;
-use crate::held_parts::HeldPair;
+use crate::owned_parts::OwnedPair;
 use crate::pairs::{Read, read_pair};
 use lfs_device::{BlockDevice, Error};
 use std::alloc::Global;
@@ -16,7 +16,7 @@ use std::alloc::Global;
 // All pairs of the thread, or what is wrong with it.
 #[derive(Drop)]
 pub(crate) enum Followed {
-    Whole(Vec<HeldPair>),
+    Whole(Vec<OwnedPair>),
     Broken(Finding),
 }
 
@@ -26,12 +26,12 @@ fn next_pair<D: BlockDevice>(
     alloc: Global,
     device: &mut D,
     marks: &mut Vec<bool>,
-    pairs: &[HeldPair],
+    pairs: &[OwnedPair],
     at: [u32; 2],
 ) -> Result<Read, Error>
-    requires { AreHeld (disk_of (D.geometry device.old) (D.blocks device.old)) (Some (address_of at)) pairs.now }
-    ensures read { IfOk result (IsNext (disk_of (D.geometry device.old) (D.blocks device.old)) (address_of at)) }
-    ensures looks { Looks D.BlockDevice device.old device.new result }
+    requires { AreFirstPairs (disk_of (D.geometry device.old) (D.blocks device.old)) (Some (address_of at)) pairs.now }
+    ensures read { IfOk result (IsNextPair (disk_of (D.geometry device.old) (D.blocks device.old)) (address_of at)) }
+    ensures looks { OnlyReadsDevice D.BlockDevice device.old device.new result }
 {
     let count = device.geometry().block_count;
     if let Some(finding) = range_fault(count, at) {
@@ -51,7 +51,7 @@ pub(crate) fn follow<D: BlockDevice>(
     device: &mut D,
 ) -> Result<Option<Followed>, Error>
     ensures followed { IfOk result (λ found. IfSome found (IsFollowed (disk_of (D.geometry device.old) (D.blocks device.old)))) }
-    ensures looks { Looks D.BlockDevice device.old device.new result }
+    ensures looks { OnlyReadsDevice D.BlockDevice device.old device.new result }
 {
     let count = device.geometry().block_count;
     let mut marks = Vec::from_elem(alloc, false, count as usize)?;

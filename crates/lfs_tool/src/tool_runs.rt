@@ -2,9 +2,9 @@ ghost use Rattle.std.specs.Prelude.{◌≡◌, ◌≢◌, IfErr, IfOk, IsErrOf, 
 ghost use Rattle.std.specs.IoError.{error_kind};
 ghost use Rattle.std.specs.String.{string_bytes};
 ghost use Rattle.lfs_tool_line.specs.Matches.{IsLineOf, is_checked, is_listed, rows};
-ghost use Rattle.lfs_tool.specs.Answered.{HasLine, IsAnswered, IsFaultIn, IsShown};
+ghost use Rattle.lfs_tool.specs.RunEnds.{HasLine, IsRequestAnswered, IsFaultIn, IsFaultShown};
 ghost use Rattle.lfs_tool.specs.Explained.{IsFollowed};
-ghost use Rattle.lfs_tool.specs.Placed.{By, ChecksAt, EndsWell, FailsAt, FailsToRead, ListsAt, MakesAt, RefusesAt, RefusesToMake, UnpacksAt};
+ghost use Rattle.lfs_tool.specs.RunsAtPaths.{HoldsForMode, ChecksAt, MayEndWith, FailsAt, FailsToReadFolder, ListsAt, MakesAt, RefusesAt, RefusesToMake, UnpacksAt};
 
 use crate::explanations::explain;
 use crate::modes::carry_out;
@@ -35,23 +35,23 @@ pub fn run<P: Places, W: Writer>(
     ensures kept { IfErr result (λ e. e ≢ Fault.Tool ToolError.Output → out.new ≡ out.old) }
 
     // What is done at the paths of the line, and when each error of the tool comes.
-    ensures done { IfOk result (λ accepted. (line : _) × (IsLineOf (rows (map string_bytes words.now)) line × EndsWell line.mode accepted × By line.mode
+    ensures done { IfOk result (λ accepted. (line : _) × (IsLineOf (rows (map string_bytes words.now)) line × MayEndWith line.mode accepted × HoldsForMode line.mode
         (ListsAt P.image_path P.Image.remaining line (W.contents out.old) (W.contents out.new) × (W.pending out.new ≡ 0))
         (ChecksAt P.image_path P.Image.remaining line accepted (W.contents out.old) (W.contents out.new) × (W.pending out.new ≡ 0))
         (MakesAt P.folder_path P.Folder.shown P.new_image_path P.NewImage.contents P.NewImage.pending line)
         (UnpacksAt P.image_path P.Image.remaining P.new_folder_path P.NewFolder.done line))) }
     ensures refused { (e : _) → IsErrOf result (Fault.Tool (ToolError.Fs e)) → e ≢ Error.NoMemory
-        → (line : _) × (IsLineOf (rows (map string_bytes words.now)) line × By line.mode
+        → (line : _) × (IsLineOf (rows (map string_bytes words.now)) line × HoldsForMode line.mode
         (RefusesAt P.image_path P.Image.remaining line e)
         ⊥
         (RefusesToMake P.folder_path P.Folder.shown line e)
         (λ _. RefusesAt P.image_path P.Image.remaining line e)) }
-    ensures input { IsErrOf result (Fault.Tool ToolError.Input) → (line : _) × (IsLineOf (rows (map string_bytes words.now)) line × By line.mode
+    ensures input { IsErrOf result (Fault.Tool ToolError.Input) → (line : _) × (IsLineOf (rows (map string_bytes words.now)) line × HoldsForMode line.mode
         (FailsAt P.image_path P.Image.faults line.image.now)
         (FailsAt P.image_path P.Image.faults line.image.now)
-        (FailsToRead P.folder_path P.Folder.faults P.Folder.shown)
+        (FailsToReadFolder P.folder_path P.Folder.faults P.Folder.shown)
         (λ _. FailsAt P.image_path P.Image.faults line.image.now)) }
-    ensures output { IsErrOf result (Fault.Tool ToolError.Output) → (line : _) × (IsLineOf (rows (map string_bytes words.now)) line × By line.mode
+    ensures output { IsErrOf result (Fault.Tool ToolError.Output) → (line : _) × (IsLineOf (rows (map string_bytes words.now)) line × HoldsForMode line.mode
         (W.faults out.new ≡ suc (W.faults out.old))
         (W.faults out.new ≡ suc (W.faults out.old))
         (λ _. FailsAt P.new_image_path P.NewImage.faults line.image.now)
@@ -91,7 +91,7 @@ pub fn answer<P: Places, O: Writer, E: Writer>(
     out: &mut O,
     err: &mut E,
 ) -> u8
-    ensures answered { IfOk words (λ all. IsAnswered E.Writer (map string_bytes all.items) (λ accepted. (line : _) × (IsLineOf (rows (map string_bytes all.items)) line × EndsWell line.mode accepted × By line.mode
+    ensures answered { IfOk words (λ all. IsRequestAnswered E.Writer (map string_bytes all.items) (λ accepted. (line : _) × (IsLineOf (rows (map string_bytes all.items)) line × MayEndWith line.mode accepted × HoldsForMode line.mode
         (ListsAt P.image_path P.Image.remaining line (O.contents out.old) (O.contents out.new) × (O.pending out.new ≡ 0))
         (ChecksAt P.image_path P.Image.remaining line accepted (O.contents out.old) (O.contents out.new) × (O.pending out.new ≡ 0))
         (MakesAt P.folder_path P.Folder.shown P.new_image_path P.NewImage.contents P.NewImage.pending line)
@@ -100,15 +100,15 @@ pub fn answer<P: Places, O: Writer, E: Writer>(
     ensures unlisted { IfOk words (λ all. HasLine (map string_bytes all.items) → is_listed (rows (map string_bytes all.items)) ≡ false → is_checked (rows (map string_bytes all.items)) ≡ false → out.new ≡ out.old) }
 
     // With words that are a command line, the status 0 comes where its request is done.
-    ensures done { IfOk words (λ all. HasLine (map string_bytes all.items) → result ≡ 0 → (line : _) × (IsLineOf (rows (map string_bytes all.items)) line × By line.mode
+    ensures done { IfOk words (λ all. HasLine (map string_bytes all.items) → result ≡ 0 → (line : _) × (IsLineOf (rows (map string_bytes all.items)) line × HoldsForMode line.mode
         (ListsAt P.image_path P.Image.remaining line (O.contents out.old) (O.contents out.new) × (O.pending out.new ≡ 0))
         (ChecksAt P.image_path P.Image.remaining line true (O.contents out.old) (O.contents out.new) × (O.pending out.new ≡ 0))
         (MakesAt P.folder_path P.Folder.shown P.new_image_path P.NewImage.contents P.NewImage.pending line)
         (UnpacksAt P.image_path P.Image.remaining P.new_folder_path P.NewFolder.done line))) }
 
     // Without words.
-    ensures no_memory { IfErr words (λ e. error_kind e ≡ ErrorKind.OutOfMemory → IsShown E.Writer (Fault.Tool (ToolError.Fs Error.NoMemory)) result err.old err.new) }
-    ensures not_utf8 { IfErr words (λ e. error_kind e ≢ ErrorKind.OutOfMemory → IsShown E.Writer (Fault.Line LineError.NotUtf8) result err.old err.new) }
+    ensures no_memory { IfErr words (λ e. error_kind e ≡ ErrorKind.OutOfMemory → IsFaultShown E.Writer (Fault.Tool (ToolError.Fs Error.NoMemory)) result err.old err.new) }
+    ensures not_utf8 { IfErr words (λ e. error_kind e ≢ ErrorKind.OutOfMemory → IsFaultShown E.Writer (Fault.Line LineError.NotUtf8) result err.old err.new) }
     ensures kept { OnErr words (out.new ≡ out.old) }
 {
     let words = match words {

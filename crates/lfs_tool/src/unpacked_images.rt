@@ -4,14 +4,14 @@ ghost use Rattle.std.specs.Prelude.{◌≡◌, ◌≢◌, ◌⊎◌, ◌<◌, �
 ghost use Rattle.lfs_device.specs.RamDevice.{ram_blocks, geometry_of};
 ghost use Rattle.lfs_device.specs.Shown.{disk_of as shown};
 ghost use Rattle.lfs_model.specs.View.{IsListIfCtz};
-ghost use Rattle.lfs_tool_folders.specs.Actions.{Adds};
-ghost use Rattle.lfs_tool.specs.Listed.{Refuses};
-ghost use Rattle.lfs_tool.specs.Unpacked.{AreLists, FailsToUnpack, FailsToUnpackImage, HasBegun, HasDone, IsBegunOfImage, IsDoneOf, IsDoneOfImage, ReportsTarget, action_at, actions_at};
+ghost use Rattle.lfs_tool_folders.specs.Actions.{AddsAction};
+ghost use Rattle.lfs_tool.specs.Listings.{RefusesToList};
+ghost use Rattle.lfs_tool.specs.Unpackings.{AreLists, FailsToUnpack, FailsToUnpackImage, HasBegunActions, HasDoneActions, IsBegunOfImage, IsDoneOf, IsDoneOfImage, ReportsTarget, action_at, actions_at};
 ghost use Rattle.lfs_thread.specs.Steps.{IsOnlyRead};
 ghost use Rattle.lfs_lookup.specs.FileBytes.{bytes_shown};
 ghost use Rattle.lfs_lookup.specs.Items.{structure_view};
-ghost use Rattle.lfs_lookup.specs.Walk.{found_view, founds_view};
-ghost use Rattle.lfs_tool.specs.Reported.{IsReadToEnd, ReportsOnce};
+ghost use Rattle.lfs_lookup.specs.Walk.{tree_item_view, tree_items_view};
+ghost use Rattle.lfs_tool.specs.Reports.{IsReadToEnd, ReportsOnce};
 
 use crate::image_devices::{device_of, items_in_memory};
 use crate::input::read_image;
@@ -64,7 +64,7 @@ fn put_item<T: Target>(
 ) -> Result<(), ToolError>
     requires works { thread.old.failed ≡ false }
     requires list { IsListIfCtz thread.old.kept.disk (structure_view item.now.structure) }
-    ensures done { OnOk result (Adds (T.done target.old) (T.done target.new) (action_at thread.old.kept.disk (found_view item.now))) }
+    ensures done { OnOk result (AddsAction (T.done target.old) (T.done target.new) (action_at thread.old.kept.disk (tree_item_view item.now))) }
     ensures undone { OnErr result (T.done target.new ≡ T.done target.old) }
     ensures only { (IsOnlyRead thread.old.kept thread.new.kept) × (thread.new.failed ≡ false) }
     ensures reports { ReportsTarget (T.faults target.old) (T.faults target.new) result }
@@ -90,9 +90,9 @@ fn put_items<T: Target>(
     target: &mut T,
 ) -> Result<(), ToolError>
     requires works { thread.old.failed ≡ false }
-    requires lists { AreLists thread.old.kept.disk (founds_view items.now) }
-    ensures done { OnOk result (HasDone (T.done target.old) (T.done target.new) (actions_at thread.old.kept.disk (founds_view items.now))) }
-    ensures begun { OnErr result (HasBegun (T.done target.old) (T.done target.new) (actions_at thread.old.kept.disk (founds_view items.now))) }
+    requires lists { AreLists thread.old.kept.disk (tree_items_view items.now) }
+    ensures done { OnOk result (HasDoneActions (T.done target.old) (T.done target.new) (actions_at thread.old.kept.disk (tree_items_view items.now))) }
+    ensures begun { OnErr result (HasBegunActions (T.done target.old) (T.done target.new) (actions_at thread.old.kept.disk (tree_items_view items.now))) }
     ensures reports { ReportsTarget (T.faults target.old) (T.faults target.new) result }
 {
     for item in items {
@@ -162,7 +162,7 @@ pub fn unpack<R: Reader, T: Target>(
     ensures begun { OnErr result ((T.done target.new ≡ T.done target.old) ⊎ IfSome (R.remaining image.old) (λ bytes. IsBegunOfImage block_size page bytes (T.done target.old) (T.done target.new))) }
 
     // When each error comes.
-    ensures refused { (e : _) → IsErrOf result (ToolError.Fs e) → IfSome (R.remaining image.old) (λ bytes. Refuses block_size page bytes e) }
+    ensures refused { (e : _) → IsErrOf result (ToolError.Fs e) → IfSome (R.remaining image.old) (λ bytes. RefusesToList block_size page bytes e) }
     ensures input { ReportsOnce ToolError.Input (R.faults image.old) (R.faults image.new) result }
     ensures read { ¬ IsErrOf result ToolError.Input → ¬ IsErrOf result (ToolError.Fs Error.NoMemory) → IsReadToEnd (R.remaining image.old) (R.remaining image.new) }
     ensures output { ReportsOnce ToolError.Output (T.faults target.old) (T.faults target.new) result }

@@ -4,7 +4,7 @@ use crate::findings::Finding;
 
 /// The orders of names in which an image is accepted.
 #[derive(Clone, Copy, Debug, PartialEq, Eq, Drop)]
-pub enum Orders {
+pub enum AcceptedOrders {
     LongerFirst,
     ShorterFirst,
     /// Both: no name of a directory begins another one.
@@ -13,7 +13,7 @@ pub enum Orders {
 
 /// What an accepted image has.
 #[derive(Clone, Copy, Debug, PartialEq, Eq, Drop)]
-pub struct Summary {
+pub struct ImageSummary {
     pub files: usize,
     /// How many files and directories there are, without the root.
     pub directories: usize,
@@ -30,7 +30,10 @@ pub struct Summary {
 /// Whether an image is accepted, and with what, or why not.
 #[derive(Drop)]
 pub enum Verdict {
-    Accepted { summary: Summary, orders: Orders },
+    Accepted {
+        summary: ImageSummary,
+        orders: AcceptedOrders,
+    },
     /// The rule that the image breaks. None where it breaks one that no finding has.
     Refused(Option<Finding>),
 }

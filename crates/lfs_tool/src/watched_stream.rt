@@ -23,7 +23,7 @@ pub struct Watched<T> {
 }
 
 impl<T> Watched<T> {
-    ghost use Rattle.lfs_tool.specs.Watched.{faults_of, inner_of};
+    ghost use Rattle.lfs_tool.specs.WatchedStreams.{faults_of, inner_of};
 
     /// Makes a reader or a writer of which no call was made yet.
     pub fn new(inner: T) -> Watched<T>
@@ -54,7 +54,7 @@ impl<T> Watched<T> {
 }
 
 impl<R: Read> Reader for Watched<R> {
-    ghost use Rattle.lfs_tool.specs.Watched.{faults_of, inner_of};
+    ghost use Rattle.lfs_tool.specs.WatchedStreams.{faults_of, inner_of};
 
     ghost remaining = { λ w. R.remaining (inner_of w) };
 
@@ -78,13 +78,13 @@ impl<R: Read> Reader for Watched<R> {
 }
 
 impl<W: Write> Writer for Watched<W> {
-    ghost use Rattle.lfs_tool.specs.Watched.{faults_of, inner_of, pending_of, shown_of};
+    ghost use Rattle.lfs_tool.specs.WatchedStreams.{faults_of, inner_of, unflushed_of, shown_of};
 
     ghost contents = { λ w. W.contents (inner_of w) };
 
     ghost faults = { faults_of };
 
-    ghost pending = { pending_of };
+    ghost pending = { unflushed_of };
 
     ghost shown = { shown_of };
 

@@ -6,7 +6,7 @@ use Rattle.std.specs.List.{list_any}
 use Rattle.std.specs.Str.{bytes_eq}
 use Rattle.std.proofs.lemmas.List.{get_or-map, length-map, map-append, take-map, take_more}
 use Rattle.std.proofs.lemmas.List.Elements.{filter_more}
-use Rattle.lfs_tool_folders.specs.InMemory.{item_of, Item, given_by, is_within, name_of, names_in}
+use Rattle.lfs_tool_folders.specs.MemorySources.{item_of, Item, given_by, is_within, name_of, names_in}
 use Rattle.lfs_tool_folders.specs.declared.source_memory.Held.{Held}
 
 one_name : (path : List ℕ) (e : Item) → map (given_by path) (cond (is_within path e.0) (e ∷ []) []) ≡ name_of path e

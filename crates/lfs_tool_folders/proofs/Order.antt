@@ -11,8 +11,8 @@ use Rattle.std.proofs.lemmas.List.Sums.{sum_by-cons}
 use Rattle.std.proofs.lemmas.List.Sorted.{IsPermutation-map, sum_by-IsPermutation}
 use Rattle.lfs_model.specs.declared.order.NameOrder.TheVariants.{ShorterFirst}
 use Rattle.lfs_model.specs.Names.{Name, name_cmp, same_name, is_component, is_less}
-use Rattle.lfs_model.specs.Source.{AreBad, Source, given_names, times}
-use Rattle.lfs_tool_folders.specs.Shown.{listed}
+use Rattle.lfs_model.specs.Source.{AreBadNames, Source, given_names, times_given}
+use Rattle.lfs_tool_folders.specs.SourceTrees.{name_view}
 use Rattle.lfs_model.proofs.Counts.{Each, each_weaker}
 use Rattle.lfs_model.proofs.Paths.{name_from_equal, same_itself}
 use Rattle.lfs_tool_folders.specs.Entries.{AreInOrder, comes_before, name_in, rise_behind}
@@ -65,30 +65,30 @@ never_fall (x ∷ y ∷ xs) h = (
       subst (λ i. comes_before (get_or (x ∷ y ∷ xs) i d) (get_or (y ∷ xs) k d) ≡ false) next (h (suc k) d (omega arith) (omega arith))),
 )
 
-times_more : (name n : Name) (ns : List Name) → times name (n ∷ ns) ≡ cond (same_name name n) 1 0 + times name ns
+times_more : (name n : Name) (ns : List Name) → times_given name (n ∷ ns) ≡ cond (same_name name n) 1 0 + times_given name ns
 times_more name n ns = sum_by-cons (λ m. cond (same_name name m) 1 0) n ns
 
-here_too : (n : Name) (ns : List Name) → times n (n ∷ ns) ≡ 1 + times n ns
-here_too n ns = times_more n n ns ∙ ap (λ b. cond b 1 0 + times n ns) (same_itself n)
+here_too : (n : Name) (ns : List Name) → times_given n (n ∷ ns) ≡ 1 + times_given n ns
+here_too n ns = times_more n n ns ∙ ap (λ b. cond b 1 0 + times_given n ns) (same_itself n)
 
-bad_later : (n : Name) (ns : List Name) → AreBad ns → AreBad (n ∷ ns)
+bad_later : (n : Name) (ns : List Name) → AreBadNames ns → AreBadNames (n ∷ ns)
 bad_later n ns (inl h) = inl (h.0, h.1, omega (arith, h.2, times_more h.0 n ns))
 bad_later n ns (inr h) = inr (h.0, omega (arith, h.1, times_more h.0 n ns))
 
-odd_here : (n : Name) (ns : List Name) → is_component n ≡ false → AreBad (n ∷ ns)
+odd_here : (n : Name) (ns : List Name) → is_component n ≡ false → AreBadNames (n ∷ ns)
 odd_here n ns e = inl (n, e, omega (arith, here_too n ns))
 
-twice : (n : Name) (ns : List Name) → AreBad (n ∷ n ∷ ns)
+twice : (n : Name) (ns : List Name) → AreBadNames (n ∷ n ∷ ns)
 twice n ns = inr (n, omega (arith, here_too n (n ∷ ns), here_too n ns))
 
-bad_behind : (last : Name) (ns : List Name) → NeverFall (last ∷ ns) → rise_behind last ns ≡ false → AreBad (last ∷ ns)
+bad_behind : (last : Name) (ns : List Name) → NeverFall (last ∷ ns) → rise_behind last ns ≡ false → AreBadNames (last ∷ ns)
 bad_behind last [] h e = absurd (cc)
 bad_behind last (n ∷ ns) h e = go (is_component n) (name_cmp ShorterFirst last n) refl refl e (bad_behind n ns h.1)
   where
-    go : (c : Bool) (o : Ordering) → is_component n ≡ c → name_cmp ShorterFirst last n ≡ o → (c && is_less o && rise_behind n ns) ≡ false → (rise_behind n ns ≡ false → AreBad (n ∷ ns)) → AreBad (last ∷ n ∷ ns)
+    go : (c : Bool) (o : Ordering) → is_component n ≡ c → name_cmp ShorterFirst last n ≡ o → (c && is_less o && rise_behind n ns) ≡ false → (rise_behind n ns ≡ false → AreBadNames (n ∷ ns)) → AreBadNames (last ∷ n ∷ ns)
     go false o is cmp f next = bad_later last (n ∷ ns) (odd_here n ns is)
     go true Less is cmp f next = bad_later last (n ∷ ns) (next f)
-    go true Equal is cmp f next = subst (λ m. AreBad (last ∷ m ∷ ns)) (name_from_equal last n cmp) (twice last ns)
+    go true Equal is cmp f next = subst (λ m. AreBadNames (last ∷ m ∷ ns)) (name_from_equal last n cmp) (twice last ns)
     go true Greater is cmp f next =
         let back : name_cmp ShorterFirst n last ≡ Less = nat_list_cmp_total.antisymm n last ∙ ap ordering_reverse cmp in
         let wrong : true ≡ false = sym (ap is_less back) ∙ h.0 in
@@ -98,33 +98,33 @@ above_nothing : (n : Name) → is_component n ≡ true → is_less (name_cmp Sho
 above_nothing [] e = absurd (cc)
 above_nothing (b ∷ n) e = refl
 
-bad_from : (ns : List Name) → NeverFall ns → rise_behind [] ns ≡ false → AreBad ns
+bad_from : (ns : List Name) → NeverFall ns → rise_behind [] ns ≡ false → AreBadNames ns
 bad_from [] h e = absurd (cc)
 bad_from (n ∷ ns) h e = go (is_component n) refl e
   where
-    go : (c : Bool) → is_component n ≡ c → (c && is_less (name_cmp ShorterFirst [] n) && rise_behind n ns) ≡ false → AreBad (n ∷ ns)
+    go : (c : Bool) → is_component n ≡ c → (c && is_less (name_cmp ShorterFirst [] n) && rise_behind n ns) ≡ false → AreBadNames (n ∷ ns)
     go false is f = odd_here n ns is
     go true is f = bad_behind n ns h (sym (ap (λ b. b && rise_behind n ns) (above_nothing n is)) ∙ f)
 
-pub bad_names : (xs : List Listed) → IsSortedBy comes_before xs → rise_behind [] (map name_in xs) ≡ false → AreBad (map name_in xs)
+pub bad_names : (xs : List Listed) → IsSortedBy comes_before xs → rise_behind [] (map name_in xs) ≡ false → AreBadNames (map name_in xs)
 bad_names xs h e = bad_from (map name_in xs) (never_fall xs h) e
 
 -- ---- in another order
 
-same_times : (xs ys : List Listed) (name : Name) → IsPermutation xs ys → times name (map name_in ys) ≡ times name (map name_in xs)
+same_times : (xs ys : List Listed) (name : Name) → IsPermutation xs ys → times_given name (map name_in ys) ≡ times_given name (map name_in xs)
 same_times xs ys name h = sum_by-IsPermutation (λ n. cond (same_name name n) 1 0) (map name_in xs) (map name_in ys) (IsPermutation-map name_in xs ys h)
 
-bad_before : (xs ys : List Listed) → IsPermutation xs ys → AreBad (map name_in ys) → AreBad (map name_in xs)
+bad_before : (xs ys : List Listed) → IsPermutation xs ys → AreBadNames (map name_in ys) → AreBadNames (map name_in xs)
 bad_before xs ys h (inl b) = inl (b.0, b.1, omega (arith, b.2, same_times xs ys b.0 h))
 bad_before xs ys h (inr b) = inr (b.0, omega (arith, b.1, same_times xs ys b.0 h))
 
-pub names_given : (xs : List Listed) → given_names (map listed xs) ≡ map name_in xs
+pub names_given : (xs : List Listed) → given_names (map name_view xs) ≡ map name_in xs
 names_given [] = refl
 names_given (x ∷ xs) = ap (λ ns. x.name.items ∷ ns) (names_given xs)
 
 -- what is bad once it is sorted was bad as it was given
-pub bad_given : (known : Option Source) (folder : List ℕ) (xs ys zs : List Listed) → IfSome known (λ s. map listed xs ≡ s.names folder) → IsPermutation xs ys → zs ≡ ys → AreBad (map name_in zs)
-    → IfSome known (λ s. AreBad (given_names (s.names folder)))
+pub bad_given : (known : Option Source) (folder : List ℕ) (xs ys zs : List Listed) → IfSome known (λ s. map name_view xs ≡ s.names folder) → IsPermutation xs ys → zs ≡ ys → AreBadNames (map name_in zs)
+    → IfSome known (λ s. AreBadNames (given_names (s.names folder)))
 bad_given None folder xs ys zs e h same b = tt
 bad_given (Some s) folder xs ys zs e h same b =
-    subst (λ g. AreBad (given_names g)) e (subst AreBad (sym (names_given xs)) (bad_before xs ys h (subst (λ v. AreBad (map name_in v)) same b)))
+    subst (λ g. AreBadNames (given_names g)) e (subst AreBadNames (sym (names_given xs)) (bad_before xs ys h (subst (λ v. AreBadNames (map name_in v)) same b)))

@@ -6,32 +6,32 @@ use Rattle.std.proofs.lemmas.List.{map-append, reverse-append, reverse-reverse}
 use Rattle.std.proofs.lemmas.List.Elements.{All-contains_itself, recursion_from_All}
 use Rattle.std.proofs.lemmas.List.Sorted.{All-permutation, IsPermutation-map}
 use Rattle.lfs_model.specs.Names.{Name}
-use Rattle.lfs_model.specs.Source.{AreBad, Source, given_names, path_in}
+use Rattle.lfs_model.specs.Source.{AreBadNames, Source, given_names, path_in}
 use Rattle.lfs_model.proofs.Counts.{Each, each_append, each_left, each_right}
-use Rattle.lfs_tool_folders.specs.Shown.{Rests, listed}
-use Rattle.lfs_tool_folders.specs.InMemory.{items_by}
-use Rattle.lfs_tool_folders.specs.Entries.{AreAll, AreInOrder, AreRead, AreWithin, HasBadNames, HoldsSource, IsFolder, LeadsTo, Place, name_in, places_in}
+use Rattle.lfs_tool_folders.specs.SourceTrees.{TreeStays, name_view}
+use Rattle.lfs_tool_folders.specs.MemorySources.{items_by}
+use Rattle.lfs_tool_folders.specs.Entries.{AreAllEntries, AreInOrder, AreEntriesAt, AreWithin, HasBadNames, HoldsSource, IsFolder, NamesLeadTo, Place, name_in, places_in}
 use Rattle.lfs_tool_folders.specs.declared.source.Listed.{Listed}
 use Rattle.lfs_tool_folders.specs.declared.entries.SourceEntry.{SourceEntry}
 use Rattle.lfs_tool_folders.proofs.Order.{names_given}
 
 -- ---- what a source shows stays
 
-pub rests_both : (a b c : Option Source) → Rests a b → Rests b c → Rests a c
+pub rests_both : (a b c : Option Source) → TreeStays a b → TreeStays b c → TreeStays a c
 rests_both None b c x y = tt
 rests_both (Some t) None c x y = absurd x
 rests_both (Some t) (Some u) None x y = absurd y
 rests_both (Some t) (Some u) (Some v) x y = y ∙ x
 
-pub along : (P : Source → Type 0) (a b : Option Source) → Rests a b → IfSome b P → IfSome a P
+pub along : (P : Source → Type 0) (a b : Option Source) → TreeStays a b → IfSome b P → IfSome a P
 along P None b x p = tt
 along P (Some t) None x p = absurd x
 along P (Some t) (Some u) x p = subst P x p
 
-pub within_along : (a b : Option Source) (folder : List ℕ) (within : List (Name × Bool)) → Rests a b → AreWithin b folder within → AreWithin a folder within
+pub within_along : (a b : Option Source) (folder : List ℕ) (within : List (Name × Bool)) → TreeStays a b → AreWithin b folder within → AreWithin a folder within
 within_along a b folder within x h = record { order = h.order; names = along (λ s. IsPermutation (s.names folder) within) a b x h.names }
 
-pub holds_along : (a b : Option Source) (path : List ℕ) (is_folder : Bool) (bytes : Option (List ℕ)) (within : List (Name × Bool)) → Rests a b → HoldsSource b path is_folder bytes within
+pub holds_along : (a b : Option Source) (path : List ℕ) (is_folder : Bool) (bytes : Option (List ℕ)) (within : List (Name × Bool)) → TreeStays a b → HoldsSource b path is_folder bytes within
     → HoldsSource a path is_folder bytes within
 holds_along a b path false None within x h = absurd h
 holds_along a b path false (Some bytes) within x h = (along (λ s. bytes ≡ s.bytes path) a b x h.0, h.1)
@@ -40,42 +40,42 @@ holds_along a b path true (Some bytes) within x h = absurd h
 
 -- ---- names in a folder
 
-pub within_sorted : (known : Option Source) (folder : List ℕ) (xs ys : List Listed) → IfSome known (λ s. map listed xs ≡ s.names folder) → IsPermutation xs ys → AreInOrder (map name_in ys)
-    → AreWithin known folder (map listed ys)
+pub within_sorted : (known : Option Source) (folder : List ℕ) (xs ys : List Listed) → IfSome known (λ s. map name_view xs ≡ s.names folder) → IsPermutation xs ys → AreInOrder (map name_in ys)
+    → AreWithin known folder (map name_view ys)
 within_sorted known folder xs ys e p o = record { order = subst AreInOrder (sym (names_given ys)) o; names = go known e }
   where
-    go : (known : Option Source) → IfSome known (λ s. map listed xs ≡ s.names folder) → IfSome known (λ s. IsPermutation (s.names folder) (map listed ys))
+    go : (known : Option Source) → IfSome known (λ s. map name_view xs ≡ s.names folder) → IfSome known (λ s. IsPermutation (s.names folder) (map name_view ys))
     go None e = tt
-    go (Some s) e = subst (λ g. IsPermutation g (map listed ys)) e (IsPermutation-map listed xs ys p)
+    go (Some s) e = subst (λ g. IsPermutation g (map name_view ys)) e (IsPermutation-map name_view xs ys p)
 
 map_reverse : {X Y : Type 0} (f : X → Y) (xs : List X) → map f (reverse xs) ≡ reverse (map f xs)
 map_reverse f [] = refl
 map_reverse f (x ∷ xs) =
     ap (map f) (reverse-append (x ∷ []) xs) ∙ map-append f (reverse xs) (x ∷ []) ∙ ap (λ ys. ys ++ f x ∷ []) (map_reverse f xs) ∙ sym (reverse-append (f x ∷ []) (map f xs))
 
-pub places_reversed : (folder : List ℕ) (xs ys : List Listed) → ys ≡ reverse xs → places_in folder (map listed ys) ≡ reverse (places_in folder (map listed xs))
+pub places_reversed : (folder : List ℕ) (xs ys : List Listed) → ys ≡ reverse xs → places_in folder (map name_view ys) ≡ reverse (places_in folder (map name_view xs))
 places_reversed folder xs ys e =
-    ap (λ zs. places_in folder (map listed zs)) e ∙ ap (places_in folder) (map_reverse listed xs) ∙ map_reverse (λ (g : Name × Bool). (path_in folder g.0, g.1)) (map listed xs)
+    ap (λ zs. places_in folder (map name_view zs)) e ∙ ap (places_in folder) (map_reverse name_view xs) ∙ map_reverse (λ (g : Name × Bool). (path_in folder g.0, g.1)) (map name_view xs)
 
 -- ---- entries in turn
 
 -- what is read at the places that wait ends the entries
 abbrev pub Goes : Option Source → List Place → List SourceEntry → Type 0
-Goes known places entries = (rest : List SourceEntry) → AreRead known (reverse places) rest → AreAll known (entries ++ rest)
+Goes known places entries = (rest : List SourceEntry) → AreEntriesAt known (reverse places) rest → AreAllEntries known (entries ++ rest)
 
 pub begins : (known : Option Source) (top : List (Name × Bool)) (places : List Place) → AreWithin known [] top → places ≡ reverse (places_in [] top) → Goes known places []
-begins known top places w e = λ rest r. (top, (w, subst (λ ps. AreRead known ps rest) (ap reverse e ∙ reverse-reverse (places_in [] top)) r))
+begins known top places w e = λ rest r. (top, (w, subst (λ ps. AreEntriesAt known ps rest) (ap reverse e ∙ reverse-reverse (places_in [] top)) r))
 
 pub goes_on : (known : Option Source) (front : List Place) (p : Place) (places : List Place) (es fs : List SourceEntry) (e : SourceEntry) (within : List (Name × Bool)) → Goes known (front ++ p ∷ []) es
     → e.path.items ≡ p.0 → HoldsSource known p.0 p.1 (items_by e.bytes) within → places ≡ front ++ reverse (places_in p.0 within) → fs ≡ es ++ e ∷ [] → Goes known places fs
 goes_on known front p places es fs e within h path holds after more = λ rest r.
     let turned : reverse places ≡ places_in p.0 within ++ reverse front = ap reverse after ∙ reverse-append front (reverse (places_in p.0 within)) ∙ ap (λ ps. ps ++ reverse front) (reverse-reverse (places_in p.0 within)) in
-    let here : AreRead known (p ∷ reverse front) (e ∷ rest) = (path, (within, (holds, subst (λ ps. AreRead known ps rest) turned r))) in
-    let all : AreAll known (es ++ e ∷ rest) = h (e ∷ rest) (subst (λ ps. AreRead known ps (e ∷ rest)) (sym (reverse-append front (p ∷ []))) here) in
-    subst (AreAll known) (sym (ap (λ xs. xs ++ rest) more ∙ append_assoc es (e ∷ []) rest)) all
+    let here : AreEntriesAt known (p ∷ reverse front) (e ∷ rest) = (path, (within, (holds, subst (λ ps. AreEntriesAt known ps rest) turned r))) in
+    let all : AreAllEntries known (es ++ e ∷ rest) = h (e ∷ rest) (subst (λ ps. AreEntriesAt known ps (e ∷ rest)) (sym (reverse-append front (p ∷ []))) here) in
+    subst (AreAllEntries known) (sym (ap (λ xs. xs ++ rest) more ∙ append_assoc es (e ∷ []) rest)) all
 
-pub all_of : (known : Option Source) (places : List Place) (es : List SourceEntry) → Goes known places es → places ≡ [] → AreAll known es
-all_of known places es h none = subst (AreAll known) (append-nil es) (h [] (subst (λ ps. AreRead known (reverse ps) []) (sym none) tt))
+pub all_of : (known : Option Source) (places : List Place) (es : List SourceEntry) → Goes known places es → places ≡ [] → AreAllEntries known es
+all_of known places es h none = subst (AreAllEntries known) (append-nil es) (h [] (subst (λ ps. AreEntriesAt known (reverse ps) []) (sym none) tt))
 
 -- ---- folders that wait
 
@@ -85,7 +85,7 @@ LeadsHere s p = p.1 ≡ true → IsFolder s p.0
 abbrev pub AreFolders : Option Source → List Place → Type 0
 AreFolders known places = IfSome known (λ s. Each (LeadsHere s) places)
 
-leads_on : (s : Source) (folder : List ℕ) (names : List Name) (to : List ℕ) (name : Name) → LeadsTo s folder names to → Contains (s.names to) (name, true) → LeadsTo s folder (names ++ name ∷ []) (path_in to name)
+leads_on : (s : Source) (folder : List ℕ) (names : List Name) (to : List ℕ) (name : Name) → NamesLeadTo s folder names to → Contains (s.names to) (name, true) → NamesLeadTo s folder (names ++ name ∷ []) (path_in to name)
 leads_on s folder [] to name h c = (subst (λ f. Contains (s.names f) (name, true)) h c, ap (λ f. path_in f name) h)
 leads_on s folder (n ∷ names) to name h c = (h.0, leads_on s (path_in folder n) names to name h.1 c)
 
@@ -125,13 +125,13 @@ folders_on (Some s) front p places bytes within h holds after =
 
 -- ---- faults
 
-pub bad_below : (known now : Option Source) (front : List Place) (p : Place) → AreFolders known (front ++ p ∷ []) → Rests known now → p.1 ≡ true → IfSome now (λ s. AreBad (given_names (s.names p.0)))
+pub bad_below : (known now : Option Source) (front : List Place) (p : Place) → AreFolders known (front ++ p ∷ []) → TreeStays known now → p.1 ≡ true → IfSome now (λ s. AreBadNames (given_names (s.names p.0)))
     → IfSome known HasBadNames
 bad_below None now front p h x is bad = tt
 bad_below (Some s) None front p h x is bad = absurd x
 bad_below (Some s) (Some t) front p h x is bad =
     let here = each_right (LeadsHere s) front (p ∷ []) h in
-    (p.0, (here.0 is, subst (λ u. AreBad (given_names (u.names p.0))) x bad))
+    (p.0, (here.0 is, subst (λ u. AreBadNames (given_names (u.names p.0))) x bad))
 
 pub either : (P Q R S : Type 0) → (P → R) → (Q → S) → P ⊎ Q → R ⊎ S
 either P Q R S f g (inl p) = inl (f p)

@@ -5,10 +5,10 @@ use Rattle.lfs_tool_folders.specs.declared.target_memory.Done.{Done}
 use Rattle.lfs_tool_folders.specs.declared.target_memory.Done.TheVariants as variant
 
 -- one action more, where the actions are known
-abbrev pub Adds : Option (List Action) → Option (List Action) → Action → Type 0
-Adds None new a = Unit {0}
-Adds (Some done) None a = ⊥
-Adds (Some done) (Some now) a = now ≡ done ++ a ∷ []
+abbrev pub AddsAction : Option (List Action) → Option (List Action) → Action → Type 0
+AddsAction None new a = Unit {0}
+AddsAction (Some done) None a = ⊥
+AddsAction (Some done) (Some now) a = now ≡ done ++ a ∷ []
 
 abbrev pub action_view : Done → Action
 action_view (variant.Folder path) = MakeDirectory path.items

@@ -4,9 +4,9 @@ use Rattle.std.specs.List.Sorted.{IsPermutation}
 use Rattle.std.specs.declared.cmp.Ordering.TheVariants.{Less}
 use Rattle.lfs_model.specs.declared.order.NameOrder.TheVariants.{ShorterFirst}
 use Rattle.lfs_model.specs.Names.{Name, name_cmp, is_component, is_less}
-use Rattle.lfs_model.specs.Source.{AreBad, Source, given_names, path_in}
-use Rattle.lfs_tool_folders.specs.Shown.{is_folder}
-use Rattle.lfs_tool_folders.specs.InMemory.{items_by}
+use Rattle.lfs_model.specs.Source.{AreBadNames, Source, given_names, path_in}
+use Rattle.lfs_tool_folders.specs.SourceTrees.{is_folder}
+use Rattle.lfs_tool_folders.specs.MemorySources.{items_by}
 use Rattle.lfs_tool_folders.specs.declared.source.Listed.{Listed}
 use Rattle.lfs_tool_folders.specs.declared.entries.SourceEntry.{SourceEntry}
 use Rattle.lfs_tool_folders.specs.declared.entries.Waiting.{Waiting}
@@ -54,16 +54,16 @@ HoldsSource known path true None within = AreWithin known path within
 HoldsSource known path true (Some bytes) within = ⊥
 
 -- The entries at these places, in order, each followed by the entries beneath it.
-abbrev pub AreRead : Option Source → List Place → List SourceEntry → Type 0
-AreRead known [] [] = Unit {0}
-AreRead known [] (e ∷ es) = ⊥
-AreRead known (p ∷ ps) [] = ⊥
-AreRead known (p ∷ ps) (e ∷ es) =
-    (e.path.items ≡ p.0) × ((within : List (Name × Bool)) × (HoldsSource known p.0 p.1 (items_by e.bytes) within × AreRead known (places_in p.0 within ++ ps) es))
+abbrev pub AreEntriesAt : Option Source → List Place → List SourceEntry → Type 0
+AreEntriesAt known [] [] = Unit {0}
+AreEntriesAt known [] (e ∷ es) = ⊥
+AreEntriesAt known (p ∷ ps) [] = ⊥
+AreEntriesAt known (p ∷ ps) (e ∷ es) =
+    (e.path.items ≡ p.0) × ((within : List (Name × Bool)) × (HoldsSource known p.0 p.1 (items_by e.bytes) within × AreEntriesAt known (places_in p.0 within ++ ps) es))
 
 -- all that the source has, depth first and in name order
-abbrev pub AreAll : Option Source → List SourceEntry → Type 0
-AreAll known entries = (top : List (Name × Bool)) × (AreWithin known [] top × AreRead known (places_in [] top) entries)
+abbrev pub AreAllEntries : Option Source → List SourceEntry → Type 0
+AreAllEntries known entries = (top : List (Name × Bool)) × (AreWithin known [] top × AreEntriesAt known (places_in [] top) entries)
 
 -- ---- faults
 
@@ -72,14 +72,14 @@ abbrev pub FailsOr : ℕ → ℕ → Type 0 → Type 0
 FailsOr old new other = (new ≡ suc old) ⊎ ((new ≡ old) × other)
 
 -- Names lead from one folder to another, each a folder's in the one before.
-abbrev pub LeadsTo : Source → List ℕ → List Name → List ℕ → Type 0
-LeadsTo s folder [] to = to ≡ folder
-LeadsTo s folder (name ∷ rest) to = Contains (s.names folder) (name, true) × LeadsTo s (path_in folder name) rest to
+abbrev pub NamesLeadTo : Source → List ℕ → List Name → List ℕ → Type 0
+NamesLeadTo s folder [] to = to ≡ folder
+NamesLeadTo s folder (name ∷ rest) to = Contains (s.names folder) (name, true) × NamesLeadTo s (path_in folder name) rest to
 
 -- a folder somewhere in the source
 abbrev pub IsFolder : Source → List ℕ → Type 0
-IsFolder s folder = (names : List Name) × LeadsTo s [] names folder
+IsFolder s folder = (names : List Name) × NamesLeadTo s [] names folder
 
 -- a folder in the source has names that aren't allowed in one
 abbrev pub HasBadNames : Source → Type 0
-HasBadNames s = (folder : List ℕ) × (IsFolder s folder × AreBad (given_names (s.names folder)))
+HasBadNames s = (folder : List ℕ) × (IsFolder s folder × AreBadNames (given_names (s.names folder)))

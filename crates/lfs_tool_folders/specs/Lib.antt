@@ -1,8 +1,8 @@
-pub mod Shown
-pub mod InMemory
+pub mod SourceTrees
+pub mod MemorySources
 pub mod Entries
 pub mod Actions
 pub mod Roots
-pub mod Beside
+pub mod TemporaryNames
 pub mod Paths
-pub mod Standing
+pub mod PathStates

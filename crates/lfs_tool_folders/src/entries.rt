@@ -1,11 +1,11 @@
 ghost use Rattle.std.specs.Prelude.{◌≡◌, ◌++◌, ◌∷◌, [], IfOk, IfSome, IsErrOf, OnOk, map, reverse, true};
-ghost use Rattle.lfs_model.specs.Source.{AreBad, given_names, path_in};
-ghost use Rattle.lfs_tool_folders.specs.Shown.{Rests, is_folder, listed};
-ghost use Rattle.lfs_tool_folders.specs.InMemory.{items_by};
-ghost use Rattle.lfs_tool_folders.specs.Entries.{AreAll, AreWithin, FailsOr, HasBadNames, HoldsSource, place_of, places_in};
+ghost use Rattle.lfs_model.specs.Source.{AreBadNames, given_names, path_in};
+ghost use Rattle.lfs_tool_folders.specs.SourceTrees.{TreeStays, is_folder, name_view};
+ghost use Rattle.lfs_tool_folders.specs.MemorySources.{items_by};
+ghost use Rattle.lfs_tool_folders.specs.Entries.{AreAllEntries, AreWithin, FailsOr, HasBadNames, HoldsSource, place_of, places_in};
 
 use crate::names::{are_good, sort_names};
-use crate::{Kind, Listed, Source, SourceError};
+use crate::{Listed, Source, SourceError, SourceKind};
 use std::alloc::Global;
 
 /// A file or a folder of a source.
@@ -21,7 +21,7 @@ pub struct SourceEntry {
 #[derive(Debug, Drop)]
 struct Waiting {
     path: Vec<u8>,
-    kind: Kind,
+    kind: SourceKind,
 }
 
 // Returns the path of a name in a folder.
@@ -42,11 +42,11 @@ fn names_within<S: Source>(
     source: &mut S,
     folder: &[u8],
 ) -> Result<Vec<Listed>, SourceError>
-    ensures names { IfOk result (λ v. AreWithin (S.shown source.old) folder.now (map listed v.items)) }
-    ensures shown { Rests (S.shown source.old) (S.shown source.new) }
+    ensures names { IfOk result (λ v. AreWithin (S.shown source.old) folder.now (map name_view v.items)) }
+    ensures shown { TreeStays (S.shown source.old) (S.shown source.new) }
     ensures kept { OnOk result (S.faults source.new ≡ S.faults source.old) }
     ensures fault { IsErrOf result SourceError.Fault
-        → FailsOr (S.faults source.old) (S.faults source.new) (IfSome (S.shown source.old) (λ s. AreBad (given_names (s.names folder.now)))) }
+        → FailsOr (S.faults source.old) (S.faults source.new) (IfSome (S.shown source.old) (λ s. AreBadNames (given_names (s.names folder.now)))) }
     ensures no_memory { IsErrOf result SourceError.NoMemory → S.faults source.new ≡ S.faults source.old }
 {
     let mut names = source.list(alloc, folder)?;
@@ -70,7 +70,7 @@ fn wait_for(
     names: &[Listed],
     waiting: &mut Vec<Waiting>,
 ) -> Result<(), SourceError>
-    ensures places { OnOk result (map place_of waiting.new.items ≡ map place_of waiting.old.items ++ places_in folder.now (map listed names.now)) }
+    ensures places { OnOk result (map place_of waiting.new.items ≡ map place_of waiting.old.items ++ places_in folder.now (map name_view names.now)) }
     ensures memory { (e : _) → result ≡ Err e → e ≡ SourceError.NoMemory }
 {
     for one in names {
@@ -90,10 +90,10 @@ fn look_into<S: Source>(
 ) -> Result<(), SourceError>
     ensures within { OnOk result ((within : _) × (AreWithin (S.shown source.old) folder.now within
         × (map place_of waiting.new.items ≡ map place_of waiting.old.items ++ reverse (places_in folder.now within)))) }
-    ensures shown { Rests (S.shown source.old) (S.shown source.new) }
+    ensures shown { TreeStays (S.shown source.old) (S.shown source.new) }
     ensures kept { OnOk result (S.faults source.new ≡ S.faults source.old) }
     ensures fault { IsErrOf result SourceError.Fault
-        → FailsOr (S.faults source.old) (S.faults source.new) (IfSome (S.shown source.old) (λ s. AreBad (given_names (s.names folder.now)))) }
+        → FailsOr (S.faults source.old) (S.faults source.new) (IfSome (S.shown source.old) (λ s. AreBadNames (given_names (s.names folder.now)))) }
     ensures no_memory { IsErrOf result SourceError.NoMemory → S.faults source.new ≡ S.faults source.old }
 {
     let mut names = names_within(alloc, source, folder)?;
@@ -111,19 +111,19 @@ fn read_one<S: Source>(
 ) -> Result<Option<Vec<u8>>, SourceError>
     ensures holds { IfOk result (λ bytes. (within : _) × (HoldsSource (S.shown source.old) one.now.path.items (is_folder one.now.kind) (items_by bytes) within
         × (map place_of waiting.new.items ≡ map place_of waiting.old.items ++ reverse (places_in one.now.path.items within)))) }
-    ensures shown { Rests (S.shown source.old) (S.shown source.new) }
+    ensures shown { TreeStays (S.shown source.old) (S.shown source.new) }
     ensures kept { OnOk result (S.faults source.new ≡ S.faults source.old) }
     ensures fault { IsErrOf result SourceError.Fault
         → FailsOr (S.faults source.old) (S.faults source.new)
-        ((is_folder one.now.kind ≡ true) × IfSome (S.shown source.old) (λ s. AreBad (given_names (s.names one.now.path.items)))) }
+        ((is_folder one.now.kind ≡ true) × IfSome (S.shown source.old) (λ s. AreBadNames (given_names (s.names one.now.path.items)))) }
     ensures no_memory { IsErrOf result SourceError.NoMemory → S.faults source.new ≡ S.faults source.old }
 {
     match one.kind {
-        Kind::Folder => {
+        SourceKind::Folder => {
             look_into(alloc, source, one.path.as_slice(), waiting)?;
             Ok(None)
         }
-        Kind::File => {
+        SourceKind::File => {
             let bytes = source.read(alloc, one.path.as_slice())?;
             Ok(Some(bytes))
         }
@@ -144,8 +144,8 @@ fn hold(entries: &mut Vec<SourceEntry>, entry: SourceEntry) -> Result<(), Source
 ///   `..`, or has a byte 0x00 or `/`.
 /// - `NoMemory` where memory isn't granted.
 pub fn read_tree<S: Source>(alloc: Global, source: &mut S) -> Result<Vec<SourceEntry>, SourceError>
-    ensures entries { IfOk result (λ v. AreAll (S.shown source.old) v.items) }
-    ensures shown { Rests (S.shown source.old) (S.shown source.new) }
+    ensures entries { IfOk result (λ v. AreAllEntries (S.shown source.old) v.items) }
+    ensures shown { TreeStays (S.shown source.old) (S.shown source.new) }
     ensures kept { OnOk result (S.faults source.new ≡ S.faults source.old) }
     ensures fault { IsErrOf result SourceError.Fault → FailsOr (S.faults source.old) (S.faults source.new) (IfSome (S.shown source.old) HasBadNames) }
     ensures no_memory { IsErrOf result SourceError.NoMemory → S.faults source.new ≡ S.faults source.old }

@@ -21,7 +21,7 @@ mod zeros;
 pub use entries::{SourceEntry, read_tree};
 pub use fault_log::{FaultLog, PlaceFault};
 pub use new_image::NewImage;
-pub use source::{Kind, Listed, Source, SourceError};
+pub use source::{Listed, Source, SourceError, SourceKind};
 pub use source_folder::Folder;
 pub use source_memory::{Held, MemorySource};
 pub use tally::Tally;

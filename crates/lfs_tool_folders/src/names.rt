@@ -2,7 +2,7 @@
 
 ghost use Rattle.std.specs.Prelude.{◌≡◌, [], map, false, true};
 ghost use Rattle.std.specs.List.Sorted.{IsPermutation, IsSortedBy};
-ghost use Rattle.lfs_model.specs.Source.{AreBad};
+ghost use Rattle.lfs_model.specs.Source.{AreBadNames};
 ghost use Rattle.lfs_tool_folders.specs.Entries.{AreInOrder, comes_before, name_in, rise_behind};
 
 use crate::Listed;
@@ -20,7 +20,7 @@ pub(crate) fn sort_names(names: &mut Vec<Listed>)
 pub(crate) fn are_good(names: &[Listed]) -> bool
     requires { IsSortedBy comes_before names.now }
     ensures good { result ≡ true → AreInOrder (map name_in names.now) }
-    ensures bad { result ≡ false → AreBad (map name_in names.now) }
+    ensures bad { result ≡ false → AreBadNames (map name_in names.now) }
 {
     rise(names)
 }

@@ -2,7 +2,7 @@ ghost use Rattle.std.specs.Prelude.{◌≡◌, IfErr, IfOk, None, OnOk, false, o
 ghost use Rattle.std.specs.Io.{WritesAtMost};
 ghost use Rattle.std.specs.Io.KnownBytes.{Keeps, WriteAppends};
 ghost use Rattle.std.specs.String.{string_bytes};
-ghost use Rattle.lfs_tool_folders.specs.Beside.{IsBeside};
+ghost use Rattle.lfs_tool_folders.specs.TemporaryNames.{IsTemporaryName};
 ghost use Rattle.lfs_tool_folders.specs.Paths.{image_path};
 
 use crate::temporary_files::{ImagePaths, make_for, put_in_place};
@@ -59,7 +59,7 @@ impl<'a, R: Files> NewImage<'a, R> {
     // Makes the file.
     fn make(&mut self) -> io::Result<()>
         ensures path { self.new.paths.path ≡ self.old.paths.path }
-        ensures beside { OnOk result (self.new.is_beside ≡ true → IsBeside (string_bytes self.old.paths.path) (string_bytes self.new.paths.beside)) }
+        ensures beside { OnOk result (self.new.is_beside ≡ true → IsTemporaryName (string_bytes self.old.paths.path) (string_bytes self.new.paths.beside)) }
         ensures err { IfErr result (λ _. (self.new.file ≡ self.old.file) × (self.new.is_beside ≡ self.old.is_beside)) }
     {
         let (file, is_beside) = make_for(self.files, &mut self.paths)?;

@@ -1,6 +1,6 @@
 // What stands at a path before it is written.
 
-ghost use Rattle.lfs_tool_folders.specs.Standing.{IsStanding};
+ghost use Rattle.lfs_tool_folders.specs.PathStates.{IsStateOfPath};
 
 use std::fs::{Metadata, Permissions};
 use std::io;
@@ -8,7 +8,7 @@ use std::io::ErrorKind;
 
 // What stands at a path.
 #[derive(Drop)]
-pub(crate) enum Standing {
+pub(crate) enum PathState {
     // Nothing does.
     Nothing,
     // A file, with these permissions.
@@ -18,13 +18,13 @@ pub(crate) enum Standing {
 }
 
 // What stands at a path, by what the system says of the path itself: a link is one, wherever it leads.
-pub(crate) fn standing_of(found: io::Result<Metadata>) -> Standing
-    ensures { IsStanding found result }
+pub(crate) fn path_state_of(found: io::Result<Metadata>) -> PathState
+    ensures { IsStateOfPath found result }
 {
     match found {
-        Ok(there) if there.is_file() => Standing::File(there.permissions()),
-        Ok(_) => Standing::Other,
-        Err(error) if error.kind() == ErrorKind::NotFound => Standing::Nothing,
-        Err(_) => Standing::Other,
+        Ok(there) if there.is_file() => PathState::File(there.permissions()),
+        Ok(_) => PathState::Other,
+        Err(error) if error.kind() == ErrorKind::NotFound => PathState::Nothing,
+        Err(_) => PathState::Other,
     }
 }

@@ -4,7 +4,7 @@ ghost use Rattle.lfs_tool_folders.specs.Roots.{folder_root, read_limit};
 
 use crate::full_path::{full_path, joined_path};
 use crate::zeros::{zeros, zeros_for};
-use crate::{FaultLog, Kind, Listed, Source, SourceError, Tally};
+use crate::{FaultLog, Listed, Source, SourceError, SourceKind, Tally};
 use std::alloc::{AllocError, Global};
 use std::fs::{File, FileType, OpenFile};
 use std::io::{ErrorKind, Read};
@@ -26,11 +26,11 @@ pub struct Folder<'a, R> {
     faults: Tally,
 }
 
-fn kind_of(kind: FileType) -> io::Result<Kind> {
+fn kind_of(kind: FileType) -> io::Result<SourceKind> {
     if kind.is_dir() {
-        Ok(Kind::Folder)
+        Ok(SourceKind::Folder)
     } else if kind.is_file() {
-        Ok(Kind::File)
+        Ok(SourceKind::File)
     } else {
         Err(io::Error::new(ErrorKind::InvalidInput, "neither a file nor a folder"))
     }

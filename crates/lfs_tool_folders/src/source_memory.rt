@@ -1,10 +1,10 @@
 ghost use Rattle.std.specs.Prelude.{◌≡◌, ◌+◌, ◌++◌, ◌∷◌, [], IfOk, IfSome, IsErrOf, MatchOption, None, OnOk, Some, drop, false, length, map, suc, true, ◌==◌};
 ghost use Rattle.std.specs.List.{list_any};
 ghost use Rattle.lfs_model.specs.Names.{slash};
-ghost use Rattle.lfs_tool_folders.specs.Shown.{is_folder, listed};
-ghost use Rattle.lfs_tool_folders.specs.InMemory.{bytes_at, has_no_bytes, is_within, item_of, items_by, name_of, names_in, source_of};
+ghost use Rattle.lfs_tool_folders.specs.SourceTrees.{is_folder, name_view};
+ghost use Rattle.lfs_tool_folders.specs.MemorySources.{bytes_at, has_no_bytes, is_within, item_of, items_by, name_of, names_in, source_of};
 
-use crate::{Kind, Listed, Source, SourceError, Tally};
+use crate::{Listed, Source, SourceError, SourceKind, Tally};
 use std::alloc::Global;
 
 /// A file or a folder of a source in memory.
@@ -67,12 +67,12 @@ fn copy_bytes(alloc: Global, bytes: &[u8]) -> Result<Vec<u8>, SourceError>
     bytes.to_vec(alloc).map_err(|_| SourceError::NoMemory)
 }
 
-fn kind(held: &Held) -> Kind
+fn kind(held: &Held) -> SourceKind
     ensures { is_folder result ≡ has_no_bytes (item_of held.now).1 }
 {
     match &held.bytes {
-        Some(_) => Kind::File,
-        None => Kind::Folder,
+        Some(_) => SourceKind::File,
+        None => SourceKind::Folder,
     }
 }
 
@@ -83,7 +83,7 @@ fn push_name(
     folder: &[u8],
     held: &Held,
 ) -> Result<(), SourceError>
-    ensures names { OnOk result (map listed names.new.items ≡ map listed names.old.items ++ name_of folder.now (item_of held.now)) }
+    ensures names { OnOk result (map name_view names.new.items ≡ map name_view names.old.items ++ name_of folder.now (item_of held.now)) }
     ensures memory { (e : _) → result ≡ Err e → e ≡ SourceError.NoMemory }
 {
     let Some(name) = name_in(folder, held.path.as_slice()) else {
@@ -98,7 +98,7 @@ fn push_name(
 
 // Returns the names of the entries that are directly in the folder.
 fn names_in(alloc: Global, held: &[Held], folder: &[u8]) -> Result<Vec<Listed>, SourceError>
-    ensures names { IfOk result (λ v. map listed v.items ≡ names_in (map item_of held.now) folder.now) }
+    ensures names { IfOk result (λ v. map name_view v.items ≡ names_in (map item_of held.now) folder.now) }
     ensures memory { (e : _) → result ≡ Err e → e ≡ SourceError.NoMemory }
 {
     let mut names = Vec::new(alloc);
@@ -114,7 +114,7 @@ impl Source for MemorySource {
     ghost faults = { λ s. s.faults.count };
 
     fn list(&mut self, alloc: Global, folder: &[u8]) -> Result<Vec<Listed>, SourceError>
-        ensures names { IfOk result (λ v. map listed v.items ≡ names_in (map item_of self.old.held.items) folder.now) }
+        ensures names { IfOk result (λ v. map name_view v.items ≡ names_in (map item_of self.old.held.items) folder.now) }
         ensures held { self.new.held ≡ self.old.held }
         ensures kept { self.new.faults.count ≡ self.old.faults.count }
         ensures never { ¬ IsErrOf result SourceError.Fault }

@@ -1,6 +1,6 @@
 ghost use Rattle.std.specs.Prelude.{◌≡◌, ℕ, IsErrOf, List, None, OnErr, OnOk, Option, suc};
 ghost use Rattle.lfs_model.specs.Listing.{Action, MakeDirectory, PutFile};
-ghost use Rattle.lfs_tool_folders.specs.Actions.{Adds};
+ghost use Rattle.lfs_tool_folders.specs.Actions.{AddsAction};
 
 use std::alloc::Global;
 
@@ -27,7 +27,7 @@ pub trait Target {
     /// - `Fault` where it couldn't be made.
     /// - `NoMemory` where memory isn't granted.
     fn make_folder(&mut self, alloc: Global, path: &[u8]) -> Result<(), TargetError>
-        ensures done { OnOk result (Adds (done self.old) (done self.new) (MakeDirectory path.now)) }
+        ensures done { OnOk result (AddsAction (done self.old) (done self.new) (MakeDirectory path.now)) }
         ensures undone { OnErr result (done self.new ≡ done self.old) }
         ensures kept { OnOk result (faults self.new ≡ faults self.old) }
         ensures fault { IsErrOf result TargetError.Fault → faults self.new ≡ suc (faults self.old) }
@@ -39,7 +39,7 @@ pub trait Target {
     /// - `Fault` where it couldn't be made or written.
     /// - `NoMemory` where memory isn't granted.
     fn put_file(&mut self, alloc: Global, path: &[u8], bytes: &[u8]) -> Result<(), TargetError>
-        ensures done { OnOk result (Adds (done self.old) (done self.new) (PutFile path.now bytes.now)) }
+        ensures done { OnOk result (AddsAction (done self.old) (done self.new) (PutFile path.now bytes.now)) }
         ensures undone { OnErr result (done self.new ≡ done self.old) }
         ensures kept { OnOk result (faults self.new ≡ faults self.old) }
         ensures fault { IsErrOf result TargetError.Fault → faults self.new ≡ suc (faults self.old) }

@@ -3,9 +3,9 @@
 ghost use Rattle.std.specs.Prelude.{◌≡◌, ◌++◌, IfOk, OnOk, false, true};
 ghost use Rattle.std.specs.Fmt.{decimal};
 ghost use Rattle.std.specs.String.{string_bytes};
-ghost use Rattle.lfs_tool_folders.specs.Beside.{IsBeside, name_start};
+ghost use Rattle.lfs_tool_folders.specs.TemporaryNames.{IsTemporaryName, name_start};
 
-use crate::path_state::{Standing, standing_of};
+use crate::path_state::{PathState, path_state_of};
 use std::alloc::{AllocError, Global};
 use std::fs::{File, OpenFile, OpenOptions, Permissions};
 use std::io::ErrorKind;
@@ -63,7 +63,7 @@ impl ImagePaths {
 // Makes a new file beside a path, under the first name that is free.
 fn make_beside<R: Files>(files: &R, paths: &mut ImagePaths) -> io::Result<R::File>
     ensures path { paths.new.path ≡ paths.old.path }
-    ensures beside { OnOk result (IsBeside (string_bytes paths.old.path) (string_bytes paths.new.beside)) }
+    ensures beside { OnOk result (IsTemporaryName (string_bytes paths.old.path) (string_bytes paths.new.beside)) }
 {
     for number in 0..NAMES {
         paths.take_number(number)?;
@@ -80,7 +80,7 @@ fn make_beside<R: Files>(files: &R, paths: &mut ImagePaths) -> io::Result<R::Fil
 // whether the file is beside the path.
 fn make_beside_or_there<R: Files>(files: &R, paths: &mut ImagePaths) -> io::Result<(R::File, bool)>
     ensures path { paths.new.path ≡ paths.old.path }
-    ensures beside { IfOk result (λ made. made.1 ≡ true → IsBeside (string_bytes paths.old.path) (string_bytes paths.new.beside)) }
+    ensures beside { IfOk result (λ made. made.1 ≡ true → IsTemporaryName (string_bytes paths.old.path) (string_bytes paths.new.beside)) }
 {
     match make_beside(files, paths) {
         Ok(file) => Ok((file, true)),
@@ -99,7 +99,7 @@ fn make_in_place_of<R: Files>(
     permissions: Permissions,
 ) -> io::Result<(R::File, bool)>
     ensures path { paths.new.path ≡ paths.old.path }
-    ensures beside { IfOk result (λ made. made.1 ≡ true → IsBeside (string_bytes paths.old.path) (string_bytes paths.new.beside)) }
+    ensures beside { IfOk result (λ made. made.1 ≡ true → IsTemporaryName (string_bytes paths.old.path) (string_bytes paths.new.beside)) }
 {
     let _there = OpenOptions::new()
         .write(true)
@@ -114,16 +114,16 @@ fn make_in_place_of<R: Files>(
 fn make_by<R: Files>(
     files: &R,
     paths: &mut ImagePaths,
-    standing: Standing,
+    standing: PathState,
 ) -> io::Result<(R::File, bool)>
     ensures path { paths.new.path ≡ paths.old.path }
-    ensures beside { IfOk result (λ made. made.1 ≡ true → IsBeside (string_bytes paths.old.path) (string_bytes paths.new.beside)) }
-    ensures there { standing ≡ Standing.Other → IfOk result (λ made. made.1 ≡ false) }
+    ensures beside { IfOk result (λ made. made.1 ≡ true → IsTemporaryName (string_bytes paths.old.path) (string_bytes paths.new.beside)) }
+    ensures there { standing ≡ PathState.Other → IfOk result (λ made. made.1 ≡ false) }
 {
     match standing {
-        Standing::Nothing => make_beside_or_there(files, paths),
-        Standing::File(permissions) => make_in_place_of(files, paths, permissions),
-        Standing::Other => Ok((File::create(files, paths.path.as_str())?, false)),
+        PathState::Nothing => make_beside_or_there(files, paths),
+        PathState::File(permissions) => make_in_place_of(files, paths, permissions),
+        PathState::Other => Ok((File::create(files, paths.path.as_str())?, false)),
     }
 }
 
@@ -131,10 +131,10 @@ fn make_by<R: Files>(
 // stands there that is no file, that is what is written.
 pub(crate) fn make_for<R: Files>(files: &R, paths: &mut ImagePaths) -> io::Result<(R::File, bool)>
     ensures path { paths.new.path ≡ paths.old.path }
-    ensures beside { IfOk result (λ made. made.1 ≡ true → IsBeside (string_bytes paths.old.path) (string_bytes paths.new.beside)) }
+    ensures beside { IfOk result (λ made. made.1 ≡ true → IsTemporaryName (string_bytes paths.old.path) (string_bytes paths.new.beside)) }
 {
     let found = fs::symlink_metadata(files, paths.path.as_str());
-    make_by(files, paths, standing_of(found))
+    make_by(files, paths, path_state_of(found))
 }
 
 // Puts the file beside a path in its place. Where the system refuses that, as at a file that is mounted

@@ -85,6 +85,7 @@ HasOrder rows = is_some (order_given rows) ≡ true
 
 -- each part of the line is the value that the words give it, or its default
 pub record IsLineOf (rows : List Row) (line : Line) : Type 0 where
+  pub one_mode : HasOneMode rows
   pub mode : IsModeOf rows line.mode
   pub block_size : number_at (codes "block_size") rows ≡ Some line.block_size
   pub page : number_at (codes "page") rows ≡ Some line.page

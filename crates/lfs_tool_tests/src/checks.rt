@@ -1,7 +1,7 @@
 // Images that are checked, and the lines of each.
 
 use crate::images::{BELOW, ENTRIES};
-use crate::shown::checked;
+use crate::texts::check_text;
 use lfs_fixtures::{Entries, Held, image_with};
 use lfs_tool::Watched;
 use std::alloc::{AllocError, Global};
@@ -197,7 +197,7 @@ fn is_checked(alloc: Global, row: Row<'_>) -> Result<bool, AllocError> {
     let (entries, others, wanted) = row;
     let image = image_with(alloc, entries, others)?;
     let mut image = Watched::new(image.as_slice());
-    let text = checked(alloc, &mut image, 4096, 256)?;
+    let text = check_text(alloc, &mut image, 4096, 256)?;
     Ok(text.as_slice() == wanted.as_bytes())
 }
 
@@ -271,7 +271,7 @@ fn is_sized(alloc: Global, row: (usize, u32, u32, &str)) -> Result<bool, AllocEr
     let mut image = image_with(alloc, &[], &[])?;
     image.resize(len, 0xff)?;
     let mut image = Watched::new(image.as_slice());
-    let text = checked(alloc, &mut image, block_size, page)?;
+    let text = check_text(alloc, &mut image, block_size, page)?;
     Ok(text.as_slice() == wanted.as_bytes())
 }
 

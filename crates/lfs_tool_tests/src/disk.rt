@@ -268,7 +268,7 @@ impl OpenFile for Opened<'_> {
 }
 
 impl<'a> Mounted<'a> {
-    fn opened(&self, number: usize) -> Opened<'a> {
+    fn open_number(&self, number: usize) -> Opened<'a> {
         Opened {
             disk: self.disk,
             number,
@@ -285,7 +285,7 @@ impl<'a> Mounted<'a> {
         if how.asks_truncate() {
             self.disk.empty(number, false);
         }
-        Ok(self.opened(number))
+        Ok(self.open_number(number))
     }
 
     fn open_new(&self, how: &OpenOptions, path: &str) -> io::Result<Opened<'a>> {
@@ -296,7 +296,7 @@ impl<'a> Mounted<'a> {
             return error(ErrorKind::PermissionDenied);
         }
         let number = self.disk.put(self.alloc, path, Kind::File, b"")?;
-        Ok(self.opened(number))
+        Ok(self.open_number(number))
     }
 }
 

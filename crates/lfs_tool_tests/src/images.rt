@@ -1,6 +1,6 @@
 // Images, what is listed of them, and what unpacking them does.
 
-use crate::shown::{listed, unpacked};
+use crate::texts::{list_text, unpack_text};
 use lfs_fixtures::{Entries, Held, block_with, first_block, image_of, image_with};
 use lfs_tool::Watched;
 use std::alloc::{AllocError, Global};
@@ -443,9 +443,9 @@ fn is_shown(alloc: Global, row: Row<'_>, is_unpacked: bool) -> Result<bool, Allo
     let image = image_with(alloc, entries, others)?;
     let mut image = Watched::new(image.as_slice());
     let text = if is_unpacked {
-        unpacked(alloc, &mut image, 4096, 256)?
+        unpack_text(alloc, &mut image, 4096, 256)?
     } else {
-        listed(alloc, &mut image, 4096, 256)?
+        list_text(alloc, &mut image, 4096, 256)?
     };
     Ok(text.as_slice() == wanted.as_bytes())
 }
@@ -582,7 +582,7 @@ fn is_listed(
 ) -> Result<bool, AllocError> {
     let image = odd_image(alloc, odd)?;
     let mut image = Watched::new(image.as_slice());
-    let text = listed(alloc, &mut image, block_size, page)?;
+    let text = list_text(alloc, &mut image, block_size, page)?;
     Ok(text.as_slice() == wanted.as_bytes())
 }
 
@@ -633,7 +633,7 @@ fn is_listed_inverted(
     wanted: &str,
 ) -> Result<bool, AllocError> {
     invert(image, at);
-    let text = listed(alloc, &mut Watched::new(&*image), 4096, 256)?;
+    let text = list_text(alloc, &mut Watched::new(&*image), 4096, 256)?;
     invert(image, at);
     Ok(text.as_slice() == wanted.as_bytes())
 }

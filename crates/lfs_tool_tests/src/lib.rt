@@ -4,11 +4,11 @@
 #[cfg(test)]
 mod checks;
 #[cfg(test)]
-mod creating;
+mod creations;
 #[cfg(test)]
 mod disk;
 #[cfg(test)]
-mod failing;
+mod faulty_streams;
 #[cfg(test)]
 mod files;
 #[cfg(test)]
@@ -18,8 +18,8 @@ mod lines;
 #[cfg(test)]
 mod memory;
 #[cfg(test)]
-mod shown;
-#[cfg(test)]
 mod sources;
 #[cfg(test)]
-mod whole;
+mod texts;
+#[cfg(test)]
+mod whole_images;

@@ -1,6 +1,6 @@
 // Command lines, and what is shown of those that are refused.
 
-use crate::shown::report_of;
+use crate::texts::report_of;
 use lfs_device::{Error, NameOrder};
 use lfs_tool::{Fault, Line, LineError, Mode, ToolError, read_line};
 use std::alloc::{AllocError, Global};

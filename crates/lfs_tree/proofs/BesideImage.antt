@@ -7,7 +7,7 @@ use Rattle.lfs_model.specs.Content.{content_at, holder_at}
 use Rattle.lfs_model.specs.Disk.{Disk, SameGeometry, block_at}
 use Rattle.lfs_model.specs.Slots.{FitsPair, Slot}
 use Rattle.lfs_model.specs.Thread.{Pair, blocks_of, directory_pairs, first_at, from_slots, superblocks_before}
-use Rattle.lfs_model.specs.View.{BeginsWith, IsAccepted, superblock_entry}
+use Rattle.lfs_model.specs.View.{BeginsWithEntry, IsAccepted, superblock_entry}
 use Rattle.lfs_model.specs.Profile.{FitsSlot, IsWritable}
 use Rattle.lfs_model.specs.Shown.{all_slots, file_blocks, used_blocks}
 use Rattle.lfs_model.proofs.BlockSets.{Contains-count}
@@ -45,13 +45,13 @@ contents_still disk new (p ∷ ps) same was = (
 )
 
 first_still : (disk new : Disk) (ps : List Pair) → IsAccepted disk ps → ((b : ℕ) → 1 ≤ count b (blocks_of ps) → block_at new b ≡ block_at disk b)
-    → BeginsWith (holder_at new (first_at (from_slots ps))) superblock_entry
+    → BeginsWithEntry (holder_at new (first_at (from_slots ps))) superblock_entry
 first_still disk new ps ok same =
     let f = accepted_filled disk ps ok in
     let n = first_counted ps f.pair f.rest f.is in
     let e = ap first_at f.is in
-    subst (λ at. BeginsWith (holder_at new at) superblock_entry) (sym e)
-    (first_same disk new f.pair.at (same f.pair.at.0 n.0) (same f.pair.at.1 n.1) (subst (λ at. BeginsWith (holder_at disk at) superblock_entry) e ok.first))
+    subst (λ at. BeginsWithEntry (holder_at new at) superblock_entry) (sym e)
+    (first_same disk new f.pair.at (same f.pair.at.0 n.0) (same f.pair.at.1 n.1) (subst (λ at. BeginsWithEntry (holder_at disk at) superblock_entry) e ok.first))
 
 module _ (disk new : Disk) (ps : List Pair) (ok : IsAccepted disk ps) (geometry : SameGeometry disk new) (same : (b : ℕ) → Contains (used_blocks disk ps) b → block_at new b ≡ block_at disk b) where
   counted : (b : ℕ) → count b (used_blocks disk ps) ≡ count b (blocks_of ps) + count b (flat_map (λ (s : Slot). file_blocks disk s.struct) (all_slots ps))

@@ -22,11 +22,11 @@ use Rattle.lfs_model.proofs.Changes.{Follows}
 use Rattle.lfs_model.proofs.Histories.{LeavesOnly-weaker, LeavesOnly-worst}
 use Rattle.lfs_writer.specs.Hand.{SparesUsed}
 use Rattle.lfs_model.proofs.Files.{HasSameFile, file_blocks_same}
-use Rattle.lfs_writer.specs.Standing.{CanTruncate, CanWrite, HoldsContents, LeavesPairsAndUsed, ReportsWork, held_in}
+use Rattle.lfs_writer.specs.ThreadContents.{CanTruncate, CanWrite, HoldsContents, LeavesPairsAndUsed, ReportsWork, list_blocks_of}
 use Rattle.lfs_thread.specs.Kept.{Kept, State}
-use Rattle.lfs_tree.specs.Held.{IsHeld, IsRooted, tree_state_of, seen_thread}
-use Rattle.lfs_tree.specs.OpenContents.{CanTruncateBeside, CanWriteBeside, IsOverFile, IsWriting, IsWrittenBeside, blocks_named, bytes_held, list_at}
-use Rattle.lfs_tree.specs.TreeState.{IsBroken, IsError, IsSound, TreeState}
+use Rattle.lfs_tree.specs.RootedThreads.{IsRootedUnlessFailed, IsRooted, tree_state_of, tree_state_of_thread}
+use Rattle.lfs_tree.specs.OpenContents.{CanTruncateOpenFile, CanWriteOpenFile, IsOverFile, IsWriting, WritesUnusedBlocks, blocks_named, bytes_held, list_at}
+use Rattle.lfs_tree.specs.TreeState.{IsFailedTree, IsError, IsSound, TreeState}
 use Rattle.lfs_tree.proofs.BesideImage.{files_still, geometry_back, still_follows, used_still, writable_on}
 use Rattle.lfs_lookup.proofs.Reading.{same_error}
 use Rattle.lfs_tree.proofs.Asking.{behind}
@@ -34,7 +34,7 @@ use Rattle.lfs_tree.proofs.SlotsHave.{slot_has}
 use Rattle.lfs_tree.proofs.UsedBlocks.{count_is}
 use Rattle.lfs_writer.specs.Contents.{IsLarge, NeedsRoom, bytes_in, form_of, truncate_room, write_room}
 use Rattle.lfs_writer.specs.Form.{Form, form_size}
-use Rattle.lfs_writer.specs.Owned.{AreOwned}
+use Rattle.lfs_writer.specs.BlockOwners.{AreOwned}
 use Rattle.lfs_writer.specs.declared.contents.Contents.{Contents}
 use Rattle.lfs_writer.proofs.Used.{used_back}
 
@@ -74,7 +74,7 @@ module _ (a b : Kept) (leaves : LeavesPairsAndUsed a b) (accepted : IsAccepted a
           (slot_has (λ (x : Slot). HasSameFile a.disk b.disk x.struct) a.disk a.pairs accepted (files_still a.disk b.disk a.pairs accepted (geometry_beside a b leaves) used_same) tt path s e)
 
   -- what a call makes of contents is over the same file
-  pub over_beside : (path : Path) (contents c : Contents) (bytes : List ℕ) (shape : Form) → IsOverFile a path contents → HoldsContents b c bytes shape → AreOwned b.map (held_in a contents) (held_in b c) → IsOverFile b path c
+  pub over_beside : (path : Path) (contents c : Contents) (bytes : List ℕ) (shape : Form) → IsOverFile a path contents → HoldsContents b c bytes shape → AreOwned b.map (list_blocks_of a contents) (list_blocks_of b c) → IsOverFile b path c
   over_beside path contents c bytes shape over holds owned = record {
     file = ap (λ (t : Tree). is_file (t path)) tree_beside ∙ over.file;
     stands = record { geometry = holds.geometry; divided = holds.divided; stands = holds.has.stands };
@@ -113,7 +113,7 @@ module _ (a b : State) (root : ℕ) (writable : Bool) (h : IsRooted a root writa
   pub rooted_beside : IsRooted b root writable
   rooted_beside = record { works = still; sound = sound_beside a.kept b.kept writable leaves sound; root_is = h.root_is ∙ ap superblocks_before (sym leaves.pairs) }
 
-  written_beside : (r : Result Contents Error) → ReportsWork a.kept b.kept r → OnOk r (IsWrittenBeside (seen_thread a writable) (seen_thread (behind b r) writable))
+  written_beside : (r : Result Contents Error) → ReportsWork a.kept b.kept r → OnOk r (WritesUnusedBlocks (tree_state_of_thread a writable) (tree_state_of_thread (behind b r) writable))
   written_beside (Err e) t = tt
   written_beside (Ok c) t =
       let s = sound_beside a.kept b.kept writable leaves sound in
@@ -131,11 +131,11 @@ module _ (a b : State) (root : ℕ) (writable : Bool) (h : IsRooted a root writa
         no_fault = t.no_fault (λ e. absurd (cc));
       }
 
-  broken_beside : (r : Result Contents Error) → OnErr r (IsBroken (seen_thread a writable) (seen_thread (behind b r) writable))
+  broken_beside : (r : Result Contents Error) → OnErr r (IsFailedTree (tree_state_of_thread a writable) (tree_state_of_thread (behind b r) writable))
   broken_beside (Ok c) = tt
   broken_beside (Err e) = record { failed = refl; geometry = geometry_beside a.kept b.kept leaves; calls = leaves.at_worst.events; called = leaves.at_worst.extends }
 
-  reported_beside : (r : Result Contents Error) → ReportsWork a.kept b.kept r → IfErr r (IsError (seen_thread a writable) (seen_thread (behind b r) writable))
+  reported_beside : (r : Result Contents Error) → ReportsWork a.kept b.kept r → IfErr r (IsError (tree_state_of_thread a writable) (tree_state_of_thread (behind b r) writable))
   reported_beside (Ok c) t = tt
   reported_beside (Err e) t = record {
     errors = t.errors;
@@ -147,22 +147,22 @@ module _ (a b : State) (root : ℕ) (writable : Bool) (h : IsRooted a root writa
   survives_beside : writable ≡ true → Survives a.kept.disk a.kept.history b.kept.history (tree_in a.kept.disk a.kept.pairs) (tree_in a.kept.disk a.kept.pairs)
   survives_beside may clean = LeavesOnly-weaker (λ blocks spared. left_beside a.kept blocks sound.accepted (sound.fits may) sound.used spared) (LeavesOnly-worst leaves.at_worst)
 
-  pub writing : (now : TreeState) (r : Result Contents Error) (c : State) → seen_thread a writable ≡ now → c ≡ behind b r → ReportsWork a.kept b.kept r → IsWriting now r (seen_thread c writable)
+  pub writing : (now : TreeState) (r : Result Contents Error) (c : State) → tree_state_of_thread a writable ≡ now → c ≡ behind b r → ReportsWork a.kept b.kept r → IsWriting now r (tree_state_of_thread c writable)
   writing now r c view is t =
-      subst (λ (s : TreeState). IsWriting s r (seen_thread c writable)) view
-      (subst (λ (t : State). IsWriting (seen_thread a writable) r (seen_thread t writable)) (sym is)
+      subst (λ (s : TreeState). IsWriting s r (tree_state_of_thread c writable)) view
+      (subst (λ (t : State). IsWriting (tree_state_of_thread a writable) r (tree_state_of_thread t writable)) (sym is)
       (record { beside = written_beside r t; broken = broken_beside r; errors = reported_beside r t; survives = survives_beside }))
 
   -- and the thread is still that of the image
-  pub held_beside : (r : Result Contents Error) (c : State) → c ≡ behind b r → IsHeld c root writable
-  held_beside r c is = subst (λ (t : State). IsHeld t root writable) (sym is) (go r)
+  pub held_beside : (r : Result Contents Error) (c : State) → c ≡ behind b r → IsRootedUnlessFailed c root writable
+  held_beside r c is = subst (λ (t : State). IsRootedUnlessFailed t root writable) (sym is) (go r)
     where
-      go : (r : Result Contents Error) → IsHeld (behind b r) root writable
+      go : (r : Result Contents Error) → IsRootedUnlessFailed (behind b r) root writable
       go (Err e) f = absurd (cc)
       go (Ok x) f = rooted_beside
 
   pub all_over : (path : Path) (contents : Contents) (bytes : List ℕ) (shape : Form) (r : Result Contents Error) → IsOverFile a.kept path contents → IfOk r (λ c. HoldsContents b.kept c bytes shape)
-      → IfOk r (λ c. AreOwned b.kept.map (held_in a.kept contents) (held_in b.kept c)) → IfOk r (IsOverFile b.kept path)
+      → IfOk r (λ c. AreOwned b.kept.map (list_blocks_of a.kept contents) (list_blocks_of b.kept c)) → IfOk r (IsOverFile b.kept path)
   all_over path contents bytes shape (Err e) over holds owned = tt
   all_over path contents bytes shape (Ok c) over holds owned = over_beside a.kept b.kept leaves sound.accepted sound.used path contents c bytes shape over holds owned
 
@@ -175,7 +175,7 @@ module _ (t : Kept) (writable : Bool) (limit : ℕ) (sound : IsSound (tree_state
   room_is : (need : ℕ) → length (used_blocks t.disk t.pairs) + need ≤ block_count t.disk → used_count t.map + need ≤ length t.map
   room_is need room = let e = count_is (tree_state_of t writable false) sound in let s = sound.size in omega arith
 
-  pub can_write : {cache : CachedBlocks} (failed : Bool) (contents : Contents) (place count : ℕ) → CanWriteBeside (record (tree_state_of t writable failed) { cache = cache }) contents place count → CanWrite t contents limit place count
+  pub can_write : {cache : CachedBlocks} (failed : Bool) (contents : Contents) (place count : ℕ) → CanWriteOpenFile (record (tree_state_of t writable failed) { cache = cache }) contents place count → CanWrite t contents limit place count
   can_write failed contents place count can = record {
     stands = can.stands;
     fits = record {
@@ -187,7 +187,7 @@ module _ (t : Kept) (writable : Bool) (limit : ℕ) (sound : IsSound (tree_state
     };
   }
 
-  pub can_truncate : {cache : CachedBlocks} (failed : Bool) (contents : Contents) (size : ℕ) → CanTruncateBeside (record (tree_state_of t writable failed) { cache = cache }) contents size → CanTruncate t contents limit size
+  pub can_truncate : {cache : CachedBlocks} (failed : Bool) (contents : Contents) (size : ℕ) → CanTruncateOpenFile (record (tree_state_of t writable failed) { cache = cache }) contents size → CanTruncate t contents limit size
   can_truncate failed contents size can = record {
     stands = can.stands;
     fits = record {

@@ -9,7 +9,7 @@ use Rattle.lfs_model.specs.BlockSets.{AreUsed, BlockSets, IsFree, IsInFlight, Is
 use Rattle.lfs_model.specs.BlockSets.BlockState.{Free, InFlight, Used}
 use Rattle.lfs_model.specs.Disk.{Disk, block_at}
 use Rattle.lfs_model.specs.History.{Event, OnlyReads, faults}
-use Rattle.lfs_model.specs.InDirectory.{IsBehind}
+use Rattle.lfs_model.specs.InDirectory.{IsPairOfDirectory}
 use Rattle.lfs_model.specs.Keeping.{struct_at}
 use Rattle.lfs_model.specs.Operations.{Operation}
 use Rattle.lfs_model.specs.Run.{is_recover, renames_to_itself}
@@ -31,8 +31,8 @@ use Rattle.lfs_operations.specs.MovingSteps.{WritesAmong}
 use Rattle.lfs_operations.specs.Ready.{IsReady}
 use Rattle.lfs_thread.specs.Kept.{Kept}
 use Rattle.lfs_thread.specs.Steps.{IsOnlyRead, Writes, no_pair, pair_in}
-use Rattle.lfs_tree.specs.Carrying.{AppliesOn}
-use Rattle.lfs_tree.specs.KeepsFiles.{KeepsFile, ListsStay, list_at}
+use Rattle.lfs_tree.specs.TreeChanges.{AppliesOn}
+use Rattle.lfs_tree.specs.KeptFiles.{KeepsFile, ListsStay, list_at}
 use Rattle.lfs_tree.proofs.KeptFiles.{keeps_by, list_used, no_pairs}
 
 -- the same thread, after other calls
@@ -134,7 +134,7 @@ pub all_pairs : (t : Kept) → AllByRecursion (IsPairsOrFree t) (blocks_of t.pai
 all_pairs t = each_from_counted (IsPairsOrFree t) (blocks_of t.pairs) (λ b some. inl (Contains-count (blocks_of t.pairs) b some))
 
 -- a pair of a directory is one of the thread
-pub behind_below : (ps : List Pair) (first index : ℕ) (pair : Pair) (rest : List Pair) → IsBehind ps first index pair rest → index < length ps
+pub behind_below : (ps : List Pair) (first index : ℕ) (pair : Pair) (rest : List Pair) → IsPairOfDirectory ps first index pair rest → index < length ps
 behind_below ps first index pair rest h =
     let e = ap length h.parts in
     let a = length-append h.front (h.left ++ pair ∷ rest) in

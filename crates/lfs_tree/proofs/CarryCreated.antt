@@ -8,7 +8,7 @@ use Rattle.lfs_device.specs.Bytes.{HasBytes}
 use Rattle.lfs_model.specs.Frame.{LeavesAlone, paths_of}
 use Rattle.lfs_model.specs.Session.{Files, Session}
 use Rattle.lfs_model.specs.Thread.{Pair}
-use Rattle.lfs_model.specs.TreeEdits.{added, last_name}
+use Rattle.lfs_model.specs.TreeEdits.{tree_with_node, last_name}
 use Rattle.lfs_model.specs.BlockSets.{BlockSets, IsFree, IsInFlight}
 use Rattle.lfs_model.specs.BlockSets.BlockState.{Free, InFlight}
 use Rattle.lfs_model.specs.Disk.{entry_limit}
@@ -23,18 +23,18 @@ use Rattle.lfs_model.specs.Shown.{tree_in}
 use Rattle.lfs_model.proofs.Counts.{each_weaker}
 use Rattle.lfs_model.proofs.Paths.{last_is}
 use Rattle.lfs_operations.proofs.Held.{here}
-use Rattle.lfs_operations.specs.Changing.{WritesIn, Alters}
+use Rattle.lfs_operations.specs.Changing.{WritesIn, AltersPair}
 use Rattle.lfs_operations.specs.Creating.{CanCreate, IsCreated, with_file}
-use Rattle.lfs_operations.specs.Making.{AltersUpTo, CanMake, IsMade, WritesUpTo, with_directory}
+use Rattle.lfs_operations.specs.Making.{AltersUpTo, CanMakeAt, IsDirectoryMade, WritesUpTo, with_directory}
 use Rattle.lfs_operations.specs.Ready.{IsReady, StayTaken}
 use Rattle.lfs_thread.specs.Kept.{Kept, State}
 use Rattle.lfs_thread.specs.Steps.{Writes, pair_in}
 use Rattle.lfs_tree.proofs.LeftAlone.{IsConcernedOrFree, concerned_alone, concerned_pair, rest_left_alone}
-use Rattle.lfs_tree.specs.Allowed.{CanAdd}
+use Rattle.lfs_tree.specs.Permissions.{CanAdd}
 use Rattle.lfs_tree.specs.Calls as call
-use Rattle.lfs_tree.specs.Calls.{left_by}
-use Rattle.lfs_tree.specs.Carrying.{AppliesOn, HasDone, IsAtRest, IsOperationOn, IsPlaceFor, IsVacant, StandsAs, SurvivesTo}
-use Rattle.lfs_tree.specs.Held.{tree_state_of}
+use Rattle.lfs_tree.specs.Calls.{tree_left_by}
+use Rattle.lfs_tree.specs.TreeChanges.{AppliesOn, HasDoneCall, IsAtRest, IsOperationOn, IsPlaceFor, IsVacant, HasSoundTree, SurvivesTo}
+use Rattle.lfs_tree.specs.RootedThreads.{tree_state_of}
 use Rattle.lfs_lookup.specs.declared.search.Spot.{Spot}
 use Rattle.lfs_tree.proofs.Carried.{among_one, among_two, behind_below, carried, with_history}
 use Rattle.lfs_tree.proofs.CarryLogged.{logged_there}
@@ -95,7 +95,7 @@ module _ (t : State) (root : ℕ) (rests : IsAtRest t root) (path : Path) (compo
     logged = logged_there t.kept.disk _ bytes;
   }
 
-  pub can_make : 4 ≤ need → CanMake (with_history t.kept h) spot.pair spot.id name
+  pub can_make : 4 ≤ need → CanMakeAt (with_history t.kept h) spot.pair spot.id name
   can_make enough = record {
     ready = ready_to t root h rests large;
     path = place.above;
@@ -133,7 +133,7 @@ module _ (t : State) (root : ℕ) (rests : IsAtRest t root) (path : Path) (compo
         no_fault = quiet;
       }) refl refl
 
-  created_alone : (c : Kept) (op : Operation) (files : Files) → WritesIn (with_history t.kept h) spot.pair c → Alters (with_history t.kept h) spot.pair c
+  created_alone : (c : Kept) (op : Operation) (files : Files) → WritesIn (with_history t.kept h) spot.pair c → AltersPair (with_history t.kept h) spot.pair c
       → LeavesAlone t.kept.disk t.kept.pairs (record { tree = tree_in t.kept.disk t.kept.pairs; files = files }) op c.disk c.pairs
   created_alone c op files w alters =
       let b = place.belongs in
@@ -144,10 +144,10 @@ module _ (t : State) (root : ℕ) (rests : IsAtRest t root) (path : Path) (compo
       (λ has n. alters (subst (Contains c.pairs) (sym is) has))
 
   made_at : (c : Kept) (given : List ℕ) → faults c.history ≡ faults t.kept.history → OnlyReads t.kept.disk.blocks t.kept.history h → WritesUpTo (with_history t.kept h) spot.pair c
-      → ((can : CanMake (with_history t.kept h) spot.pair spot.id name) → IsMade (with_history t.kept h) c can.path name) → 4 ≤ need → as_path given ≡ path → AppliesOn t.kept (ops.Mkdir given) c
+      → ((can : CanMakeAt (with_history t.kept h) spot.pair spot.id name) → IsDirectoryMade (with_history t.kept h) c can.path name) → 4 ≤ need → as_path given ≡ path → AppliesOn t.kept (ops.Mkdir given) c
   unfolding can_make
   made_at c given quiet reads writes gives enough e =
-      let is : IsMade (with_history t.kept h) c place.above name = gives (can_make enough) in
+      let is : IsDirectoryMade (with_history t.kept h) c place.above name = gives (can_make enough) in
       carried t.kept h (ops.Mkdir given) c
       (record {
         accepted = rests.held.sound.accepted;
@@ -181,27 +181,27 @@ module _ (t : State) (root : ℕ) (rests : IsAtRest t root) (path : Path) (compo
   before = tree_in t.kept.disk t.kept.pairs
 
   created_survives : (c : Kept) → OnlyReads t.kept.disk.blocks t.kept.history h → WritesIn (with_history t.kept h) spot.pair c
-      → ((can : CanCreate (with_history t.kept h) spot.pair spot.id name) → SurvivesTo (with_history t.kept h) c (with_file (with_history t.kept h) can.path name)) → SurvivesTo t.kept c (added path (FileNode [] []) before)
+      → ((can : CanCreate (with_history t.kept h) spot.pair spot.id name) → SurvivesTo (with_history t.kept h) c (with_file (with_history t.kept h) can.path name)) → SurvivesTo t.kept c (tree_with_node path (FileNode [] []) before)
   unfolding can_create
   created_survives c reads writes gives =
-      subst (λ p. SurvivesTo t.kept c (added p (FileNode [] []) before)) (sym place.is) (survives_behind t root rests h c _ (added (place.above ++ name ∷ []) (FileNode [] []) before) reads writes.writes (gives can_create))
+      subst (λ p. SurvivesTo t.kept c (tree_with_node p (FileNode [] []) before)) (sym place.is) (survives_behind t root rests h c _ (tree_with_node (place.above ++ name ∷ []) (FileNode [] []) before) reads writes.writes (gives can_create))
 
   made_survives : (c : Kept) → OnlyReads t.kept.disk.blocks t.kept.history h → WritesUpTo (with_history t.kept h) spot.pair c
-      → ((can : CanMake (with_history t.kept h) spot.pair spot.id name) → SurvivesTo (with_history t.kept h) c (with_directory (with_history t.kept h) can.path name)) → 4 ≤ need → SurvivesTo t.kept c (added path (DirectoryNode [] []) before)
+      → ((can : CanMakeAt (with_history t.kept h) spot.pair spot.id name) → SurvivesTo (with_history t.kept h) c (with_directory (with_history t.kept h) can.path name)) → 4 ≤ need → SurvivesTo t.kept c (tree_with_node path (DirectoryNode [] []) before)
   unfolding can_make
   made_survives c reads writes gives enough =
-      subst (λ p. SurvivesTo t.kept c (added p (DirectoryNode [] []) before)) (sym place.is) (survives_behind t root rests h c _ (added (place.above ++ name ∷ []) (DirectoryNode [] []) before) reads writes.writes (gives (can_make enough)))
+      subst (λ p. SurvivesTo t.kept c (tree_with_node p (DirectoryNode [] []) before)) (sym place.is) (survives_behind t root rests h c _ (tree_with_node (place.above ++ name ∷ []) (DirectoryNode [] []) before) reads writes.writes (gives (can_make enough)))
 
   -- ---- all that is said of it
 
   pub create_does : (new : State) (r : Result (Unit {0}) Error) (given : List ℕ) → as_path given ≡ path → faults h ≡ faults t.kept.history → OnlyReads t.kept.disk.blocks t.kept.history h → WritesIn (with_history t.kept h) spot.pair new.kept
-      → OnOk r ((can : CanCreate (with_history t.kept h) spot.pair spot.id name) → IsCreated (with_history t.kept h) new.kept can.path name) → OnOk r (Alters (with_history t.kept h) spot.pair new.kept) → ReportsFaultsSince h new.kept.history r → OnOk r (new.failed ≡ false)
+      → OnOk r ((can : CanCreate (with_history t.kept h) spot.pair spot.id name) → IsCreated (with_history t.kept h) new.kept can.path name) → OnOk r (AltersPair (with_history t.kept h) spot.pair new.kept) → ReportsFaultsSince h new.kept.history r → OnOk r (new.failed ≡ false)
       → ((can : CanCreate (with_history t.kept h) spot.pair spot.id name) → SurvivesTo (with_history t.kept h) new.kept (with_file (with_history t.kept h) can.path name)) → IsOperationOn t (call.Create path) r new
   create_does new r given named quiet reads w gives alters reported works survives =
-      changed t new (HasDone t.kept (call.Create path)) (left_by (call.Create path) before) h _ r quiet reads w.writes reported works (go r gives alters (quiet_reported t.kept new.kept h r quiet reported)) (created_survives new.kept reads w survives)
+      changed t new (HasDoneCall t.kept (call.Create path)) (tree_left_by (call.Create path) before) h _ r quiet reads w.writes reported works (go r gives alters (quiet_reported t.kept new.kept h r quiet reported)) (created_survives new.kept reads w survives)
     where
-      go : (r : Result (Unit {0}) Error) → OnOk r ((can : CanCreate (with_history t.kept h) spot.pair spot.id name) → IsCreated (with_history t.kept h) new.kept can.path name) → OnOk r (Alters (with_history t.kept h) spot.pair new.kept)
-          → OnOk r (faults new.kept.history ≡ faults t.kept.history) → OnOk r (HasDone t.kept (call.Create path) new.kept × StandsAs t.kept (left_by (call.Create path) before) new.kept)
+      go : (r : Result (Unit {0}) Error) → OnOk r ((can : CanCreate (with_history t.kept h) spot.pair spot.id name) → IsCreated (with_history t.kept h) new.kept can.path name) → OnOk r (AltersPair (with_history t.kept h) spot.pair new.kept)
+          → OnOk r (faults new.kept.history ≡ faults t.kept.history) → OnOk r (HasDoneCall t.kept (call.Create path) new.kept × HasSoundTree t.kept (tree_left_by (call.Create path) before) new.kept)
       go (Err e) gives alters same = tt
       go (Ok x) gives alters same = (
         record {
@@ -212,13 +212,13 @@ module _ (t : State) (root : ℕ) (rests : IsAtRest t root) (path : Path) (compo
       )
 
   pub make_does : (new : State) (r : Result (Unit {0}) Error) (given : List ℕ) → as_path given ≡ path → 4 ≤ need → faults h ≡ faults t.kept.history → OnlyReads t.kept.disk.blocks t.kept.history h → WritesUpTo (with_history t.kept h) spot.pair new.kept
-      → OnOk r ((can : CanMake (with_history t.kept h) spot.pair spot.id name) → IsMade (with_history t.kept h) new.kept can.path name) → OnOk r (AltersUpTo (with_history t.kept h) spot.pair new.kept) → ReportsFaultsSince h new.kept.history r → OnOk r (new.failed ≡ false)
-      → ((can : CanMake (with_history t.kept h) spot.pair spot.id name) → SurvivesTo (with_history t.kept h) new.kept (with_directory (with_history t.kept h) can.path name)) → IsOperationOn t (call.Mkdir path) r new
+      → OnOk r ((can : CanMakeAt (with_history t.kept h) spot.pair spot.id name) → IsDirectoryMade (with_history t.kept h) new.kept can.path name) → OnOk r (AltersUpTo (with_history t.kept h) spot.pair new.kept) → ReportsFaultsSince h new.kept.history r → OnOk r (new.failed ≡ false)
+      → ((can : CanMakeAt (with_history t.kept h) spot.pair spot.id name) → SurvivesTo (with_history t.kept h) new.kept (with_directory (with_history t.kept h) can.path name)) → IsOperationOn t (call.Mkdir path) r new
   make_does new r given named enough quiet reads w gives alters reported works survives =
-      changed t new (HasDone t.kept (call.Mkdir path)) (left_by (call.Mkdir path) before) h _ r quiet reads w.writes reported works (go r gives alters (quiet_reported t.kept new.kept h r quiet reported)) (made_survives new.kept reads w survives enough)
+      changed t new (HasDoneCall t.kept (call.Mkdir path)) (tree_left_by (call.Mkdir path) before) h _ r quiet reads w.writes reported works (go r gives alters (quiet_reported t.kept new.kept h r quiet reported)) (made_survives new.kept reads w survives enough)
     where
-      go : (r : Result (Unit {0}) Error) → OnOk r ((can : CanMake (with_history t.kept h) spot.pair spot.id name) → IsMade (with_history t.kept h) new.kept can.path name) → OnOk r (AltersUpTo (with_history t.kept h) spot.pair new.kept)
-          → OnOk r (faults new.kept.history ≡ faults t.kept.history) → OnOk r (HasDone t.kept (call.Mkdir path) new.kept × StandsAs t.kept (left_by (call.Mkdir path) before) new.kept)
+      go : (r : Result (Unit {0}) Error) → OnOk r ((can : CanMakeAt (with_history t.kept h) spot.pair spot.id name) → IsDirectoryMade (with_history t.kept h) new.kept can.path name) → OnOk r (AltersUpTo (with_history t.kept h) spot.pair new.kept)
+          → OnOk r (faults new.kept.history ≡ faults t.kept.history) → OnOk r (HasDoneCall t.kept (call.Mkdir path) new.kept × HasSoundTree t.kept (tree_left_by (call.Mkdir path) before) new.kept)
       go (Err e) gives alters same = tt
       go (Ok x) gives alters same = (
         record {

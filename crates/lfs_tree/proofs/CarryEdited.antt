@@ -34,13 +34,13 @@ use Rattle.lfs_thread.specs.Device.{two_of}
 use Rattle.lfs_thread.specs.Kept.{Kept, State}
 use Rattle.lfs_thread.specs.Steps.{Writes, pair_in}
 use Rattle.lfs_tree.proofs.LeftAlone.{about_one, holds_slot, rest_left_alone}
-use Rattle.lfs_tree.specs.Allowed.{CanRemoveAttr, CanSetAttr}
+use Rattle.lfs_tree.specs.Permissions.{CanRemoveAttr, CanSetAttr}
 use Rattle.lfs_tree.specs.Calls as call
-use Rattle.lfs_tree.specs.Calls.{left_by}
-use Rattle.lfs_tree.specs.Carrying.{AppliesOn, HasDone, IsAtRest, IsOperationOn, Spares, StandsAs, SurvivesTo}
-use Rattle.lfs_tree.specs.CarryingSlots.{HasEntry, IsSlotFor, IsSlotIn, has_slot, with_attributes_changed}
-use Rattle.lfs_tree.specs.Held.{tree_state_of}
-use Rattle.lfs_lookup.specs.Paths.{LeadsTo, StandsOnPath}
+use Rattle.lfs_tree.specs.Calls.{tree_left_by}
+use Rattle.lfs_tree.specs.TreeChanges.{AppliesOn, HasDoneCall, IsAtRest, IsOperationOn, SparesOthers, HasSoundTree, SurvivesTo}
+use Rattle.lfs_tree.specs.SlotChanges.{HasEntry, IsSlotFor, IsSlotIn, has_slot, with_attributes_changed}
+use Rattle.lfs_tree.specs.RootedThreads.{tree_state_of}
+use Rattle.lfs_lookup.specs.Paths.{LeadsTo, IsSlotOnPath}
 use Rattle.lfs_lookup.specs.declared.paths.Found.{Found}
 use Rattle.lfs_lookup.specs.declared.paths.Found.TheVariants as found
 use Rattle.lfs_lookup.specs.declared.search.Spot.{Spot}
@@ -65,8 +65,8 @@ slot_found t path (found.Nothing parent place) v l = absurd (absent t path v (ap
 slot_found t path (found.Directory parent slot first) v l = refl
 slot_found t path (found.File parent slot contents) v l = refl
 
-slot_is : (ps : List Pair) (path above : Path) (name : Name) (parent : ℕ) (slot spot : Spot) → path ≡ above ++ name ∷ [] → StandsOnPath ps above name parent slot → slot ≡ spot → IsSlotFor ps path spot
-slot_is ps path above name parent slot spot e s h = record { above = above; name = name; first = parent; is = e; stands = subst (StandsOnPath ps above name parent) h s }
+slot_is : (ps : List Pair) (path above : Path) (name : Name) (parent : ℕ) (slot spot : Spot) → path ≡ above ++ name ∷ [] → IsSlotOnPath ps above name parent slot → slot ≡ spot → IsSlotFor ps path spot
+slot_is ps path above name parent slot spot e s h = record { above = above; name = name; first = parent; is = e; stands = subst (IsSlotOnPath ps above name parent) h s }
 
 pub slot_for : (t : Kept) (path : Path) (f : Found) (spot : Spot) → LeadsTo t path f → IsSlotIn f spot → IsSlotFor t.pairs path spot
 slot_for t path found.Root spot l h = absurd h
@@ -218,17 +218,17 @@ module _ (t : State) (root : ℕ) (rests : IsAtRest t root) (path : Path) (large
       → ((set : CanSetAttribute (with_history t.kept h) spot.pair spot.id kind value) → SurvivesTo (with_history t.kept h) new.kept (with_attributes_at (with_history t.kept h) set.can.path set.can.name (put_attribute kind value)))
       → IsOperationOn t (call.SetAttr path kind value) r new
   set_does new r kind value given named can quiet reads w gives reported works survives =
-      changed t new (HasDone t.kept (call.SetAttr path kind value)) (left_by (call.SetAttr path kind value) before) h _ r quiet reads w.writes reported works (go r gives (quiet_reported t.kept new.kept h r quiet reported)) (set_survives new.kept kind value _ can reads w.writes survives)
+      changed t new (HasDoneCall t.kept (call.SetAttr path kind value)) (tree_left_by (call.SetAttr path kind value) before) h _ r quiet reads w.writes reported works (go r gives (quiet_reported t.kept new.kept h r quiet reported)) (set_survives new.kept kind value _ can reads w.writes survives)
     where
       go : (r : Result (Unit {0}) Error) → OnOk r ((set : CanSetAttribute (with_history t.kept h) spot.pair spot.id kind value) → HasSetAttribute (with_history t.kept h) new.kept set.can.path set.can.name kind value)
-          → OnOk r (faults new.kept.history ≡ faults t.kept.history) → OnOk r (HasDone t.kept (call.SetAttr path kind value) new.kept × StandsAs t.kept (left_by (call.SetAttr path kind value) before) new.kept)
+          → OnOk r (faults new.kept.history ≡ faults t.kept.history) → OnOk r (HasDoneCall t.kept (call.SetAttr path kind value) new.kept × HasSoundTree t.kept (tree_left_by (call.SetAttr path kind value) before) new.kept)
       go (Err e) gives same = tt
       go (Ok x) gives same =
           let at : (given : List ℕ) → as_path given ≡ path → AppliesOn t.kept (ops.SetAttr given kind value) new.kept
           = λ given e. set_at new.kept kind value given _ can same reads w.writes (among_one t.kept spot.pair w.fresh slot_below w.free) gives e in (
             record {
               carries = does_set (λ op. AppliesOn t.kept op new.kept) path kind value at;
-              spares = does_set (λ op. Spares t.kept op new.kept) path kind value (λ given e none files. edited_alone new.kept (ops.SetAttr given kind value) files given w.fresh refl e w.free w.writes);
+              spares = does_set (λ op. SparesOthers t.kept op new.kept) path kind value (λ given e none files. edited_alone new.kept (ops.SetAttr given kind value) files given w.fresh refl e w.free w.writes);
             },
             set_stands t.kept new.kept path kind value given named (at given named) (gives (can_set kind value can)).now.root,
           )
@@ -239,17 +239,17 @@ module _ (t : State) (root : ℕ) (rests : IsAtRest t root) (path : Path) (large
       → ((can : CanEdit (with_history t.kept h) spot.pair spot.id) → SurvivesTo (with_history t.kept h) new.kept (with_attributes_at (with_history t.kept h) can.path can.name (without_attribute kind)))
       → IsOperationOn t (call.RemoveAttr path kind) r new
   clear_does new r kind given named quiet reads w gives reported works survives =
-      changed t new (HasDone t.kept (call.RemoveAttr path kind)) (left_by (call.RemoveAttr path kind) before) h _ r quiet reads w reported works (go r gives (quiet_reported t.kept new.kept h r quiet reported)) (cleared_survives new.kept kind _ reads w survives)
+      changed t new (HasDoneCall t.kept (call.RemoveAttr path kind)) (tree_left_by (call.RemoveAttr path kind) before) h _ r quiet reads w reported works (go r gives (quiet_reported t.kept new.kept h r quiet reported)) (cleared_survives new.kept kind _ reads w survives)
     where
       go : (r : Result (Unit {0}) Error) → OnOk r ((can : CanEdit (with_history t.kept h) spot.pair spot.id) → HasRemovedAttribute (with_history t.kept h) new.kept can.path can.name kind)
-          → OnOk r (faults new.kept.history ≡ faults t.kept.history) → OnOk r (HasDone t.kept (call.RemoveAttr path kind) new.kept × StandsAs t.kept (left_by (call.RemoveAttr path kind) before) new.kept)
+          → OnOk r (faults new.kept.history ≡ faults t.kept.history) → OnOk r (HasDoneCall t.kept (call.RemoveAttr path kind) new.kept × HasSoundTree t.kept (tree_left_by (call.RemoveAttr path kind) before) new.kept)
       go (Err e) gives same = tt
       go (Ok x) gives same =
           let at : (given : List ℕ) → as_path given ≡ path → AppliesOn t.kept (ops.RemoveAttr given kind) new.kept
           = λ given e. cleared_at new.kept kind given _ same reads w (among_one t.kept spot.pair [] slot_below tt) gives e in (
             record {
               carries = does_clear (λ op. AppliesOn t.kept op new.kept) path kind at;
-              spares = does_clear (λ op. Spares t.kept op new.kept) path kind (λ given e none files. edited_alone new.kept (ops.RemoveAttr given kind) files given [] refl e tt w);
+              spares = does_clear (λ op. SparesOthers t.kept op new.kept) path kind (λ given e none files. edited_alone new.kept (ops.RemoveAttr given kind) files given [] refl e tt w);
             },
             clear_stands t.kept new.kept path kind given named (at given named) (gives can_edit).now.root,
           )

@@ -4,7 +4,7 @@ use Rattle.std.specs.Prelude.{Contains, OnOk, ◌↔◌}
 use Rattle.std.proofs.lemmas.Bool.{cases_lt}
 use Rattle.std.proofs.lemmas.List.Elements.{All-from_recursion, recursion_from_All}
 use Rattle.std.proofs.lemmas.Option.{same_Some}
-use Rattle.lfs_writer.specs.Settling.{CanSettle, IsReadBesideMap, IsSettledIn, blocks_in_list}
+use Rattle.lfs_writer.specs.SettledFiles.{CanSettle, IsReadBesideMap, IsSettledIn, blocks_in_list}
 use Rattle.lfs_model.specs.Blocks.{SameButThese}
 use Rattle.lfs_model.specs.BlockSets.{AreUsed, BlockSets, IsInFlight, IsUsed}
 use Rattle.lfs_model.specs.BlockSets.BlockState.{Free, InFlight, Used}
@@ -23,19 +23,19 @@ use Rattle.lfs_model.proofs.Splices.{files_of, unmoved_in}
 use Rattle.lfs_operations.specs.Dropping.{SameInFlight}
 use Rattle.lfs_operations.specs.Editing.{CanEdit, slot_at}
 use Rattle.lfs_operations.specs.Ready.{IsReady, IsReadyBut}
-use Rattle.lfs_operations.specs.Removing.{goes_whole, written_at}
+use Rattle.lfs_operations.specs.Removing.{drops_pair, written_at}
 use Rattle.lfs_thread.specs.Device.{two_of}
 use Rattle.lfs_thread.specs.Kept.{Kept}
 use Rattle.lfs_thread.specs.Steps.{HasShape, Writes, pair_in}
 use Rattle.lfs_operations.specs.MovingSteps.{WritesAmong}
 use Rattle.lfs_lookup.specs.Entry.{ShowsContents}
-use Rattle.lfs_tree.specs.Going.{CanFree, list_shown, no_list}
+use Rattle.lfs_tree.specs.Removals.{CanFree, list_shown, no_list}
 use Rattle.lfs_lookup.specs.declared.entry.FileStorage.{FileStorage}
 use Rattle.lfs_lookup.specs.declared.entry.FileStorage.TheVariants as shown
 use Rattle.lfs_tree.proofs.Carried.{behind_below, pair_blocks}
 use Rattle.lfs_tree.proofs.KeptFiles.{among_files}
-use Rattle.lfs_writer.specs.Based.{IsBase}
-use Rattle.lfs_writer.specs.Settled.{IsMapSettled}
+use Rattle.lfs_writer.specs.Bases.{IsBase}
+use Rattle.lfs_writer.specs.SettledMaps.{IsMapSettled}
 
 -- ---- the blocks of a slot's file
 
@@ -74,7 +74,7 @@ in_pairs : (t : Kept) (index first : ℕ) → index < length t.pairs → (1 ≤ 
 in_pairs t index first below =
     let a = pair_blocks t.pairs (index - 1) (omega arith) in
     let b = pair_blocks t.pairs index below in
-    counted_of (blocks_of t.pairs) (pair_in t (index - 1)).at (pair_in t index).at (goes_whole t index first)
+    counted_of (blocks_of t.pairs) (pair_in t (index - 1)).at (pair_in t index).at (drops_pair t index first)
     (count-Contains (blocks_of t.pairs) (pair_in t (index - 1)).at.0 a.0, count-Contains (blocks_of t.pairs) (pair_in t (index - 1)).at.1 a.1)
     (count-Contains (blocks_of t.pairs) (pair_in t index).at.0 b.0, count-Contains (blocks_of t.pairs) (pair_in t index).at.1 b.1)
 

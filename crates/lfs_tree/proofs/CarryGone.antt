@@ -8,11 +8,11 @@ use Rattle.std.proofs.lemmas.Option.{same_Some}
 use Rattle.lfs_device.specs.Bytes.{HasBytes}
 use Rattle.lfs_device.specs.declared.error.Error.{Error}
 use Rattle.lfs_device.specs.declared.error.Error.TheVariants.{Io, NoMemory}
-use Rattle.lfs_writer.specs.Settling.{IsReadBesideMap}
-use Rattle.lfs_writer.specs.Standing.{ReportsWork}
+use Rattle.lfs_writer.specs.SettledFiles.{IsReadBesideMap}
+use Rattle.lfs_writer.specs.ThreadContents.{ReportsWork}
 use Rattle.lfs_model.proofs.Orders.{length_in_order}
 use Rattle.lfs_model.specs.declared.order.NameOrder.TheVariants.{ShorterFirst}
-use Rattle.lfs_model.specs.TreeEdits.{names_of, removed}
+use Rattle.lfs_model.specs.TreeEdits.{names_of, tree_without}
 use Rattle.lfs_model.specs.Disk.{Disk}
 use Rattle.lfs_model.specs.History.{Event, OnlyReads, faults}
 use Rattle.lfs_model.specs.Operations as ops
@@ -20,7 +20,7 @@ use Rattle.lfs_model.specs.Slots.{Slot, Struct, Inline, Ctz, Branch}
 use Rattle.lfs_model.specs.Refusals.{as_path}
 use Rattle.lfs_model.specs.Thread.{Pair, superblocks_before}
 use Rattle.lfs_model.specs.Tree.{names_at, Path, Tree, branch_of}
-use Rattle.lfs_model.specs.Shown.{Leads, entries_in, tree_in, used_blocks}
+use Rattle.lfs_model.specs.Shown.{PathLeadsTo, entries_in, tree_in, used_blocks}
 use Rattle.lfs_model.proofs.BlockSets.{Contains-count, count-Contains}
 use Rattle.lfs_model.proofs.Committed.{IsCompleted, no_move_from}
 use Rattle.lfs_operations.specs.Dropping.{SameInFlight}
@@ -31,15 +31,15 @@ use Rattle.lfs_thread.specs.Device.{four_of}
 use Rattle.lfs_thread.specs.Kept.{Kept, State}
 use Rattle.lfs_thread.specs.Steps.{Writes, pair_in}
 use Rattle.lfs_operations.specs.MovingSteps.{WritesAmong}
-use Rattle.lfs_tree.specs.Allowed.{CanRemove}
+use Rattle.lfs_tree.specs.Permissions.{CanRemove}
 use Rattle.lfs_tree.specs.Calls as call
-use Rattle.lfs_tree.specs.Calls.{left_by}
-use Rattle.lfs_tree.specs.Carrying.{AppliesOn, HasDone, IsAtRest, IsOperationOn, Spares, StandsAs, SurvivesTo}
-use Rattle.lfs_tree.specs.CarryingSlots.{HasEntry, IsSlotFor, has_slot}
+use Rattle.lfs_tree.specs.Calls.{tree_left_by}
+use Rattle.lfs_tree.specs.TreeChanges.{AppliesOn, HasDoneCall, IsAtRest, IsOperationOn, SparesOthers, HasSoundTree, SurvivesTo}
+use Rattle.lfs_tree.specs.SlotChanges.{HasEntry, IsSlotFor, has_slot}
 use Rattle.lfs_lookup.specs.Entry.{ShowsContents}
-use Rattle.lfs_tree.specs.Going.{CanGo, HasGone, HasSpared, IsEntryOn}
-use Rattle.lfs_tree.specs.Held.{tree_state_of}
-use Rattle.lfs_lookup.specs.Paths.{LeadsTo, StandsOnPath}
+use Rattle.lfs_tree.specs.Removals.{CanRemoveFound, HasRemoved, SparesOthersInRemoval, IsEntryOn}
+use Rattle.lfs_tree.specs.RootedThreads.{tree_state_of}
+use Rattle.lfs_lookup.specs.Paths.{LeadsTo, IsSlotOnPath}
 use Rattle.lfs_lookup.specs.declared.entry.FileStorage.{FileStorage}
 use Rattle.lfs_lookup.specs.declared.entry.FileStorage.TheVariants as contents
 use Rattle.lfs_lookup.specs.declared.paths.Found.{Found}
@@ -83,7 +83,7 @@ branch_is (Branch at) to e = ap Branch (same_Some at to e)
 -- ---- what may go
 
 -- a directory without names has no entries
-pub none_entered : (t : Kept) (path : Path) → nat_lt 0 (length (names_of (tree_in t.disk t.pairs path))) ≡ false → (at : ℕ × ℕ) → Leads t.pairs path at → entries_in t.pairs at ≡ []
+pub none_entered : (t : Kept) (path : Path) → nat_lt 0 (length (names_of (tree_in t.disk t.pairs path))) ≡ false → (at : ℕ × ℕ) → PathLeadsTo t.pairs path at → entries_in t.pairs at ≡ []
 none_entered t path bare at leads =
     let d = directory_at_path t.disk t.pairs path at leads in
     let none = ltb-false 0 (length (names_of (tree_in t.disk t.pairs path))) bare in
@@ -96,13 +96,13 @@ none_entered t path bare at leads =
     empty (x ∷ xs) l = absurd (omega arith)
 
 module _ (t : State) (root : ℕ) (rests : IsAtRest t root) (path : Path) (large : 1024 ≤ t.kept.disk.block_size) (bytes : HasBytes t.kept.disk.blocks) (can : CanRemove (tree_state_of t.kept true false) path) (h : List Event) where
-  no_entries : (at : ℕ × ℕ) → Leads t.kept.pairs path at → entries_in t.kept.pairs at ≡ []
+  no_entries : (at : ℕ × ℕ) → PathLeadsTo t.kept.pairs path at → entries_in t.kept.pairs at ≡ []
   no_entries at leads = none_entered t.kept path can.empty at leads
 
-  slot_on : (parent : ℕ) (slot : Spot) (ends_above : Path) (name : List ℕ) → path ≡ ends_above ++ name ∷ [] → StandsOnPath t.kept.pairs ends_above name parent slot → IsSlotFor t.kept.pairs path slot
+  slot_on : (parent : ℕ) (slot : Spot) (ends_above : Path) (name : List ℕ) → path ≡ ends_above ++ name ∷ [] → IsSlotOnPath t.kept.pairs ends_above name parent slot → IsSlotFor t.kept.pairs path slot
   slot_on parent slot above name is stands = record { above = above; name = name; first = parent; is = is; stands = stands }
 
-  pub can_go : (f : Found) → IsEntryOn t.kept.disk.order t.kept.pairs path f → CanGo (with_history t.kept h) path f
+  pub can_go : (f : Found) → IsEntryOn t.kept.disk.order t.kept.pairs path f → CanRemoveFound (with_history t.kept h) path f
   unfolding can_edit slot_on
   can_go found.Root on = absurd (let e = on.has in cc)
   can_go found.ParentIsFile on = absurd (let e = on.has in cc)
@@ -121,9 +121,9 @@ module _ (t : State) (root : ℕ) (rests : IsAtRest t root) (path : Path) (large
       }
   can_go (found.Directory parent slot first) on =
       let there = on.ends.there in
-      let led : Leads t.kept.pairs (on.ends.above ++ on.ends.name ∷ []) there.1.at = there.1.leads in
+      let led : PathLeadsTo t.kept.pairs (on.ends.above ++ on.ends.name ∷ []) there.1.at = there.1.leads in
       let bare = bare_there t.kept.disk t.kept.pairs on.ends.above on.ends.name there.1.at first rests.held.sound.accepted (rests.held.sound.fits refl) (no_move_from t.kept.pairs rests.settled) there.1.leads there.1.begins
-      (no_entries there.1.at (subst (λ p. Leads t.kept.pairs p there.1.at) (sym on.ends.is) there.1.leads)) in
+      (no_entries there.1.at (subst (λ p. PathLeadsTo t.kept.pairs p there.1.at) (sym on.ends.is) there.1.leads)) in
       record {
         take = record {
           can = can_edit t root rests path large bytes slot (slot_on parent slot on.ends.above on.ends.name on.ends.is there.0) h;
@@ -153,7 +153,7 @@ ready_from t r = record {
   large = r.large;
 }
 
-pub directory_gone : (old new : Kept) (path above : Path) (name : List ℕ) → path ≡ above ++ name ∷ [] → IsDirectoryRemoved old new above name → HasGone old path new
+pub directory_gone : (old new : Kept) (path above : Path) (name : List ℕ) → path ≡ above ++ name ∷ [] → IsDirectoryRemoved old new above name → HasRemoved old path new
 directory_gone old new path above name e is = record {
   ready = ready_from new is.now.ready;
   flying = is.now.flying;
@@ -162,7 +162,7 @@ directory_gone old new path above name e is = record {
 }
 
 -- a file, whose list is freed behind it
-pub file_gone : (old mid new : Kept) (path above : Path) (name : List ℕ) (struct : Struct) → path ≡ above ++ name ∷ [] → IsRemoved old mid above name struct → IsReadBesideMap mid new → IsReady new → SameInFlight mid.map new.map → HasGone old path new
+pub file_gone : (old mid new : Kept) (path above : Path) (name : List ℕ) (struct : Struct) → path ≡ above ++ name ∷ [] → IsRemoved old mid above name struct → IsReadBesideMap mid new → IsReady new → SameInFlight mid.map new.map → HasRemoved old path new
 file_gone old mid new path above name struct e is only ready flying = record {
   ready = ready;
   flying = λ b. ((λ flies. (is.now.flying b).0 ((flying b).0 flies)), (λ flies. (flying b).1 ((is.now.flying b).1 flies)));
@@ -183,7 +183,7 @@ directory_writes old new pair id first gone take w = record {
 }
 
 module _ (t : State) (root : ℕ) (rests : IsAtRest t root) (path : Path) (h : List Event) (c : Kept) (reads : OnlyReads t.kept.disk.blocks t.kept.history h) (w : WritesAmong (with_history t.kept h) c) where
-  removed_at : (given : List ℕ) → HasGone (with_history t.kept h) path c → faults c.history ≡ faults t.kept.history → as_path given ≡ path → AppliesOn t.kept (ops.Remove given) c
+  removed_at : (given : List ℕ) → HasRemoved (with_history t.kept h) path c → faults c.history ≡ faults t.kept.history → as_path given ≡ path → AppliesOn t.kept (ops.Remove given) c
   removed_at given g quiet e = carried t.kept h (ops.Remove given) c
       (record {
         accepted = rests.held.sound.accepted;
@@ -227,15 +227,15 @@ steps_both old mid new x result given is t failed w =
 -- ---- a loss of power on the way
 
 -- an entry of a path
-pub removal_survives : (old new : Kept) (path above : Path) (name : List ℕ) → path ≡ above ++ name ∷ [] → SurvivesTo old new (removed (above ++ name ∷ []) (tree_in old.disk old.pairs)) → SurvivesTo old new (removed path (tree_in old.disk old.pairs))
-removal_survives old new path above name e k = subst (λ p. SurvivesTo old new (removed p (tree_in old.disk old.pairs))) (sym e) k
+pub removal_survives : (old new : Kept) (path above : Path) (name : List ℕ) → path ≡ above ++ name ∷ [] → SurvivesTo old new (tree_without (above ++ name ∷ []) (tree_in old.disk old.pairs)) → SurvivesTo old new (tree_without path (tree_in old.disk old.pairs))
+removal_survives old new path above name e k = subst (λ p. SurvivesTo old new (tree_without p (tree_in old.disk old.pairs))) (sym e) k
 
 -- a file, whose list is freed behind it
 pub freeing_survives : (old mid new : Kept) (path above : Path) (name : List ℕ) (struct : Struct) (bs : List ℕ) → path ≡ above ++ name ∷ [] → Writes bs old mid → IsRemoved old mid above name struct → IsReadBesideMap mid new
-    → SurvivesTo old mid (removed (above ++ name ∷ []) (tree_in old.disk old.pairs)) → SurvivesTo old new (removed path (tree_in old.disk old.pairs))
+    → SurvivesTo old mid (tree_without (above ++ name ∷ []) (tree_in old.disk old.pairs)) → SurvivesTo old new (tree_without path (tree_in old.disk old.pairs))
 freeing_survives old mid new path above name struct bs e w is only k =
-    survives_left old mid new.history (removed path (tree_in old.disk old.pairs)) (shape_geometry old mid w.shape) w.at_worst is.now.ready.accepted is.now.ready.writable
-    (is.now.shows ∙ ap (λ p. removed p (tree_in old.disk old.pairs)) (sym e)) only.reads (removal_survives old mid path above name e k)
+    survives_left old mid new.history (tree_without path (tree_in old.disk old.pairs)) (shape_geometry old mid w.shape) w.at_worst is.now.ready.accepted is.now.ready.writable
+    (is.now.shows ∙ ap (λ p. tree_without p (tree_in old.disk old.pairs)) (sym e)) only.reads (removal_survives old mid path above name e k)
 
 -- ---- all that is said of it
 
@@ -243,19 +243,19 @@ module _ (t : State) (root : ℕ) (rests : IsAtRest t root) (path : Path) (h : L
   abbrev before : Tree
   before = tree_in t.kept.disk t.kept.pairs
 
-  pub remove_does : (r : Result (Unit {0}) Error) (given : List ℕ) → as_path given ≡ path → faults h ≡ faults t.kept.history → OnOk r (HasGone (with_history t.kept h) path new.kept) → OnOk r (HasSpared (with_history t.kept h) path new.kept)
-      → ReportsFaultsSince h new.kept.history r → OnOk r (new.failed ≡ false) → SurvivesTo (with_history t.kept h) new.kept (removed path before) → IsOperationOn t (call.Remove path) r new
+  pub remove_does : (r : Result (Unit {0}) Error) (given : List ℕ) → as_path given ≡ path → faults h ≡ faults t.kept.history → OnOk r (HasRemoved (with_history t.kept h) path new.kept) → OnOk r (SparesOthersInRemoval (with_history t.kept h) path new.kept)
+      → ReportsFaultsSince h new.kept.history r → OnOk r (new.failed ≡ false) → SurvivesTo (with_history t.kept h) new.kept (tree_without path before) → IsOperationOn t (call.Remove path) r new
   remove_does r given named quiet gone spared reported works survives =
-      changed t new (HasDone t.kept (call.Remove path)) (left_by (call.Remove path) before) h w.blocks r quiet reads w.writes reported works (go r gone spared (quiet_reported t.kept new.kept h r quiet reported))
-      (survives_behind t root rests h new.kept w.blocks (removed path before) reads w.writes survives)
+      changed t new (HasDoneCall t.kept (call.Remove path)) (tree_left_by (call.Remove path) before) h w.blocks r quiet reads w.writes reported works (go r gone spared (quiet_reported t.kept new.kept h r quiet reported))
+      (survives_behind t root rests h new.kept w.blocks (tree_without path before) reads w.writes survives)
     where
-      go : (r : Result (Unit {0}) Error) → OnOk r (HasGone (with_history t.kept h) path new.kept) → OnOk r (HasSpared (with_history t.kept h) path new.kept) → OnOk r (faults new.kept.history ≡ faults t.kept.history)
-          → OnOk r (HasDone t.kept (call.Remove path) new.kept × StandsAs t.kept (left_by (call.Remove path) before) new.kept)
+      go : (r : Result (Unit {0}) Error) → OnOk r (HasRemoved (with_history t.kept h) path new.kept) → OnOk r (SparesOthersInRemoval (with_history t.kept h) path new.kept) → OnOk r (faults new.kept.history ≡ faults t.kept.history)
+          → OnOk r (HasDoneCall t.kept (call.Remove path) new.kept × HasSoundTree t.kept (tree_left_by (call.Remove path) before) new.kept)
       go (Err e) gone spared same = tt
       go (Ok x) gone spared same = (
         record {
           carries = does_remove (λ op. AppliesOn t.kept op new.kept) path (λ given e. removed_at t root rests path h new.kept reads w given gone same e);
-          spares = does_remove (λ op. Spares t.kept op new.kept) path (λ given e none files. spared (record { tree = tree_in t.kept.disk t.kept.pairs; files = files }) given e);
+          spares = does_remove (λ op. SparesOthers t.kept op new.kept) path (λ given e none files. spared (record { tree = tree_in t.kept.disk t.kept.pairs; files = files }) given e);
         },
         remove_stands t.kept new.kept path given named (removed_at t root rests path h new.kept reads w given gone same named) gone.root,
       )

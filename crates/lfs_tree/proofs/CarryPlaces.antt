@@ -3,7 +3,7 @@ use Rattle.std.proofs.Common.{◌≡◌, ◌∙◌, true, List, [], ◌∷◌, �
 use Rattle.std.specs.Prelude.{is_some}
 use Rattle.std.specs.Option.{option_map}
 use Rattle.lfs_model.specs.TreeEdits.{last_name}
-use Rattle.lfs_model.specs.InDirectory.{Belongs}
+use Rattle.lfs_model.specs.InDirectory.{BelongsInDirectory}
 use Rattle.lfs_model.specs.Names.{Name}
 use Rattle.lfs_model.specs.SlotEdits.{slot_of_path}
 use Rattle.lfs_model.specs.Slots.{Slot}
@@ -12,7 +12,7 @@ use Rattle.lfs_model.specs.Shown.{contents_in, entries_in, tree_in}
 use Rattle.lfs_model.proofs.Paths.{last_is}
 use Rattle.lfs_thread.specs.Kept.{Kept}
 use Rattle.lfs_lookup.proofs.Descended.{names_are}
-use Rattle.lfs_tree.specs.Carrying.{IsPlaceFor, IsPlaceIn, IsVacant, is_place}
+use Rattle.lfs_tree.specs.TreeChanges.{IsPlaceFor, IsPlaceIn, IsVacant, is_place}
 use Rattle.lfs_lookup.specs.Paths.{LeadsTo}
 use Rattle.lfs_lookup.specs.declared.paths.Found.{Found}
 use Rattle.lfs_lookup.specs.declared.paths.Found.TheVariants as found
@@ -44,7 +44,7 @@ place_for t path (found.Nothing parent place) name spot v l h e =
       first = parent;
       is = l.there.is ∙ ap (λ n. l.there.above ++ n ∷ []) (sym same);
       on = l.there.there.on;
-      belongs = subst (λ (s : Spot). Belongs t.disk.order t.pairs parent name s.pair s.id) h (subst (λ n. Belongs t.disk.order t.pairs parent n place.pair place.id) (sym same) l.there.there.belongs);
+      belongs = subst (λ (s : Spot). BelongsInDirectory t.disk.order t.pairs parent name s.pair s.id) h (subst (λ n. BelongsInDirectory t.disk.order t.pairs parent n place.pair place.id) (sym same) l.there.there.belongs);
     }
 
 pub last_of_map : {A : Type 0} (f : A → Name) (xs above : List A) (x : A) → xs ≡ above ++ x ∷ [] → f x ≡ last_name (map f xs)

@@ -16,8 +16,8 @@ use Rattle.lfs_model.proofs.BlockSets.{count_by-set, counts_from_none_free, slic
 use Rattle.lfs_operations.specs.Changing.{AreTwoFree, HasTwoFree}
 use Rattle.lfs_operations.specs.Making.{HasRoomFor}
 use Rattle.lfs_thread.specs.Kept.{Kept}
-use Rattle.lfs_tree.specs.Allowed.{HasRoom}
-use Rattle.lfs_tree.specs.Held.{tree_state_of}
+use Rattle.lfs_tree.specs.Permissions.{HasRoom}
+use Rattle.lfs_tree.specs.RootedThreads.{tree_state_of}
 use Rattle.lfs_tree.specs.TreeState.{IsSound}
 
 -- ---- room

@@ -1,16 +1,16 @@
 -- A removal leaves the blocks of files and of pairs alone that it doesn't concern.
 use Rattle.std.proofs.Common.{ℕ, ◌≡◌, ◌∙◌, ◌-◌, ◌<◌, ◌++◌, Bool, cond, true, false, List, [], ◌∷◌, length, inl, inr, refl, sym, subst, arith}
 use Rattle.std.specs.Prelude.{Any, Contains}
-use Rattle.lfs_writer.specs.Settling.{IsReadBesideMap}
+use Rattle.lfs_writer.specs.SettledFiles.{IsReadBesideMap}
 use Rattle.lfs_model.specs.Frame.{HoldsSlot}
 use Rattle.lfs_model.specs.Operations as ops
 use Rattle.lfs_model.specs.Refusals.{as_path}
 use Rattle.lfs_model.specs.Thread.{Pair}
 use Rattle.lfs_model.specs.Tree.{Path}
 use Rattle.lfs_operations.proofs.Held.{here}
-use Rattle.lfs_operations.specs.Changing.{Alters}
+use Rattle.lfs_operations.specs.Changing.{AltersPair}
 use Rattle.lfs_operations.specs.Editing.{CanEdit}
-use Rattle.lfs_operations.specs.Removing.{CanRemove, goes_whole, written_at}
+use Rattle.lfs_operations.specs.Removing.{CanRemove, drops_pair, written_at}
 use Rattle.lfs_operations.specs.Unlinking.{AltersInFront, CanRemoveDirectory}
 use Rattle.lfs_thread.specs.Device.{four_of, two_of}
 use Rattle.lfs_thread.specs.Kept.{Kept}
@@ -18,7 +18,7 @@ use Rattle.lfs_thread.specs.Steps.{Writes, pair_in}
 use Rattle.lfs_tree.proofs.Carried.{behind_below}
 use Rattle.lfs_tree.proofs.CarryFreed.{writes_then}
 use Rattle.lfs_tree.proofs.LeftAlone.{IsConcernedOrFree, about_one, concerned_alone, concerned_pair, holds_slot}
-use Rattle.lfs_tree.specs.Going.{HasSpared}
+use Rattle.lfs_tree.specs.Removals.{SparesOthersInRemoval}
 
 module _ (old : Kept) (path : Path) (pair id first : ℕ) (can : CanEdit old pair id) (is : path ≡ can.path ++ can.name ∷ []) (given : List ℕ) (e : as_path given ≡ path) (now : List Pair) where
   below : pair < length old.pairs
@@ -35,10 +35,10 @@ module _ (old : Kept) (path : Path) (pair id first : ℕ) (can : CanEdit old pai
       (holds_slot old.pairs can.path can.at can.first can.name pair id can.ready.accepted.thread.distinct can.leads can.begins can.stands))
 
   -- or goes with it: then the one in front of it doesn't stay as it was
-  written : (goes_whole old pair first ≡ true → Contains now (pair_in old (pair - 1)) → ⊥) → AreConcerned (written_at old pair first)
-  written alters = go (goes_whole old pair first) refl
+  written : (drops_pair old pair first ≡ true → Contains now (pair_in old (pair - 1)) → ⊥) → AreConcerned (written_at old pair first)
+  written alters = go (drops_pair old pair first) refl
     where
-      go : (b : Bool) → goes_whole old pair first ≡ b → AreConcerned (written_at old pair first)
+      go : (b : Bool) → drops_pair old pair first ≡ b → AreConcerned (written_at old pair first)
       go true whole =
           subst (λ b. AreConcerned (cond b (pair_in old (pair - 1)).at (pair_in old pair).at)) (sym whole)
           (concerned_pair old (as_path given ∷ []) now (pair - 1) (omega (arith, below)) (inr (alters whole)))
@@ -47,15 +47,15 @@ module _ (old : Kept) (path : Path) (pair id first : ℕ) (can : CanEdit old pai
           (concerned_pair old (as_path given ∷ []) now pair below (inl holds))
 
 -- a file, whose list is freed behind it
-pub file_spares : (old mid new : Kept) (path : Path) (pair id first : ℕ) (take : CanRemove old pair id first) → path ≡ take.can.path ++ take.can.name ∷ [] → (goes_whole old pair first ≡ true → Alters old (pair - 1) mid)
-    → Writes (two_of (written_at old pair first)) old mid → IsReadBesideMap mid new → HasSpared old path new
+pub file_spares : (old mid new : Kept) (path : Path) (pair id first : ℕ) (take : CanRemove old pair id first) → path ≡ take.can.path ++ take.can.name ∷ [] → (drops_pair old pair first ≡ true → AltersPair old (pair - 1) mid)
+    → Writes (two_of (written_at old pair first)) old mid → IsReadBesideMap mid new → SparesOthersInRemoval old path new
 file_spares old mid new path pair id first take is alters w only s given e =
     let k = written old path pair id first take.can is given e new.pairs (λ whole. subst (λ (ps : List Pair). Contains ps (pair_in old (pair - 1)) → ⊥) (sym only.pairs) (alters whole)) in
     concerned_alone old new s (ops.Remove given) (two_of (written_at old pair first)) take.can.ready.accepted take.can.ready.used (k.0, (k.1, tt)) (writes_then old mid new (two_of (written_at old pair first)) w only)
 
 -- a directory without entries, with its pair
 pub directory_spares : (old new : Kept) (path : Path) (pair id first gone : ℕ) (take : CanRemoveDirectory old pair id first gone) → path ≡ take.can.path ++ take.can.name ∷ [] → AltersInFront old pair first gone new
-    → Writes (four_of (written_at old pair first) (pair_in old (gone - 1)).at) old new → HasSpared old path new
+    → Writes (four_of (written_at old pair first) (pair_in old (gone - 1)).at) old new → SparesOthersInRemoval old path new
 directory_spares old new path pair id first gone take is alters w s given e =
     let low = take.below in
     let k = written old path pair id first take.can is given e new.pairs alters.entry in

@@ -1,7 +1,7 @@
 -- A loss of power in an operation on a path, behind calls that only read.
 use Rattle.std.proofs.Common.{ℕ, ◌≡◌, inl, inr, false, if◌then◌else◌, Option, Some, None, List, [], refl, sym, subst}
 use Rattle.std.specs.Prelude.{is_none, is_some}
-use Rattle.lfs_model.specs.TreeEdits.{added}
+use Rattle.lfs_model.specs.TreeEdits.{tree_with_node}
 use Rattle.lfs_model.specs.Disk.{Disk, SameGeometry}
 use Rattle.lfs_model.specs.History.{Event, EachSince, OnlyReads}
 use Rattle.lfs_model.specs.PowerLoss.{IsLeftByStop, Survives, with_blocks}
@@ -13,7 +13,7 @@ use Rattle.lfs_model.proofs.AfterStops.{survives_then}
 use Rattle.lfs_model.proofs.Histories.{LeavesOnly-reads, Stops-read}
 use Rattle.lfs_thread.specs.Kept.{Kept, State}
 use Rattle.lfs_thread.specs.Steps.{Writes}
-use Rattle.lfs_tree.specs.Carrying.{IsAtRest, SurvivesTo}
+use Rattle.lfs_tree.specs.TreeChanges.{IsAtRest, SurvivesTo}
 use Rattle.lfs_tree.proofs.Carried.{with_history}
 
 pub survives_reading : (t : State) (root : ℕ) → IsAtRest t root → (h : List Event) → OnlyReads t.kept.disk.blocks t.kept.history h → (after : Tree) →
@@ -37,9 +37,9 @@ survives_left t c h after geometry since accepted fits shows reads k =
     same_disk disk new g = λ j. record { block_size = sym g.block_size j; page = sym g.page j; order = sym g.order j; blocks = new.blocks }
 
 -- the tree with an empty file, where nothing was
-pub created_shows : (t : Tree) (p q : Path) → q ≡ p → is_some (t p) ≡ false → (if is_none (t q) then added q (FileNode [] []) t else t) ≡ added p (FileNode [] []) t
-created_shows t p q e nothing = subst (λ x. (if is_none (t x) then added x (FileNode [] []) t else t) ≡ added p (FileNode [] []) t) (sym e) (go (t p) nothing)
+pub created_shows : (t : Tree) (p q : Path) → q ≡ p → is_some (t p) ≡ false → (if is_none (t q) then tree_with_node q (FileNode [] []) t else t) ≡ tree_with_node p (FileNode [] []) t
+created_shows t p q e nothing = subst (λ x. (if is_none (t x) then tree_with_node x (FileNode [] []) t else t) ≡ tree_with_node p (FileNode [] []) t) (sym e) (go (t p) nothing)
   where
-    go : (o : Option Node) → is_some o ≡ false → (if is_none o then added p (FileNode [] []) t else t) ≡ added p (FileNode [] []) t
+    go : (o : Option Node) → is_some o ≡ false → (if is_none o then tree_with_node p (FileNode [] []) t else t) ≡ tree_with_node p (FileNode [] []) t
     go None e = refl
     go (Some n) e = absurd (cc)

@@ -18,20 +18,20 @@ use Rattle.lfs_model.proofs.BlockCounts.{few_flying}
 use Rattle.lfs_model.proofs.BlockSets.{Contains-count, count-Contains}
 use Rattle.lfs_model.proofs.Counts.{Each, count, count_append, each_from_counted, each_pieces, once_from_distinct}
 use Rattle.lfs_model.proofs.Files.{length_back}
-use Rattle.lfs_writer.specs.Coming.{CanCome}
-use Rattle.lfs_writer.specs.Settling.{blocks_in_list}
-use Rattle.lfs_writer.specs.Standing.{StandsIn}
+use Rattle.lfs_writer.specs.StructChanges.{CanReplaceStruct}
+use Rattle.lfs_writer.specs.SettledFiles.{blocks_in_list}
+use Rattle.lfs_writer.specs.ThreadContents.{AreOnDiskOf}
 use Rattle.lfs_writer.proofs.Coming.{inline_comes, list_comes}
 use Rattle.lfs_writer.proofs.Outside.{none_or_some}
 use Rattle.lfs_operations.specs.Making.{HasRoomFor}
 use Rattle.lfs_thread.specs.Kept.{Kept}
 use Rattle.lfs_tree.specs.OpenContents.{IsOverFile, blocks_named, bytes_held}
-use Rattle.lfs_tree.specs.Storing.{CanCommit, IsFinished, list_in, list_in_struct, struct_in}
+use Rattle.lfs_tree.specs.Stores.{CanCommit, IsFinished, list_in, list_in_struct, struct_in}
 use Rattle.lfs_lookup.proofs.AtPaths.{SizedLists}
 use Rattle.lfs_tree.proofs.Carried.{with_history}
 use Rattle.lfs_tree.proofs.OpenedFiles.{marked_there, no_flight}
 use Rattle.lfs_tree.proofs.SlotsHave.{slot_has}
-use Rattle.lfs_writer.specs.Based.{IsBase}
+use Rattle.lfs_writer.specs.Bases.{IsBase}
 use Rattle.lfs_writer.specs.Contents.{form_of}
 use Rattle.lfs_writer.specs.Hand.{IsListStored as IsStoredList}
 use Rattle.lfs_writer.specs.declared.contents.Contents.{Contents}
@@ -93,13 +93,13 @@ module _ (t : Kept) (path : Path) (u : Slot) (ok : IsAccepted t.disk t.pairs) (u
   pub list_used : (b : ℕ) → 1 ≤ count b (file_blocks t.disk u.struct) → IsUsed t.map b
   list_used b some = All-contains (IsUsed t.map) (file_blocks t.disk u.struct) b (marked_there t path u ok used at) (Contains-count (file_blocks t.disk u.struct) b some)
 
-  stored_of : (s : Stored) → StandsIn t (Finished s) → IsStoredList t.map t.disk.blocks t.disk.block_size s
+  stored_of : (s : Stored) → AreOnDiskOf t (Finished s) → IsStoredList t.map t.disk.blocks t.disk.block_size s
   stored_of s stands = subst (λ (n : ℕ). IsStoredList t.map t.disk.blocks n s) stands.divided.block_size stands.stands
 
-  size_of_list : (s : Stored) (limit : ℕ) → limit < s.size → StandsIn t (Finished s) → s.size ≡ length (bytes_held t (Finished s))
+  size_of_list : (s : Stored) (limit : ℕ) → limit < s.size → AreOnDiskOf t (Finished s) → s.size ≡ length (bytes_held t (Finished s))
   size_of_list s limit large stands = sym (sized s.head s.size (⊎_elim (λ none. absurd (omega arith)) (λ list. list) (stored_of s stands).base))
 
-  pub may_come : (c : Contents) → IsOverFile t path c → IsFinished (inline_limit t.disk.block_size) (form_of c) → CanCome t (bytes_held t c) u.struct (struct_in c)
+  pub may_come : (c : Contents) → IsOverFile t path c → IsFinished (inline_limit t.disk.block_size) (form_of c) → CanReplaceStruct t (bytes_held t c) u.struct (struct_in c)
   may_come (InMemory list) over few = inline_comes t (bytes_held t (InMemory list)) u.struct few
   may_come (Finished s) over large =
       let size = size_of_list s (inline_limit t.disk.block_size) large over.stands in

@@ -10,11 +10,11 @@ use Rattle.lfs_model.proofs.Counts.{each_counted, each_from_counted}
 use Rattle.lfs_model.proofs.Files.{Same, back_same, bytes_same, chain_same, data_same, list_same}
 use Rattle.lfs_model.proofs.Counts.{Each}
 use Rattle.std.proofs.lemmas.List.Elements.{recursion_from_All}
-use Rattle.lfs_ctz.specs.Growing.{Growing, IsRest, IsStill, content_of, joined, kept_of, last_in, pending_in, pending_of, size_of}
+use Rattle.lfs_ctz.specs.Growing.{Growing, IsRest, IsSameList, content_of, bytes_of_blocks, kept_blocks, last_in, pending_in, pending_of, size_with_pointers}
 use Rattle.lfs_ctz.specs.declared.rest.Rest.{Rest}
 use Rattle.lfs_ctz.specs.declared.rest.Rest.TheVariants.{Closed, Shared, Handed, Held}
-use Rattle.lfs_writer.specs.Apart.{IsApart}
-use Rattle.lfs_writer.specs.Based.{IsBase, list_blocks}
+use Rattle.lfs_writer.specs.BlocksApart.{IsApart}
+use Rattle.lfs_writer.specs.Bases.{IsBase, list_blocks}
 use Rattle.lfs_writer.specs.Hand.{IsHand, IsListStored, hand_bytes, stored_bytes}
 use Rattle.lfs_writer.specs.declared.stored_list.Stored.{Stored}
 
@@ -87,18 +87,18 @@ module _ (map later : BlockSets) (d e : Blocks) (block_size : ℕ) (s : Stored) 
 -- ---- a list in hand, over its base
 
 module _ (map later : BlockSets) (d e : Blocks) (block_size : ℕ) (g : Growing) (base : Stored) (shared : ℕ) (hand : IsHand map d block_size g base shared)
-    (stay : StayAs map d (kept_of d g ++ list_blocks d block_size base.head base.size) later e) where
+    (stay : StayAs map d (kept_blocks d g ++ list_blocks d block_size base.head base.size) later e) where
   abbrev own : List ℕ
-  own = kept_of d g
+  own = kept_blocks d g
 
   abbrev bb : List ℕ
   bb = list_blocks d block_size base.head base.size
 
-  stay_own : StayAs map d (kept_of d g) later e
-  stay_own = stay_left map later d e (kept_of d g) (list_blocks d block_size base.head base.size) stay
+  stay_own : StayAs map d (kept_blocks d g) later e
+  stay_own = stay_left map later d e (kept_blocks d g) (list_blocks d block_size base.head base.size) stay
 
   stay_base : StayAs map d (list_blocks d block_size base.head base.size) later e
-  stay_base = stay_right map later d e (kept_of d g) (list_blocks d block_size base.head base.size) stay
+  stay_base = stay_right map later d e (kept_blocks d g) (list_blocks d block_size base.head base.size) stay
 
   full_same : Same d e (blocks_back d g.full g.head)
   full_same = each_of (λ b. block_in e b ≡ block_in d b) (blocks_back d g.full g.head) (λ b has. stay_own.same b (Contains-append_left (blocks_back d g.full g.head) (pending_of g) b has))
@@ -117,10 +117,10 @@ module _ (map later : BlockSets) (d e : Blocks) (block_size : ℕ) (g : Growing)
   }
   rest_still Held same is = is
 
-  pub hand_still : IsStill d e g
+  pub hand_still : IsSameList d e g
   hand_still = record {
     growing = record { chain = chain_same d e g.full g.head stay.count full_same hand.begun.growing.chain; stand = rest_still g.stand hand.own hand.begun.growing.stand };
-    content = ap (λ (l : List ℕ). l ++ g.rest) (ap (joined e) full_back ∙ data_same d e 0 (blocks_back d g.full g.head) full_same);
+    content = ap (λ (l : List ℕ). l ++ g.rest) (ap (bytes_of_blocks e) full_back ∙ data_same d e 0 (blocks_back d g.full g.head) full_same);
     kept = ap (λ (l : List ℕ). l ++ pending_of g) full_back;
     blocks = ap (λ (l : List ℕ). l ++ last_in g.stand) full_back;
   }
@@ -143,7 +143,7 @@ module _ (map later : BlockSets) (d e : Blocks) (block_size : ℕ) (g : Growing)
           (all_of (IsApart later (pending_of g)) bb (λ b has. let k = of_all (IsApart map (pending_of g)) bb hand.begun.apart b has in (not_free map later b (stay_base.states b has) k.0, k.1)));
       few = hand.begun.few;
       front = ap (take shared) hand_still.kept ∙ hand.begun.front ∙ ap (take shared) (sym base_list);
-      behind = subst (λ (l : List ℕ). All (λ b. All (λ c. c ≢ b) l) (drop shared (kept_of e g))) (sym base_list)
+      behind = subst (λ (l : List ℕ). All (λ b. All (λ c. c ≢ b) l) (drop shared (kept_blocks e g))) (sym base_list)
           (subst (λ (l : List ℕ). All (λ b. All (λ c. c ≢ b) bb) (drop shared l)) (sym hand_still.kept) hand.begun.behind);
       taken = λ b has used.
           let was : Contains own b = subst (λ (l : List ℕ). Contains l b) hand_still.kept has in
@@ -159,5 +159,5 @@ module _ (map later : BlockSets) (d e : Blocks) (block_size : ℕ) (g : Growing)
   }
 
   pub hand_bytes_stay : hand_bytes e block_size g base ≡ hand_bytes d block_size g base
-  hand_bytes_stay = ap (λ (l : List ℕ). l ++ drop (size_of block_size g) (stored_bytes e block_size base)) hand_still.content
-      ∙ ap (λ (l : List ℕ). content_of d g ++ drop (size_of block_size g) l) (bytes_stay map later d e block_size base stay_base)
+  hand_bytes_stay = ap (λ (l : List ℕ). l ++ drop (size_with_pointers block_size g) (stored_bytes e block_size base)) hand_still.content
+      ∙ ap (λ (l : List ℕ). content_of d g ++ drop (size_with_pointers block_size g) l) (bytes_stay map later d e block_size base stay_base)

@@ -7,11 +7,11 @@ use Rattle.lfs_model.specs.Disk.{Disk}
 use Rattle.lfs_model.specs.InDirectory.{BeginsAt, HaveNoSuperblock, entries_only, slots_in}
 use Rattle.lfs_model.specs.Names.{Name}
 use Rattle.lfs_model.specs.Slots.{Slot, is_superblock, same_pair}
-use Rattle.lfs_model.specs.Thread.{Pair, directory_pairs, first_at, gstate_of, is_hard, root_of, superblocks_before, visible}
+use Rattle.lfs_model.specs.Thread.{Pair, directory_pairs, first_at, gstate_of, is_hard, root_of, superblocks_before, entries_not_moved}
 use Rattle.lfs_model.specs.Tree.{Path}
 use Rattle.lfs_model.specs.Profile.{HaveSlots, IsWritable}
 use Rattle.lfs_model.specs.View.{IsAccepted}
-use Rattle.lfs_model.specs.Shown.{Leads, entries_in}
+use Rattle.lfs_model.specs.Shown.{PathLeadsTo, entries_in}
 use Rattle.lfs_model.proofs.Counts.{Each}
 use Rattle.lfs_model.proofs.Found.{HasDirectory}
 use Rattle.lfs_model.proofs.Global.{HasNoMove}
@@ -20,7 +20,7 @@ use Rattle.lfs_model.proofs.Listings.{IsRun}
 use Rattle.lfs_model.proofs.Searches.{IsDirectory, begins_directory, plain_behind}
 use Rattle.lfs_model.proofs.Splices as splices
 use Rattle.lfs_thread.specs.Steps.{no_pair}
-use Rattle.lfs_lookup.specs.Listed.{joined_run}
+use Rattle.lfs_lookup.specs.Listed.{hard_tail_run}
 use Rattle.lfs_lookup.proofs.Directories.{own_run, run_is}
 
 -- entries come of slots that aren't a superblock's
@@ -38,7 +38,7 @@ pub record IsBare (p : Pair) : Type 0 where
   pub alone : is_hard p.content.tail ≡ false
 
 module _ (disk : Disk) (ps : List Pair) (above : Path) (name : Name) (a : ℕ × ℕ) (n : ℕ) (ok : IsAccepted disk ps) (fits : IsWritable disk ps) (none : HasNoMove (gstate_of ps))
-    (leads : Leads ps (above ++ name ∷ []) a) (b : BeginsAt ps a n) (empty : entries_in ps a ≡ []) where
+    (leads : PathLeadsTo ps (above ++ name ∷ []) a) (b : BeginsAt ps a n) (empty : entries_in ps a ≡ []) where
   begun : IsDirectory ps a n
   begun = begins_directory disk ps (above ++ name ∷ []) a n ok leads b
 
@@ -70,7 +70,7 @@ module _ (disk : Disk) (ps : List Pair) (above : Path) (name : Name) (a : ℕ ×
       subst HaveNoSuperblock (ap (λ k. drop k ps) next ∙ rest_here) (plain_behind disk ps (n - 1) ok low)
 
   shown : entries_only (d.first.content.slots ++ slots_in d.run) ≡ []
-  shown = sym (splices.visible_in (gstate_of ps) none (d.first ∷ d.run)) ∙ ap (flat_map (visible (gstate_of ps))) (sym (ap joined_run rest_here ∙ run_is d.first d.run d.after d.is_run))
+  shown = sym (splices.visible_in (gstate_of ps) none (d.first ∷ d.run)) ∙ ap (flat_map (entries_not_moved (gstate_of ps))) (sym (ap hard_tail_run rest_here ∙ run_is d.first d.run d.after d.is_run))
       ∙ own_run disk ps (above ++ name ∷ []) a n ok leads b ∙ empty
 
   first_bare : (d.first.content.slots ≡ []) × (entries_only (slots_in d.run) ≡ [])

@@ -21,8 +21,8 @@ use Rattle.lfs_model.specs.Geometry.{IsGeometry}
 use Rattle.lfs_model.specs.History.{Event}
 use Rattle.lfs_model.specs.Log.{revision_of}
 use Rattle.lfs_model.specs.Slots.{no_gstate}
-use Rattle.lfs_model.specs.Thread.{Links, anchor, blocks_of}
-use Rattle.lfs_model.specs.View.{BeginsWith, IsAccepted, superblock_entry, view_in}
+use Rattle.lfs_model.specs.Thread.{LinkByTails, anchor, blocks_of}
+use Rattle.lfs_model.specs.View.{BeginsWithEntry, IsAccepted, superblock_entry, view_in}
 use Rattle.lfs_model.specs.Profile.{IsWritable}
 use Rattle.lfs_model.specs.WrittenContent.{written_entries}
 use Rattle.lfs_model.proofs.Histories.{began}
@@ -34,7 +34,7 @@ use Rattle.lfs_pair.specs.Writing.{HoldsLogContent}
 use Rattle.lfs_thread.specs.Device.{two_of}
 use Rattle.lfs_thread.specs.Kept.{AllUsed, Header, Kept, WasKept, pair_on, pairs_on, kept_view, kept_view_on}
 use Rattle.lfs_thread.specs.Steps.{Writes}
-use Rattle.lfs_tree.specs.Formatting.{IsEmptyMap, IsEmptyRoot, IsEmptyThread, IsFormatted, ShowsEmptyRoot, put_superblock, superblock_alone}
+use Rattle.lfs_tree.specs.Formats.{IsEmptyMap, IsEmptyRoot, IsEmptyThread, IsFormatted, ShowsEmptyRoot, put_superblock, superblock_alone}
 
 -- ---- the map
 
@@ -120,13 +120,13 @@ holder_first a b first second =
     ap₂ (λ p q. cond (not p) (cond q (Some b) None) (cond (q && is_later (revision_of a) (revision_of b)) (Some b) (Some a))) first second
 
 module _ (disk : Disk) (before history : List Event) (h : Header) (g : IsGeometry disk.block_size disk.page (block_count disk))
-    (is : pair.IsFresh before (put_superblock (superblock_bytes disk.block_size (block_count disk))) disk history anchor h) where
+    (is : pair.IsFreshPair before (put_superblock (superblock_bytes disk.block_size (block_count disk))) disk history anchor h) where
   new_is : is.new ≡ superblock_alone disk
   new_is = same_Some is.new (superblock_alone disk) (sym is.made ∙ made disk)
 
-  begins : BeginsWith (holder_at disk anchor) superblock_entry
+  begins : BeginsWithEntry (holder_at disk anchor) superblock_entry
   begins =
-      subst (λ o. BeginsWith o superblock_entry) (sym (holder_first (block_at disk 0) (block_at disk 1) is.fresh.anew.has_commit is.fresh.cleared))
+      subst (λ o. BeginsWithEntry o superblock_entry) (sym (holder_first (block_at disk 0) (block_at disk 1) is.fresh.anew.has_commit is.fresh.cleared))
       (ap (λ commits. slice_get (flat_map (λ c. c) commits) 0) is.fresh.anew.commits
       ∙ ap (λ c. slice_get (flat_map (λ c. c) ((written_entries c ++ is.fresh.anew.checksum ∷ []) ∷ [])) 0) new_is)
 
@@ -167,10 +167,10 @@ can_root k asked blocks changes bytes fields count same e f b =
     (can_be_fresh (disk_of k blocks) (geometry_is k blocks count))
 
 pub device_root : (k asked : Geometry) (blocks : Blocks) (before history : List Event) (h : Header) (changes : List Change) (bytes fields : List ℕ) → length blocks ≡ k.block_count → asked ≡ k → changes ≡ put_superblock bytes → bytes ≡ fields
-    → fields ≡ superblock_bytes asked.block_size asked.block_count → pair.IsFresh before changes (disk_of k blocks) history anchor h → IsEmptyRoot (disk_of k blocks) history h
+    → fields ≡ superblock_bytes asked.block_size asked.block_count → pair.IsFreshPair before changes (disk_of k blocks) history anchor h → IsEmptyRoot (disk_of k blocks) history h
 device_root k asked blocks before history h changes bytes fields count same e f b is =
     is_root (disk_of k blocks) before history h (geometry_is k blocks count)
-    (subst (λ z. pair.IsFresh before z (disk_of k blocks) history anchor h) (changes_are k (length blocks) changes bytes fields count e f (b ∙ ap (λ (j : Geometry). superblock_bytes j.block_size j.block_count) same)) is)
+    (subst (λ z. pair.IsFreshPair before z (disk_of k blocks) history anchor h) (changes_are k (length blocks) changes bytes fields count e f (b ∙ ap (λ (j : Geometry). superblock_bytes j.block_size j.block_count) same)) is)
 
 -- ---- what is kept
 
@@ -185,7 +185,7 @@ kept disk history h sets root map = record {
   before = history;
   since = began;
   each = (root.header, tt);
-  links = subst (λ ps. Links (Some anchor) ps) (sym (pairs_are disk history h root)) (refl, refl);
+  links = subst (λ ps. LinkByTails (Some anchor) ps) (sym (pairs_are disk history h root)) (refl, refl);
   distinct = subst (λ ps. IsDistinct nat_eq (blocks_of ps)) (sym (pairs_are disk history h root)) ((refl, tt), (tt, tt));
   size = map.size;
   used = subst (λ ps. AllUsed sets (blocks_of ps)) (sym (pairs_are disk history h root))

@@ -17,7 +17,7 @@ use Rattle.lfs_model.proofs.Counts.{Each, count, count_append, each_from_counted
 use Rattle.lfs_model.proofs.Files.{file_blocks_same}
 use Rattle.lfs_model.proofs.Splices.{files_of}
 use Rattle.lfs_thread.specs.Kept.{Kept}
-use Rattle.lfs_tree.specs.KeepsFiles.{KeepsFile, blocks_named, list_at}
+use Rattle.lfs_tree.specs.KeptFiles.{KeepsFile, blocks_named, list_at}
 use Rattle.lfs_tree.proofs.SlotsHave.{slot_has}
 
 -- ---- the blocks of a file's list

@@ -7,13 +7,13 @@ use Rattle.std.proofs.lemmas.Option.{same_Some}
 use Rattle.lfs_model.proofs.BlockSets.{Contains-count}
 use Rattle.lfs_model.proofs.Splices.{files_of}
 use Rattle.lfs_model.specs.BlockSets.{AreUsed, IsFree}
-use Rattle.lfs_model.specs.Frame.{HoldsSlot, IsNamed, LeavesAlone, paths_of, pairs_at, run_of}
+use Rattle.lfs_model.specs.Frame.{HoldsSlot, IsEntryNamed, LeavesAlone, paths_of, pairs_at, run_of}
 use Rattle.lfs_model.specs.Disk.{Disk, block_at}
-use Rattle.lfs_model.specs.InDirectory.{BeginsAt, IsBehind, IsJoined, Stands}
+use Rattle.lfs_model.specs.InDirectory.{BeginsAt, IsPairOfDirectory, HasHardTail, HasNameAtPlace}
 use Rattle.lfs_model.specs.Names.{Name, same_name}
 use Rattle.lfs_model.specs.Operations.{Operation}
 use Rattle.lfs_model.specs.Session.{Session}
-use Rattle.lfs_model.specs.Shown.{Leads, all_slots, file_blocks, used_blocks}
+use Rattle.lfs_model.specs.Shown.{PathLeadsTo, all_slots, file_blocks, used_blocks}
 use Rattle.lfs_model.specs.Slots.{Slot, same_pair}
 use Rattle.lfs_model.specs.Thread.{Pair, blocks_of}
 use Rattle.lfs_model.specs.Tree.{Path}
@@ -23,17 +23,17 @@ use Rattle.lfs_model.proofs.Alone.{left_alone, others_left_alone, own_blocks}
 use Rattle.lfs_model.proofs.Counts.{Each, count, count_append, count_here, each_from_counted, each_pieces, each_weaker, once_from_distinct}
 use Rattle.lfs_model.proofs.Paths.{last_is, parent_is, same_itself}
 use Rattle.lfs_model.proofs.Searches.{avoids_front}
-use Rattle.lfs_model.proofs.Sites.{Among, among_right, any_from}
+use Rattle.lfs_model.proofs.Sites.{SomeIn, among_right, any_from}
 use Rattle.lfs_operations.proofs.AlteredBehind.{owner_counted, same_owner}
 use Rattle.lfs_operations.proofs.Splicing.{not_used}
 use Rattle.lfs_thread.specs.Kept.{Kept}
 use Rattle.lfs_thread.specs.Steps.{Writes, no_pair, pair_in}
 use Rattle.lfs_tree.proofs.Carried.{IsPairsOrFree, apart_files, lists_from}
-use Rattle.lfs_tree.specs.Storing.{ChangesPairOf}
+use Rattle.lfs_tree.specs.Stores.{ChangesPairOf}
 
 -- ---- the slot of a path
 
-pub contains_among : (p : Pair) (xs : List Pair) → Among (λ y. y ≡ p) xs → Contains xs p
+pub contains_among : (p : Pair) (xs : List Pair) → SomeIn (λ y. y ≡ p) xs → Contains xs p
 contains_among p xs h = let a = any_from (λ y. y ≡ p) xs h in (a.0, a.2, subst (λ z. slice_index_or xs a.0 z ≡ z) a.4 a.3)
 
 pub pair_there : (ps : List Pair) (index : ℕ) → index < length ps → Contains ps (slice_index_or ps index no_pair)
@@ -44,14 +44,14 @@ pair_there ps index low = (index, low, any_default ps index low no_pair (slice_i
     any_default (x ∷ xs) zero l d e = refl
     any_default (x ∷ xs) (suc i) l d e = any_default xs i (omega arith) d e
 
-head_among : (p : Pair) (rest : List Pair) → Among (λ y. y ≡ p) (run_of p rest)
+head_among : (p : Pair) (rest : List Pair) → SomeIn (λ y. y ≡ p) (run_of p rest)
 head_among p [] = inl refl
 head_among p (q ∷ rest) = inl refl
 
 -- hard tails lead to it
-run_has : (first : Pair) (left : List Pair) (p : Pair) (rest : List Pair) → Each IsJoined (first ∷ left) → Among (λ y. y ≡ p) (run_of first (left ++ p ∷ rest))
-run_has first [] p rest h = inr (subst (λ b. Among (λ y. y ≡ p) (cond b (run_of p rest) [])) (sym h.0) (head_among p rest))
-run_has first (m ∷ left) p rest h = inr (subst (λ b. Among (λ y. y ≡ p) (cond b (run_of m (left ++ p ∷ rest)) [])) (sym h.0) (run_has m left p rest h.1))
+run_has : (first : Pair) (left : List Pair) (p : Pair) (rest : List Pair) → Each HasHardTail (first ∷ left) → SomeIn (λ y. y ≡ p) (run_of first (left ++ p ∷ rest))
+run_has first [] p rest h = inr (subst (λ b. SomeIn (λ y. y ≡ p) (cond b (run_of p rest) [])) (sym h.0) (head_among p rest))
+run_has first (m ∷ left) p rest h = inr (subst (λ b. SomeIn (λ y. y ≡ p) (cond b (run_of m (left ++ p ∷ rest)) [])) (sym h.0) (run_has m left p rest h.1))
 
 pairs_past : (xs ys : List Pair) (a : ℕ × ℕ) → Each (λ x. same_pair x.at a ≡ false) xs → pairs_at (xs ++ ys) a ≡ pairs_at ys a
 pairs_past [] ys a h = refl
@@ -71,24 +71,24 @@ pairs_from ps front y ys at first distinct is number b =
     ∙ ap (λ t. cond t (run_of y ys) (pairs_at ys at)) same
 
 -- a pair of the directory is among its pairs
-among_pairs : (ps : List Pair) (at : ℕ × ℕ) (first index : ℕ) (p : Pair) (rest : List Pair) → IsDistinct nat_eq (blocks_of ps) → BeginsAt ps at first → IsBehind ps first index p rest → Among (λ y. y ≡ p) (pairs_at ps at)
+among_pairs : (ps : List Pair) (at : ℕ × ℕ) (first index : ℕ) (p : Pair) (rest : List Pair) → IsDistinct nat_eq (blocks_of ps) → BeginsAt ps at first → IsPairOfDirectory ps first index p rest → SomeIn (λ y. y ≡ p) (pairs_at ps at)
 among_pairs ps at first index p rest distinct b place = go place.left place.parts place.joined
   where
-    go : (left : List Pair) → ps ≡ place.front ++ (left ++ p ∷ rest) → AllByRecursion IsJoined left → Among (λ y. y ≡ p) (pairs_at ps at)
-    go [] is joined = subst (Among (λ y. y ≡ p)) (sym (pairs_from ps place.front p rest at first distinct is place.begins b)) (head_among p rest)
-    go (y ∷ left) is joined = subst (Among (λ z. z ≡ p)) (sym (pairs_from ps place.front y (left ++ p ∷ rest) at first distinct is place.begins b)) (run_has y left p rest joined)
+    go : (left : List Pair) → ps ≡ place.front ++ (left ++ p ∷ rest) → AllByRecursion HasHardTail left → SomeIn (λ y. y ≡ p) (pairs_at ps at)
+    go [] is joined = subst (SomeIn (λ y. y ≡ p)) (sym (pairs_from ps place.front p rest at first distinct is place.begins b)) (head_among p rest)
+    go (y ∷ left) is joined = subst (SomeIn (λ z. z ≡ p)) (sym (pairs_from ps place.front y (left ++ p ∷ rest) at first distinct is place.begins b)) (run_has y left p rest joined)
 
 -- the pair in which the last name of a path stands holds its slot
-pub holds_slot : (ps : List Pair) (above : Path) (at : ℕ × ℕ) (first : ℕ) (name : Name) (index id : ℕ) → IsDistinct nat_eq (blocks_of ps) → Leads ps above at → BeginsAt ps at first → (s : Stands ps first name index id)
+pub holds_slot : (ps : List Pair) (above : Path) (at : ℕ × ℕ) (first : ℕ) (name : Name) (index id : ℕ) → IsDistinct nat_eq (blocks_of ps) → PathLeadsTo ps above at → BeginsAt ps at first → (s : HasNameAtPlace ps first name index id)
     → HoldsSlot ps s.pair (above ++ name ∷ [])
 holds_slot ps above at first name index id distinct leads b s = (
   at,
   (
-    subst (λ z. Leads ps z at) (sym (parent_is above name)) leads,
+    subst (λ z. PathLeadsTo ps z at) (sym (parent_is above name)) leads,
     contains_among s.pair (pairs_at ps at) (among_pairs ps at first index s.pair s.rest distinct b s.place),
-    any_from (IsNamed (last_name (above ++ name ∷ []))) s.pair.content.slots
-        (subst (Among (IsNamed (last_name (above ++ name ∷ [])))) (sym s.stands.held)
-        (among_right (IsNamed (last_name (above ++ name ∷ []))) s.stands.left (s.stands.slot ∷ s.stands.right)
+    any_from (IsEntryNamed (last_name (above ++ name ∷ []))) s.pair.content.slots
+        (subst (SomeIn (IsEntryNamed (last_name (above ++ name ∷ [])))) (sym s.stands.held)
+        (among_right (IsEntryNamed (last_name (above ++ name ∷ []))) s.stands.left (s.stands.slot ∷ s.stands.right)
         (inl (s.stands.entry, ap (λ z. same_name z s.stands.slot.name) (last_is above name ∙ sym s.stands.named) ∙ same_itself s.stands.slot.name)))),
   ),
 )
@@ -100,7 +100,7 @@ about_one P given path e h = (0, given, omega arith, refl, subst P (sym e) h)
 
 -- and blocks that were free; it changed what it holds, or holds a slot that the operation is about
 pub rest_left_alone : (t c : Kept) (first index : ℕ) (p : Pair) (rest : List Pair) (fresh : List ℕ) (s : Session) (op : Operation) → IsAccepted t.disk t.pairs → AreUsed t.map (used_blocks t.disk t.pairs)
-    → IsBehind t.pairs first index p rest → AllByRecursion (IsFree t.map) fresh → Writes (p.at.0 ∷ p.at.1 ∷ fresh) t c → (Contains c.pairs p → (Any (HoldsSlot t.pairs p) (paths_of s op) → ⊥) → ⊥)
+    → IsPairOfDirectory t.pairs first index p rest → AllByRecursion (IsFree t.map) fresh → Writes (p.at.0 ∷ p.at.1 ∷ fresh) t c → (Contains c.pairs p → (Any (HoldsSlot t.pairs p) (paths_of s op) → ⊥) → ⊥)
     → LeavesAlone t.disk t.pairs s op c.disk c.pairs
 rest_left_alone t c first index p rest fresh s op accepted used place free w changed =
     others_left_alone t.disk c.disk t.pairs c.pairs (place.front ++ place.left) rest p s op (p.at.0 ∷ p.at.1 ∷ fresh) accepted (place.parts ∙ sym (append_assoc place.front place.left (p ∷ rest))) (
@@ -111,7 +111,7 @@ rest_left_alone t c first index p rest fresh s op accepted used place free w cha
 
 -- ---- the pair that holds the slot of a path
 
-among_contained : (p : Pair) (xs : List Pair) → Contains xs p → Among (λ y. y ≡ p) xs
+among_contained : (p : Pair) (xs : List Pair) → Contains xs p → SomeIn (λ y. y ≡ p) xs
 among_contained p [] (k, l, e) = absurd (omega arith)
 among_contained p (x ∷ xs) (zero, l, e) = inl e
 among_contained p (x ∷ xs) (suc k, l, e) = inr (among_contained p xs (k, omega arith, e))
@@ -129,18 +129,18 @@ module _ (disk new : Disk) (ps qs : List Pair) (path : Path) (ok : IsAccepted di
   once : (b : ℕ) → count b (used_blocks disk ps) ≤ 1
   once b = once_from_distinct (used_blocks disk ps) ok.owned_once b
 
-  owner : Among (λ z. z ≡ k.pair) ps
+  owner : SomeIn (λ z. z ≡ k.pair) ps
   owner = among_contained k.pair ps k.there
 
   of_file : (b c : ℕ) → 1 ≤ count c (own_blocks k.pair) → 1 ≤ count b (files_of disk (all_slots ps)) → b ≢ c
   of_file b c own some e =
       let o = owner_counted c k.pair ps owner own in let m = ap (λ z. count z (blocks_of ps)) e in let u = parts b in let l = once b in absurd (omega arith)
 
-  of_other : (x : Pair) → Among (λ z. z ≡ x) ps → (HoldsSlot ps x path → ⊥) → (b c : ℕ) → 1 ≤ count b (own_blocks x) → 1 ≤ count c (own_blocks k.pair) → b ≢ c
+  of_other : (x : Pair) → SomeIn (λ z. z ≡ x) ps → (HoldsSlot ps x path → ⊥) → (b c : ℕ) → 1 ≤ count b (own_blocks x) → 1 ≤ count c (own_blocks k.pair) → b ≢ c
   of_other x h n b c some own e =
       n (subst (λ z. HoldsSlot ps z path) (same_owner b ps k.pair x (let u = parts b in let l = once b in omega arith) owner h (subst (λ z. 1 ≤ count z (own_blocks k.pair)) (sym e) own) some) k.holds)
 
-  block_stays : (x : Pair) → Among (λ z. z ≡ x) ps → (HoldsSlot ps x path → ⊥) → (b : ℕ) → 1 ≤ count b (own_blocks x) → block_at new b ≡ block_at disk b
+  block_stays : (x : Pair) → SomeIn (λ z. z ≡ x) ps → (HoldsSlot ps x path → ⊥) → (b : ℕ) → 1 ≤ count b (own_blocks x) → block_at new b ≡ block_at disk b
   block_stays x h n b some =
       k.others b (Contains-count (used_blocks disk ps) b (let o = owner_counted b x ps h some in let u = parts b in omega arith))
       (of_other x h n b k.pair.at.0 some (first_owned k.pair)) (of_other x h n b k.pair.at.1 some (second_owned k.pair))

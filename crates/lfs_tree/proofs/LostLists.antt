@@ -8,7 +8,7 @@ use Rattle.std.specs.Prelude.{Contains, ◌↔◌, slice_index_or}
 use Rattle.std.proofs.lemmas.Bool.{cases_lt}
 use Rattle.std.proofs.lemmas.List.Elements.{All-from_recursion, recursion_from_All}
 use Rattle.std.proofs.lemmas.Option.{same_Some}
-use Rattle.lfs_writer.specs.Settling.{CanSettle, IsReadBesideMap, IsSettledIn, blocks_in_list}
+use Rattle.lfs_writer.specs.SettledFiles.{CanSettle, IsReadBesideMap, IsSettledIn, blocks_in_list}
 use Rattle.lfs_model.specs.BlockSets.{AreUsed, BlockSets, IsInFlight}
 use Rattle.lfs_model.specs.Content.{RawSlot, complete, complete_all, kind_named, struct_typed}
 use Rattle.lfs_model.specs.Disk.{Disk, SameGeometry}
@@ -31,16 +31,16 @@ use Rattle.lfs_operations.specs.Recovering.{HasRecovered, list_blocks_at, slots_
 use Rattle.lfs_operations.proofs.RecoverLists.{each_at}
 use Rattle.lfs_thread.specs.Kept.{Kept}
 use Rattle.lfs_thread.specs.Steps.{no_pair}
-use Rattle.lfs_tree.specs.Going.{no_list}
-use Rattle.lfs_tree.specs.LostLists.{CanFreeLists, blocks_in_lists, list_named, list_typed, lists_named, lists_typed}
+use Rattle.lfs_tree.specs.Removals.{no_list}
+use Rattle.lfs_tree.specs.LostLists.{CanFreeLists, blocks_in_lists, list_of_struct, list_of_raw_struct, lists_of_slots, lists_of_raw_slots}
 use Rattle.lfs_tree.proofs.CarryFreed.{beside_is, not_both, not_free, with_map}
-use Rattle.lfs_writer.specs.Based.{IsBase}
-use Rattle.lfs_writer.specs.Settled.{IsMapSettled}
+use Rattle.lfs_writer.specs.Bases.{IsBase}
+use Rattle.lfs_writer.specs.SettledMaps.{IsMapSettled}
 use Rattle.lfs_writer.specs.declared.stored_list.Stored.{Stored}
 
 -- ---- which lists
 
-typed_first : (s : RawSlot) (t : Slot) → complete s ≡ Some t → list_typed s.struct ≡ list_named t.struct
+typed_first : (s : RawSlot) (t : Slot) → complete s ≡ Some t → list_of_raw_struct s.struct ≡ list_of_struct t.struct
 typed_first s t e = go s.name s.struct refl refl
   where
     given : ℕ × List ℕ → ℕ × List ℕ → Slot
@@ -49,43 +49,43 @@ typed_first s t e = go s.name s.struct refl refl
     made : Option (ℕ × List ℕ) → Option (ℕ × List ℕ) → Option Slot
     made name struct = option_and_then (λ n. option_map (λ k. given n k) struct) name
 
-    go : (name struct : Option (ℕ × List ℕ)) → s.name ≡ name → s.struct ≡ struct → list_typed s.struct ≡ list_named t.struct
+    go : (name struct : Option (ℕ × List ℕ)) → s.name ≡ name → s.struct ≡ struct → list_of_raw_struct s.struct ≡ list_of_struct t.struct
     go None struct n k = absurd (let z = sym (ap₂ made n k) ∙ e in cc)
     go (Some name) None n k = absurd (let z = sym (ap₂ made n k) ∙ e in cc)
-    go (Some name) (Some struct) n k = ap list_typed k ∙ ap (λ (u : Slot). list_named u.struct) (same_Some (given name struct) t (sym (ap₂ made n k) ∙ e))
+    go (Some name) (Some struct) n k = ap list_of_raw_struct k ∙ ap (λ (u : Slot). list_of_struct u.struct) (same_Some (given name struct) t (sym (ap₂ made n k) ∙ e))
 
-pub typed_complete : (raw : List RawSlot) (all : List Slot) → complete_all raw ≡ Some all → lists_typed raw ≡ lists_named all
-typed_complete [] all h = ap lists_named (same_Some [] all h)
+pub typed_complete : (raw : List RawSlot) (all : List Slot) → complete_all raw ≡ Some all → lists_of_raw_slots raw ≡ lists_of_slots all
+typed_complete [] all h = ap lists_of_slots (same_Some [] all h)
 typed_complete (x ∷ xs) all h =
     let p = complete_parts x xs all h in
-    ap₂ (λ a b. a ++ b) (typed_first x p.first p.is_first) (typed_complete xs p.others p.are_others) ∙ ap lists_named (sym p.all_are)
+    ap₂ (λ a b. a ++ b) (typed_first x p.first p.is_first) (typed_complete xs p.others p.are_others) ∙ ap lists_of_slots (sym p.all_are)
 
 -- of the pairs of one number more
 pub named_more : (ps : List Pair) (numbers : List ℕ) (i : ℕ) → i < length numbers
-    → lists_named (slots_at ps (take i numbers)) ++ lists_named (slice_index_or ps (slice_index_or numbers i 0) no_pair).content.slots ≡ lists_named (slots_at ps (take (i + 1) numbers))
+    → lists_of_slots (slots_at ps (take i numbers)) ++ lists_of_slots (slice_index_or ps (slice_index_or numbers i 0) no_pair).content.slots ≡ lists_of_slots (slots_at ps (take (i + 1) numbers))
 named_more ps numbers i low =
     let n = slice_index_or numbers i 0 in
-    ap (λ z. lists_named (slots_at ps (take i numbers)) ++ lists_named z) (sym (append-nil (slice_index_or ps n no_pair).content.slots))
-    ∙ sym (flat_map-append (λ (s : Slot). list_named s.struct) (slots_at ps (take i numbers)) (slots_at ps (n ∷ [])))
-    ∙ ap lists_named (sym (flat_map-append (λ k. (slice_index_or ps k no_pair).content.slots) (take i numbers) (n ∷ [])))
-    ∙ ap (λ z. lists_named (slots_at ps z)) (sym (rw add-one (take-suc numbers i 0 low)))
+    ap (λ z. lists_of_slots (slots_at ps (take i numbers)) ++ lists_of_slots z) (sym (append-nil (slice_index_or ps n no_pair).content.slots))
+    ∙ sym (flat_map-append (λ (s : Slot). list_of_struct s.struct) (slots_at ps (take i numbers)) (slots_at ps (n ∷ [])))
+    ∙ ap lists_of_slots (sym (flat_map-append (λ k. (slice_index_or ps k no_pair).content.slots) (take i numbers) (n ∷ [])))
+    ∙ ap (λ z. lists_of_slots (slots_at ps z)) (sym (rw add-one (take-suc numbers i 0 low)))
 
 -- ---- their blocks
 
-pub blocks_named : (t : Kept) (slots : List Slot) → blocks_in_lists t (lists_named slots) ≡ files_of t.disk slots
+pub blocks_named : (t : Kept) (slots : List Slot) → blocks_in_lists t (lists_of_slots slots) ≡ files_of t.disk slots
 blocks_named t [] = refl
 blocks_named t (s ∷ slots) = go s.struct (blocks_named t slots)
   where
-    go : (x : Struct) → blocks_in_lists t (lists_named slots) ≡ files_of t.disk slots → blocks_in_lists t (list_named x ++ lists_named slots) ≡ file_blocks t.disk x ++ files_of t.disk slots
+    go : (x : Struct) → blocks_in_lists t (lists_of_slots slots) ≡ files_of t.disk slots → blocks_in_lists t (list_of_struct x ++ lists_of_slots slots) ≡ file_blocks t.disk x ++ files_of t.disk slots
     go (Inline bytes) rest = rest
     go (Branch to) rest = rest
     go (Ctz head size) rest = ap (λ z. file_blocks t.disk (Ctz head size) ++ z) rest
 
-pub stand_named : (t : Kept) (slots : List Slot) → Each (λ (s : Slot). IsListIfCtz t.disk s.struct) slots → AllByRecursion (λ (list : Stored). IsBase t.disk.blocks t.disk.block_size list.head list.size) (lists_named slots)
+pub stand_named : (t : Kept) (slots : List Slot) → Each (λ (s : Slot). IsListIfCtz t.disk s.struct) slots → AllByRecursion (λ (list : Stored). IsBase t.disk.blocks t.disk.block_size list.head list.size) (lists_of_slots slots)
 stand_named t [] h = tt
-stand_named t (s ∷ slots) h = each_append (λ (list : Stored). IsBase t.disk.blocks t.disk.block_size list.head list.size) (list_named s.struct) (lists_named slots) (go s.struct h.0) (stand_named t slots h.1)
+stand_named t (s ∷ slots) h = each_append (λ (list : Stored). IsBase t.disk.blocks t.disk.block_size list.head list.size) (list_of_struct s.struct) (lists_of_slots slots) (go s.struct h.0) (stand_named t slots h.1)
   where
-    go : (x : Struct) → IsListIfCtz t.disk x → AllByRecursion (λ (list : Stored). IsBase t.disk.blocks t.disk.block_size list.head list.size) (list_named x)
+    go : (x : Struct) → IsListIfCtz t.disk x → AllByRecursion (λ (list : Stored). IsBase t.disk.blocks t.disk.block_size list.head list.size) (list_of_struct x)
     go (Inline bytes) k = tt
     go (Branch to) k = tt
     go (Ctz head size) k = (inr k, tt)
@@ -99,7 +99,7 @@ module _ (old : Kept) (numbers : List ℕ) (new : Kept) (ok : IsAccepted old.dis
   same : SameFiles old.disk new.disk (slots_at old.pairs numbers)
   same = recursion_from_All (λ (s : Slot). HasSameFile old.disk new.disk s.struct) slots r.stand
 
-  blocks_are : blocks_in_lists new (lists_named (slots_at old.pairs numbers)) ≡ list_blocks_at old numbers
+  blocks_are : blocks_in_lists new (lists_of_slots (slots_at old.pairs numbers)) ≡ list_blocks_at old numbers
   blocks_are = blocks_named new slots ∙ slots_files old.disk new.disk slots geometry same
 
   stood : Each (λ (s : Slot). IsListIfCtz old.disk s.struct) (slots_at old.pairs numbers)
@@ -110,14 +110,14 @@ module _ (old : Kept) (numbers : List ℕ) (new : Kept) (ok : IsAccepted old.dis
   stand = each_both (λ (s : Slot). HasSameFile old.disk new.disk s.struct) (λ (s : Slot). IsListIfCtz old.disk s.struct) (λ (s : Slot). IsListIfCtz new.disk s.struct)
       (λ s h k. is_list_same old.disk new.disk s.struct geometry h k) slots same stood
 
-  can_free : CanFreeLists new (lists_named (slots_at old.pairs numbers))
+  can_free : CanFreeLists new (lists_of_slots (slots_at old.pairs numbers))
   can_free = record {
     ready = subst (λ z. IsReadyBut new z []) (sym blocks_are) r.ready;
     once = λ b. let e = ap (count b) blocks_are in let o = r.once b in omega arith;
     stand = stand_named new slots stand;
   }
 
-  pub can_free_lists : (lists : List Stored) → lists ≡ lists_named (slots_at old.pairs numbers) → CanFreeLists new lists
+  pub can_free_lists : (lists : List Stored) → lists ≡ lists_of_slots (slots_at old.pairs numbers) → CanFreeLists new lists
   can_free_lists lists are = subst (CanFreeLists new) (sym are) can_free
 
 -- ---- which are left

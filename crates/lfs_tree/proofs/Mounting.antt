@@ -15,14 +15,14 @@ use Rattle.lfs_model.specs.Profile.{IsWritable}
 use Rattle.lfs_model.specs.Shown.{used_blocks}
 use Rattle.lfs_model.proofs.BlockSets.{in_flight_count-AreInFlight}
 use Rattle.lfs_model.proofs.Histories.{OnlyReads-trans, reads-since}
-use Rattle.lfs_mount.specs.Accepted.{IsMounted}
+use Rattle.lfs_mount.specs.Accepted.{IsMountedThread}
 use Rattle.lfs_mount.specs.Either.{GivesDeviceBack}
 use Rattle.lfs_model.specs.declared.order.NameOrder.{NameOrder}
 use Rattle.lfs_thread.specs.Device.{GivesBack}
 use Rattle.lfs_thread.specs.Kept.{Kept, State, disk_on}
 use Rattle.lfs_thread.specs.Steps.{IsOnlyRead}
-use Rattle.lfs_tree.specs.Formatting.{IsFormatted, ShowsEmptyRoot}
-use Rattle.lfs_tree.specs.Held.{IsRooted, tree_state_of, seen_thread}
+use Rattle.lfs_tree.specs.Formats.{IsFormatted, ShowsEmptyRoot}
+use Rattle.lfs_tree.specs.RootedThreads.{IsRooted, tree_state_of, tree_state_of_thread}
 use Rattle.lfs_lookup.specs.Reading.{IsReading}
 use Rattle.lfs_tree.specs.TreeState.{IsMountedTree, IsSound}
 use Rattle.lfs_lookup.proofs.Reading.{HasRead, same_error}
@@ -42,7 +42,7 @@ none_twice : IsDistinct nat_eq []
 unfolding IsDistinct
 none_twice = tt
 
-module _ (disk : Disk) (history : List Event) (a b : State) (root : ℕ) (writable : Bool) (m : IsMounted disk history a) (r : HasRead a b)
+module _ (disk : Disk) (history : List Event) (a b : State) (root : ℕ) (writable : Bool) (m : IsMountedThread disk history a) (r : HasRead a b)
     (is : root ≡ superblocks_before a.kept.pairs) (fits : IsTrue writable ↔ IsWritable a.kept.disk a.kept.pairs) where
   sound_now : IsSound (tree_state_of b.kept writable false)
   sound_now = sound_read a.kept b.kept writable false false r.only (record {
@@ -56,7 +56,7 @@ module _ (disk : Disk) (history : List Event) (a b : State) (root : ℕ) (writab
   pub mounted_rooted : IsRooted b root writable
   mounted_rooted = record { works = r.works; sound = sound_now; root_is = is ∙ ap superblocks_before (sym r.only.pairs) }
 
-  pub mounted_tree : reads history < reads a.kept.history → IsMountedTree disk history (seen_thread b writable)
+  pub mounted_tree : reads history < reads a.kept.history → IsMountedTree disk history (tree_state_of_thread b writable)
   mounted_tree called = record {
     works = r.works;
     disk_is = r.only.disk ∙ m.disk_is;
@@ -69,7 +69,7 @@ module _ (disk : Disk) (history : List Event) (a b : State) (root : ℕ) (writab
 
 -- the device comes back with the error of a read
 pub read_back : {D X : Type 0} (g : Ghosts D) (old back : D) (a b : State) (r : Result X Error) (e : Error)
-    → IsMounted (disk_on g old) (g.history old) a → r ≡ Err e → IsReading a b r → disk_on g back ≡ b.kept.disk → g.history back ≡ b.kept.history → GivesBack g old back e
+    → IsMountedThread (disk_on g old) (g.history old) a → r ≡ Err e → IsReading a b r → disk_on g back ≡ b.kept.disk → g.history back ≡ b.kept.history → GivesBack g old back e
 read_back {X = X} g old back a b r e m is read same later = record {
   disk = same ∙ read.only.disk ∙ m.disk_is;
   reads = subst (λ (h : List Event). OnlyReads (g.blocks old) (g.history old) h) (sym later) (OnlyReads-trans m.reads read.only.reads (ap (λ (d : Disk). d.blocks) m.disk_is));
@@ -79,7 +79,7 @@ read_back {X = X} g old back a b r e m is read same later = record {
 
 -- the same of a device whose names are in an order that was found
 pub given_back_either : {D X : Type 0} (g : Ghosts D) (old back : D) (order : NameOrder) (a b : State) (r : Result X Error) (e : Error)
-    → IsMounted (ordered a.kept.disk.order (disk_on g old)) (g.history old) a → r ≡ Err e → IsReading a b r → ordered order (disk_on g back) ≡ b.kept.disk → g.history back ≡ b.kept.history
+    → IsMountedThread (ordered a.kept.disk.order (disk_on g old)) (g.history old) a → r ≡ Err e → IsReading a b r → ordered order (disk_on g back) ≡ b.kept.disk → g.history back ≡ b.kept.history
     → GivesDeviceBack g old back e
 given_back_either {X = X} g old back order a b r e m is read same later = record {
   disk = λ other. ap (ordered other) (same ∙ read.only.disk ∙ m.disk_is);

@@ -4,8 +4,8 @@ use Rattle.std.specs.Prelude.{OnErr, is_err}
 use Rattle.lfs_device.specs.declared.error.Error.{Error}
 use Rattle.lfs_model.specs.Tree.{Tree}
 use Rattle.lfs_thread.specs.Kept.{Kept, State}
-use Rattle.lfs_tree.specs.Carrying.{IsChange}
-use Rattle.lfs_tree.specs.Held.{IsHeld, IsRooted}
+use Rattle.lfs_tree.specs.TreeChanges.{IsChange}
+use Rattle.lfs_tree.specs.RootedThreads.{IsRootedUnlessFailed, IsRooted}
 
 module _ {X : Type 0} (t b new : State) (Done : Kept → Type 0) (after : Tree) (r : Result X Error) (w : IsChange t Done after r b) (f : new ≡ record b { failed = is_err r || b.failed }) where
   pub noted : IsChange t Done after r new
@@ -22,9 +22,9 @@ module _ {X : Type 0} (t b new : State) (Done : Kept → Type 0) (after : Tree) 
       go (Ok x) = tt
       go (Err e) = refl
 
-  pub noted_held : (root : ℕ) → IsRooted t root true → IsHeld new root true
-  noted_held root rooted = subst (λ (n : State). IsHeld n root true) (sym f) (go r w)
+  pub noted_held : (root : ℕ) → IsRooted t root true → IsRootedUnlessFailed new root true
+  noted_held root rooted = subst (λ (n : State). IsRootedUnlessFailed n root true) (sym f) (go r w)
     where
-      go : (r : Result X Error) → IsChange t Done after r b → IsHeld (record b { failed = is_err r || b.failed }) root true
+      go : (r : Result X Error) → IsChange t Done after r b → IsRootedUnlessFailed (record b { failed = is_err r || b.failed }) root true
       go (Err e) w works = absurd (cc)
       go (Ok x) w works = record { works = w.works; sound = w.stands.sound; root_is = rooted.root_is ∙ sym w.stands.root }

@@ -24,12 +24,12 @@ use Rattle.lfs_model.specs.Shown.{all_slots, file_blocks, tree_in, used_blocks}
 use Rattle.lfs_model.proofs.BlockCounts.{few_flying, in_flight-freed}
 use Rattle.lfs_model.proofs.BlockSets.{Contains-count}
 use Rattle.lfs_model.proofs.Counts.{Each, count_append, each_from_counted, each_pieces}
-use Rattle.lfs_writer.specs.Standing.{held_in}
+use Rattle.lfs_writer.specs.ThreadContents.{list_blocks_of}
 use Rattle.lfs_thread.specs.Beside.{IsDividedAs}
 use Rattle.lfs_thread.specs.Kept.{Kept}
 use Rattle.lfs_lookup.specs.FileBytes.{bytes_shown}
 use Rattle.lfs_tree.specs.OpenContents.{IsOpenedForm, IsOverFile, blocks_named, bytes_held, list_at}
-use Rattle.lfs_tree.specs.Opening.{CanBeOpened, IsOpened, opened_form}
+use Rattle.lfs_tree.specs.Openings.{CanBeOpened, IsOpened, opened_form}
 use Rattle.lfs_lookup.specs.declared.entry.FileStorage.{FileStorage}
 use Rattle.lfs_lookup.specs.declared.entry.FileStorage.TheVariants as entry
 use Rattle.lfs_lookup.specs.declared.search.Spot.{Spot}
@@ -59,7 +59,7 @@ idle_is t none size = record { count = size; none = none_flying t.map none }
 
 -- ---- in memory
 
-owns_nothing : (t : Kept) (c : Contents) (size : ℕ) (own : List ℕ) → form_of c ≡ form.InMemory size → (b : ℕ) → Contains (held_in t c) b → Contains own b
+owns_nothing : (t : Kept) (c : Contents) (size : ℕ) (own : List ℕ) → form_of c ≡ form.InMemory size → (b : ℕ) → Contains (list_blocks_of t c) b → Contains own b
 owns_nothing t (InMemory list) size own e b has = absurd (omega (arith, has.1))
 owns_nothing t (Finished stored) size own e b has = absurd (cc)
 owns_nothing t (InHand hand) size own e b has = absurd (cc)

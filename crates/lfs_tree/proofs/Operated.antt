@@ -11,17 +11,17 @@ use Rattle.lfs_model.specs.Refusals.{as_path}
 use Rattle.lfs_model.specs.Run.{is_recover, renames_to_itself}
 use Rattle.lfs_model.specs.Shown.{tree_in}
 use Rattle.lfs_model.specs.Tree.{DirectoryNode, Path, Tree}
-use Rattle.lfs_model.specs.TreeEdits.{added, removed, renamed, same_path}
+use Rattle.lfs_model.specs.TreeEdits.{tree_with_node, tree_without, renamed, same_path}
 use Rattle.lfs_operations.specs.Changing.{has_failed}
 use Rattle.lfs_operations.specs.Ready.{KeepsRoot}
 use Rattle.lfs_thread.specs.Kept.{Kept, State}
 use Rattle.lfs_thread.specs.Steps.{Writes}
 use Rattle.lfs_tree.specs.Calls as call
-use Rattle.lfs_tree.specs.Calls.{Does, left_by}
-use Rattle.lfs_tree.specs.Carrying.{AppliesOn, HasCalled, IsAtRest, IsChange, StandsAs, SurvivesTo, ReportsError}
-use Rattle.lfs_tree.specs.CarryingSlots.{with_attributes_changed}
-use Rattle.lfs_tree.specs.Held.{tree_state_of}
-use Rattle.lfs_tree.specs.TreeState.{around_of}
+use Rattle.lfs_tree.specs.Calls.{DoesOperation, tree_left_by}
+use Rattle.lfs_tree.specs.TreeChanges.{AppliesOn, HasFurtherCalls, IsAtRest, IsChange, HasSoundTree, SurvivesTo, ReportsError}
+use Rattle.lfs_tree.specs.SlotChanges.{with_attributes_changed}
+use Rattle.lfs_tree.specs.RootedThreads.{tree_state_of}
+use Rattle.lfs_tree.specs.TreeState.{surroundings_of}
 use Rattle.lfs_lookup.specs.Reading.{IsReading}
 use Rattle.lfs_lookup.proofs.Reading.{same_error}
 use Rattle.lfs_tree.proofs.Carried.{with_history}
@@ -30,69 +30,69 @@ use Rattle.lfs_tree.proofs.ReportedFaults.{ReportsFaultsSince, called_by_reading
 
 -- ---- the operations that a call does
 
-pub does_mkdir : (P : Operation → Type 0) (path : Path) → ((given : List ℕ) → as_path given ≡ path → P (ops.Mkdir given)) → (op : Operation) → Does (call.Mkdir path) op → P op
+pub does_mkdir : (P : Operation → Type 0) (path : Path) → ((given : List ℕ) → as_path given ≡ path → P (ops.Mkdir given)) → (op : Operation) → DoesOperation (call.Mkdir path) op → P op
 does_mkdir P path h op d = subst P (sym d.1.0) (h d.0 d.1.1)
 
-pub does_create : (P : Operation → Type 0) (path : Path) → ((given : List ℕ) (flags : Flags) → as_path given ≡ path → P (ops.Open given flags)) → (op : Operation) → Does (call.Create path) op → P op
+pub does_create : (P : Operation → Type 0) (path : Path) → ((given : List ℕ) (flags : Flags) → as_path given ≡ path → P (ops.Open given flags)) → (op : Operation) → DoesOperation (call.Create path) op → P op
 does_create P path h op d = subst P (sym d.1.1.0) (h d.0 d.1.0 d.1.1.1)
 
-pub does_remove : (P : Operation → Type 0) (path : Path) → ((given : List ℕ) → as_path given ≡ path → P (ops.Remove given)) → (op : Operation) → Does (call.Remove path) op → P op
+pub does_remove : (P : Operation → Type 0) (path : Path) → ((given : List ℕ) → as_path given ≡ path → P (ops.Remove given)) → (op : Operation) → DoesOperation (call.Remove path) op → P op
 does_remove P path h op d = subst P (sym d.1.0) (h d.0 d.1.1)
 
-pub does_rename : (P : Operation → Type 0) (from to : Path) → ((given to_given : List ℕ) → as_path given ≡ from → as_path to_given ≡ to → P (ops.Rename given to_given)) → (op : Operation) → Does (call.Rename from to) op → P op
+pub does_rename : (P : Operation → Type 0) (from to : Path) → ((given to_given : List ℕ) → as_path given ≡ from → as_path to_given ≡ to → P (ops.Rename given to_given)) → (op : Operation) → DoesOperation (call.Rename from to) op → P op
 does_rename P from to h op d = subst P (sym d.1.1.0) (h d.0 d.1.0 d.1.1.1.0 d.1.1.1.1)
 
-pub does_set : (P : Operation → Type 0) (path : Path) (kind : ℕ) (bytes : List ℕ) → ((given : List ℕ) → as_path given ≡ path → P (ops.SetAttr given kind bytes)) → (op : Operation) → Does (call.SetAttr path kind bytes) op → P op
+pub does_set : (P : Operation → Type 0) (path : Path) (kind : ℕ) (bytes : List ℕ) → ((given : List ℕ) → as_path given ≡ path → P (ops.SetAttr given kind bytes)) → (op : Operation) → DoesOperation (call.SetAttr path kind bytes) op → P op
 does_set P path kind bytes h op d = subst P (sym d.1.0) (h d.0 d.1.1)
 
-pub does_clear : (P : Operation → Type 0) (path : Path) (kind : ℕ) → ((given : List ℕ) → as_path given ≡ path → P (ops.RemoveAttr given kind)) → (op : Operation) → Does (call.RemoveAttr path kind) op → P op
+pub does_clear : (P : Operation → Type 0) (path : Path) (kind : ℕ) → ((given : List ℕ) → as_path given ≡ path → P (ops.RemoveAttr given kind)) → (op : Operation) → DoesOperation (call.RemoveAttr path kind) op → P op
 does_clear P path kind h op d = subst P (sym d.1.0) (h d.0 d.1.1)
 
 -- what is carried out behind a recovery: a change of its own
 abbrev pub IsPlain : Operation → Type 0
 IsPlain op = (renames_to_itself op ≡ false) × (is_recover op ≡ false)
 
-pub plain_mkdir : (path : Path) (op : Operation) → Does (call.Mkdir path) op → IsPlain op
+pub plain_mkdir : (path : Path) (op : Operation) → DoesOperation (call.Mkdir path) op → IsPlain op
 plain_mkdir path = does_mkdir IsPlain path (λ given e. (refl, refl))
 
-pub plain_create : (path : Path) (op : Operation) → Does (call.Create path) op → IsPlain op
+pub plain_create : (path : Path) (op : Operation) → DoesOperation (call.Create path) op → IsPlain op
 plain_create path = does_create IsPlain path (λ given flags e. (refl, refl))
 
-pub plain_remove : (path : Path) (op : Operation) → Does (call.Remove path) op → IsPlain op
+pub plain_remove : (path : Path) (op : Operation) → DoesOperation (call.Remove path) op → IsPlain op
 plain_remove path = does_remove IsPlain path (λ given e. (refl, refl))
 
-pub plain_rename : (from to : Path) → same_path from to ≡ false → (op : Operation) → Does (call.Rename from to) op → IsPlain op
+pub plain_rename : (from to : Path) → same_path from to ≡ false → (op : Operation) → DoesOperation (call.Rename from to) op → IsPlain op
 plain_rename from to apart = does_rename IsPlain from to (λ given to_given e f. (ap₂ same_path e f ∙ apart, refl))
 
-pub plain_set : (path : Path) (kind : ℕ) (bytes : List ℕ) (op : Operation) → Does (call.SetAttr path kind bytes) op → IsPlain op
+pub plain_set : (path : Path) (kind : ℕ) (bytes : List ℕ) (op : Operation) → DoesOperation (call.SetAttr path kind bytes) op → IsPlain op
 plain_set path kind bytes = does_set IsPlain path kind bytes (λ given e. (refl, refl))
 
-pub plain_clear : (path : Path) (kind : ℕ) (op : Operation) → Does (call.RemoveAttr path kind) op → IsPlain op
+pub plain_clear : (path : Path) (kind : ℕ) (op : Operation) → DoesOperation (call.RemoveAttr path kind) op → IsPlain op
 plain_clear path kind = does_clear IsPlain path kind (λ given e. (refl, refl))
 
 -- ---- what one of them leaves
 
 module _ (a c : Kept) where
-  stands : (tree : Tree) (op : Operation) → AppliesOn a op c → KeepsRoot a c → tree_in c.disk c.pairs ≡ tree → StandsAs a tree c
+  stands : (tree : Tree) (op : Operation) → AppliesOn a op c → KeepsRoot a c → tree_in c.disk c.pairs ≡ tree → HasSoundTree a tree c
   stands tree op k root shows = record { sound = k.sound; fits = k.fits; root = root; shows = shows; no_fault = k.no_fault }
 
-  pub mkdir_stands : (path : Path) (given : List ℕ) → as_path given ≡ path → AppliesOn a (ops.Mkdir given) c → KeepsRoot a c → StandsAs a (left_by (call.Mkdir path) (tree_in a.disk a.pairs)) c
-  mkdir_stands path given e k root = stands _ (ops.Mkdir given) k root (k.shows (around_of (tree_state_of a true false)) [] ∙ ap (λ p. added p (DirectoryNode [] []) (tree_in a.disk a.pairs)) e)
+  pub mkdir_stands : (path : Path) (given : List ℕ) → as_path given ≡ path → AppliesOn a (ops.Mkdir given) c → KeepsRoot a c → HasSoundTree a (tree_left_by (call.Mkdir path) (tree_in a.disk a.pairs)) c
+  mkdir_stands path given e k root = stands _ (ops.Mkdir given) k root (k.shows (surroundings_of (tree_state_of a true false)) [] ∙ ap (λ p. tree_with_node p (DirectoryNode [] []) (tree_in a.disk a.pairs)) e)
 
-  pub create_stands : (path : Path) (given : List ℕ) (flags : Flags) → is_some (tree_in a.disk a.pairs path) ≡ false → as_path given ≡ path → AppliesOn a (ops.Open given flags) c → KeepsRoot a c → StandsAs a (left_by (call.Create path) (tree_in a.disk a.pairs)) c
-  create_stands path given flags nothing e k root = stands _ (ops.Open given flags) k root (k.shows (around_of (tree_state_of a true false)) [] ∙ created_shows (tree_in a.disk a.pairs) path (as_path given) e nothing)
+  pub create_stands : (path : Path) (given : List ℕ) (flags : Flags) → is_some (tree_in a.disk a.pairs path) ≡ false → as_path given ≡ path → AppliesOn a (ops.Open given flags) c → KeepsRoot a c → HasSoundTree a (tree_left_by (call.Create path) (tree_in a.disk a.pairs)) c
+  create_stands path given flags nothing e k root = stands _ (ops.Open given flags) k root (k.shows (surroundings_of (tree_state_of a true false)) [] ∙ created_shows (tree_in a.disk a.pairs) path (as_path given) e nothing)
 
-  pub remove_stands : (path : Path) (given : List ℕ) → as_path given ≡ path → AppliesOn a (ops.Remove given) c → KeepsRoot a c → StandsAs a (left_by (call.Remove path) (tree_in a.disk a.pairs)) c
-  remove_stands path given e k root = stands _ (ops.Remove given) k root (k.shows (around_of (tree_state_of a true false)) [] ∙ ap (λ p. removed p (tree_in a.disk a.pairs)) e)
+  pub remove_stands : (path : Path) (given : List ℕ) → as_path given ≡ path → AppliesOn a (ops.Remove given) c → KeepsRoot a c → HasSoundTree a (tree_left_by (call.Remove path) (tree_in a.disk a.pairs)) c
+  remove_stands path given e k root = stands _ (ops.Remove given) k root (k.shows (surroundings_of (tree_state_of a true false)) [] ∙ ap (λ p. tree_without p (tree_in a.disk a.pairs)) e)
 
-  pub rename_stands : (from to : Path) (given to_given : List ℕ) → as_path given ≡ from → as_path to_given ≡ to → AppliesOn a (ops.Rename given to_given) c → KeepsRoot a c → StandsAs a (left_by (call.Rename from to) (tree_in a.disk a.pairs)) c
-  rename_stands from to given to_given e f k root = stands _ (ops.Rename given to_given) k root (k.shows (around_of (tree_state_of a true false)) [] ∙ ap₂ (λ p q. renamed p q (tree_in a.disk a.pairs)) e f)
+  pub rename_stands : (from to : Path) (given to_given : List ℕ) → as_path given ≡ from → as_path to_given ≡ to → AppliesOn a (ops.Rename given to_given) c → KeepsRoot a c → HasSoundTree a (tree_left_by (call.Rename from to) (tree_in a.disk a.pairs)) c
+  rename_stands from to given to_given e f k root = stands _ (ops.Rename given to_given) k root (k.shows (surroundings_of (tree_state_of a true false)) [] ∙ ap₂ (λ p q. renamed p q (tree_in a.disk a.pairs)) e f)
 
-  pub set_stands : (path : Path) (kind : ℕ) (bytes given : List ℕ) → as_path given ≡ path → AppliesOn a (ops.SetAttr given kind bytes) c → KeepsRoot a c → StandsAs a (left_by (call.SetAttr path kind bytes) (tree_in a.disk a.pairs)) c
-  set_stands path kind bytes given e k root = stands _ (ops.SetAttr given kind bytes) k root (k.shows (around_of (tree_state_of a true false)) [] ∙ ap (λ p. with_attributes_changed p (put_attribute kind bytes) (tree_in a.disk a.pairs)) e)
+  pub set_stands : (path : Path) (kind : ℕ) (bytes given : List ℕ) → as_path given ≡ path → AppliesOn a (ops.SetAttr given kind bytes) c → KeepsRoot a c → HasSoundTree a (tree_left_by (call.SetAttr path kind bytes) (tree_in a.disk a.pairs)) c
+  set_stands path kind bytes given e k root = stands _ (ops.SetAttr given kind bytes) k root (k.shows (surroundings_of (tree_state_of a true false)) [] ∙ ap (λ p. with_attributes_changed p (put_attribute kind bytes) (tree_in a.disk a.pairs)) e)
 
-  pub clear_stands : (path : Path) (kind : ℕ) (given : List ℕ) → as_path given ≡ path → AppliesOn a (ops.RemoveAttr given kind) c → KeepsRoot a c → StandsAs a (left_by (call.RemoveAttr path kind) (tree_in a.disk a.pairs)) c
-  clear_stands path kind given e k root = stands _ (ops.RemoveAttr given kind) k root (k.shows (around_of (tree_state_of a true false)) [] ∙ ap (λ p. with_attributes_changed p (without_attribute kind) (tree_in a.disk a.pairs)) e)
+  pub clear_stands : (path : Path) (kind : ℕ) (given : List ℕ) → as_path given ≡ path → AppliesOn a (ops.RemoveAttr given kind) c → KeepsRoot a c → HasSoundTree a (tree_left_by (call.RemoveAttr path kind) (tree_in a.disk a.pairs)) c
+  clear_stands path kind given e k root = stands _ (ops.RemoveAttr given kind) k root (k.shows (surroundings_of (tree_state_of a true false)) [] ∙ ap (λ p. with_attributes_changed p (without_attribute kind) (tree_in a.disk a.pairs)) e)
 
 -- ---- what the steps told
 
@@ -114,7 +114,7 @@ errors_reported {X} a c h (Err e) same t = (let r : Result X Error = Err e in re
 
 -- a change, behind calls that only read
 pub changed : {X : Type 0} (t new : State) (Done : Kept → Type 0) (after : Tree) (h : List Event) (bs : List ℕ) (r : Result X Error) → faults h ≡ faults t.kept.history → OnlyReads t.kept.disk.blocks t.kept.history h → Writes bs (with_history t.kept h) new.kept
-    → ReportsFaultsSince h new.kept.history r → OnOk r (new.failed ≡ false) → OnOk r (Done new.kept × StandsAs t.kept after new.kept) → SurvivesTo t.kept new.kept after → IsChange t Done after r new
+    → ReportsFaultsSince h new.kept.history r → OnOk r (new.failed ≡ false) → OnOk r (Done new.kept × HasSoundTree t.kept after new.kept) → SurvivesTo t.kept new.kept after → IsChange t Done after r new
 changed t new Done after h bs r same reads w reported works both survives = record {
   done = first r both;
   works = works;
@@ -124,11 +124,11 @@ changed t new Done after h bs r same reads w reported works both survives = reco
   survives = survives;
 }
   where
-    first : {X : Type 0} (r : Result X Error) → OnOk r (Done new.kept × StandsAs t.kept after new.kept) → OnOk r (Done new.kept)
+    first : {X : Type 0} (r : Result X Error) → OnOk r (Done new.kept × HasSoundTree t.kept after new.kept) → OnOk r (Done new.kept)
     first (Ok x) k = k.0
     first (Err e) k = tt
 
-    second : {X : Type 0} (r : Result X Error) → OnOk r (Done new.kept × StandsAs t.kept after new.kept) → OnOk r (StandsAs t.kept after new.kept)
+    second : {X : Type 0} (r : Result X Error) → OnOk r (Done new.kept × HasSoundTree t.kept after new.kept) → OnOk r (HasSoundTree t.kept after new.kept)
     second (Ok x) k = k.1
     second (Err e) k = tt
 
@@ -148,5 +148,5 @@ only_read_change {X} t root rests mid Done after r e is k =
     }
 
 -- one that failed
-pub failed_change : {X : Type 0} (t new : State) (Done : Kept → Type 0) (after : Tree) (r : Result X Error) (e : Error) → r ≡ Err e → HasCalled t.kept new.kept → ReportsError t.kept new.kept e → SurvivesTo t.kept new.kept after → IsChange t Done after r new
+pub failed_change : {X : Type 0} (t new : State) (Done : Kept → Type 0) (after : Tree) (r : Result X Error) (e : Error) → r ≡ Err e → HasFurtherCalls t.kept new.kept → ReportsError t.kept new.kept e → SurvivesTo t.kept new.kept after → IsChange t Done after r new
 failed_change {X} t new Done after r e is called reported survives = subst (λ (z : Result X Error). IsChange t Done after z new) (sym is) (record { done = tt; works = tt; stands = tt; called = called; errors = reported; survives = survives })

@@ -2,7 +2,7 @@
 use Rattle.std.proofs.Common.{ℕ, ◌≡◌, ◌≤◌, ◌+◌, ◌/◌, ◌∙◌, ne_eqb, true, List, [], ◌∷◌, ◌++◌, length, None, Result, Ok, Err, refl, sym, ap, subst, arith}
 use Rattle.std.proofs.Math.Nat.{min-le_right}
 use Rattle.std.specs.Prelude.{OnOk}
-use Rattle.lfs_ctz.specs.Growing.{Growing, IsHeld}
+use Rattle.lfs_ctz.specs.Growing.{Growing, IsInBufferAlone}
 use Rattle.lfs_device.specs.declared.error.Error.{Error}
 use Rattle.lfs_model.specs.TreeEdits.{is_file}
 use Rattle.lfs_model.specs.Changes.{PutStruct}
@@ -19,7 +19,7 @@ use Rattle.lfs_model.specs.Shown.{file_blocks, tree_in}
 use Rattle.lfs_model.specs.WrittenContent.{pair_bytes}
 use Rattle.lfs_model.proofs.Counts.{count}
 use Rattle.lfs_model.proofs.WrittenAnew.{kind_of-tag_with, len_of-tag_with}
-use Rattle.lfs_writer.specs.Standing.{StandsIn, ReportsWork}
+use Rattle.lfs_writer.specs.ThreadContents.{AreOnDiskOf, ReportsWork}
 use Rattle.lfs_operations.specs.Changing.{ReportsPut}
 use Rattle.lfs_operations.specs.Editing.{slot_at}
 use Rattle.lfs_operations.specs.Making.{HasRoomFor}
@@ -28,7 +28,7 @@ use Rattle.lfs_thread.specs.Kept.{Kept, State}
 use Rattle.lfs_lookup.specs.Entry.{ShowsContents}
 use Rattle.lfs_tree.specs.OpenContents.{bytes_held}
 use Rattle.lfs_lookup.specs.Paths.{LeadsTo}
-use Rattle.lfs_tree.specs.Storing.{CanPutContents, IsFileFor, IsFileIn, IsFinished, is_file_found, list_in_struct, list_named, struct_in}
+use Rattle.lfs_tree.specs.Stores.{CanPutContents, IsFileFor, IsFileIn, IsFinished, is_file_found, list_in_struct, list_named, struct_in}
 use Rattle.lfs_lookup.specs.declared.entry.FileStorage.{FileStorage}
 use Rattle.lfs_lookup.specs.declared.entry.FileStorage.TheVariants as entry
 use Rattle.lfs_lookup.specs.declared.paths.Found.{Found}
@@ -117,8 +117,8 @@ pub list_part : (head size : ℕ) (bytes : List ℕ) → bytes ≡ pair_bytes (h
 list_part head size bytes e = subst (λ b. IsPart 2 (ctz_struct_type, b)) (sym e) (record { of_class = refl; short = omega arith; in_table = refl })
 
 module _ (t : Kept) (spot : Spot) (contents : Contents) (list : Growing) (can : CanPutContents t spot contents) (is : contents ≡ InMemory list) where
-  pub held_there : IsHeld list
-  held_there = (subst (StandsIn t) is can.stands).stands.resting.held
+  pub held_there : IsInBufferAlone list
+  held_there = (subst (AreOnDiskOf t) is can.stands).stands.resting.held
 
   pub held_part : (bytes : List ℕ) → bytes ≡ held_bytes list → IsPart 2 (inline_struct_type, bytes)
   held_part bytes e =

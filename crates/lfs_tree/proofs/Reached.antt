@@ -13,17 +13,17 @@ use Rattle.lfs_model.specs.Slots.{Slot, Struct, Inline, Ctz, Branch, same_pair}
 use Rattle.lfs_model.specs.Thread.{Pair, blocks_of, root_of, superblocks_before}
 use Rattle.lfs_model.specs.Tree.{Entries, Path, branch_of, directory_from, entry_named, root_slot, slot_at}
 use Rattle.lfs_model.specs.View.{IsAccepted}
-use Rattle.lfs_model.specs.Shown.{Leads, entries_in}
+use Rattle.lfs_model.specs.Shown.{PathLeadsTo, entries_in}
 use Rattle.lfs_model.proofs.BlockSets.{slice_get-set_other, slice_get-set_same}
 use Rattle.lfs_model.proofs.Counts.{Each, each_right}
 use Rattle.lfs_model.proofs.OneCommit.{slot_there}
 use Rattle.lfs_model.proofs.Pairs.{pair_back, pair_on}
 use Rattle.lfs_model.proofs.Searches.{same_number}
-use Rattle.lfs_model.proofs.Sites.{Among}
+use Rattle.lfs_model.proofs.Sites.{SomeIn}
 use Rattle.lfs_lookup.specs.Items.{Shape, shape_of}
 use Rattle.lfs_lookup.specs.Listed.{shapes_from}
 use Rattle.lfs_lookup.specs.Paths.{BeginsOnPath}
-use Rattle.lfs_tree.specs.Unreached.{AllBegin, AreReachMarks, HasMarked, IsMarked, IsNamedBy, IsNamedIn, unmarked}
+use Rattle.lfs_tree.specs.Orphans.{AllBegin, AreReachMarks, HasMarked, IsMarked, IsNamedBy, IsNamedIn, unmarked_count}
 use Rattle.lfs_lookup.specs.Walk.{BeginsIfBranch}
 use Rattle.lfs_lookup.proofs.Directories.{begins_with, own_shapes}
 use Rattle.lfs_lookup.proofs.Roots.{root_begins}
@@ -31,11 +31,11 @@ use Rattle.lfs_lookup.proofs.Visits.{leads_to, visit_begins}
 
 -- ---- one mark
 
-fewer_set : (m : List Bool) (n : ℕ) → slice_get m n ≡ Some false → unmarked (set m n true) + 1 ≡ unmarked m
+fewer_set : (m : List Bool) (n : ℕ) → slice_get m n ≡ Some false → unmarked_count (set m n true) + 1 ≡ unmarked_count m
 fewer_set [] n e = absurd (cc)
-fewer_set (b ∷ m) zero e = let f : b ≡ false = same_Some b false e in subst (λ x. unmarked (set (x ∷ m) 0 true) + 1 ≡ unmarked (x ∷ m)) (sym f) (go m)
+fewer_set (b ∷ m) zero e = let f : b ≡ false = same_Some b false e in subst (λ x. unmarked_count (set (x ∷ m) 0 true) + 1 ≡ unmarked_count (x ∷ m)) (sym f) (go m)
   where
-    go : (m : List Bool) → unmarked (set (false ∷ m) 0 true) + 1 ≡ unmarked (false ∷ m)
+    go : (m : List Bool) → unmarked_count (set (false ∷ m) 0 true) + 1 ≡ unmarked_count (false ∷ m)
     go m = omega arith
 fewer_set (b ∷ m) (suc n) e = let k = fewer_set m n e in omega arith
 
@@ -166,7 +166,7 @@ named_there name (x ∷ xs) u e = go (same_name name x.name) e (named_there name
     go true f next = (0, f)
     go false f next = let r = next f in (suc r.0, r.1)
 
-among_at : (P : Struct → Type 0) (xs : List Slot) (k : ℕ) (u : Slot) → slice_get xs k ≡ Some u → P u.struct → Among (λ (s : Shape). P s.struct) (map shape_of xs)
+among_at : (P : Struct → Type 0) (xs : List Slot) (k : ℕ) (u : Slot) → slice_get xs k ≡ Some u → P u.struct → SomeIn (λ (s : Shape). P s.struct) (map shape_of xs)
 among_at P [] k u e h = absurd (cc)
 among_at P (x ∷ xs) zero u e h = let f = same_Some x u e in inl (subst (λ (z : Slot). P z.struct) (sym f) h)
 among_at P (x ∷ xs) (suc k) u e h = inr (among_at P xs k u e h)
@@ -177,7 +177,7 @@ record IsFound (P : Struct → Type 0) (xs : List Slot) : Type 0 where
   there : slice_get xs index ≡ Some slot
   holds : P slot.struct
 
-found_in : (P : Struct → Type 0) (xs : List Slot) → Among (λ (s : Shape). P s.struct) (map shape_of xs) → IsFound P xs
+found_in : (P : Struct → Type 0) (xs : List Slot) → SomeIn (λ (s : Shape). P s.struct) (map shape_of xs) → IsFound P xs
 found_in P [] h = absurd h
 found_in P (x ∷ xs) (inl h) = record { index = 0; slot = x; there = refl; holds = h }
 found_in P (x ∷ xs) (inr h) = let r = found_in P xs h in record { index = suc r.index; slot = r.slot; there = r.there; holds = r.holds }
@@ -188,7 +188,7 @@ each_shape P (x ∷ xs) h = (h 0 x refl, each_shape P xs (λ k u e. h (suc k) u 
 
 module _ (disk : Disk) (ps : List Pair) (ok : IsAccepted disk ps) where
   -- the slot of an entry of a directory on a path
-  led_slot : (path : Path) (a : ℕ × ℕ) (k : ℕ) (u : Slot) → Leads ps path a → slice_get (entries_in ps a) k ≡ Some u → slot_of_path ps (path ++ u.name ∷ []) ≡ Some u
+  led_slot : (path : Path) (a : ℕ × ℕ) (k : ℕ) (u : Slot) → PathLeadsTo ps path a → slice_get (entries_in ps a) k ≡ Some u → slot_of_path ps (path ++ u.name ∷ []) ≡ Some u
   led_slot path a k u leads e = slot_there disk ps path a k u ok leads e
 
   pub all_begin : (n : ℕ) (path : Path) → BeginsOnPath ps path n → AllBegin ps (shapes_from ps (Some n))
@@ -241,10 +241,10 @@ pub record IsMarking (ps : List Pair) (marks : List Bool) (pending : List ℕ) :
   pub rooted : IsMarked marks (superblocks_before ps)
   pub closed : (n : ℕ) → IsMarked marks n → Contains pending n ⊎ ((k : ℕ) → IsNamedIn ps (shapes_from ps (Some n)) k → IsMarked marks k)
 
-none_marked : (len n : ℕ) → IsMarked (replicate len false) n → ⊥
-none_marked zero n e = absurd (cc)
-none_marked (suc len) zero e = absurd (let f : false ≡ true = same_Some false true e in cc)
-none_marked (suc len) (suc n) e = none_marked len n e
+unset_marks : (len n : ℕ) → IsMarked (replicate len false) n → ⊥
+unset_marks zero n e = absurd (cc)
+unset_marks (suc len) zero e = absurd (let f : false ≡ true = same_Some false true e in cc)
+unset_marks (suc len) (suc n) e = unset_marks len n e
 
 pub marking_begun : (disk : Disk) (ps : List Pair) (len root : ℕ) (marks : List Bool) (pending : List ℕ) → IsAccepted disk ps → len ≡ length ps → length (replicate len false) ≡ len → root ≡ superblocks_before ps
     → HasMarked (λ k. k ≡ root) (replicate len false) [] marks pending → IsMarking ps marks pending
@@ -257,7 +257,7 @@ marking_begun disk ps len root marks pending ok e sized is h = record {
 }
   where
     sound : (n : ℕ) → IsMarked (replicate len false) n ⊎ ((n ≡ root) × Contains pending n) → (path : Path) × BeginsOnPath ps path n
-    sound n (inl x) = absurd (none_marked len n x)
+    sound n (inl x) = absurd (unset_marks len n x)
     sound n (inr x) = ([], record { at = root_of ps; leads = refl; begins = subst (λ z. BeginsAt ps (root_of ps) z) (sym (x.0 ∙ is)) (root_begins disk ps ok) })
 
     pend : (n : ℕ) → Contains [] n ⊎ IsMarked marks n → IsMarked marks n
@@ -265,7 +265,7 @@ marking_begun disk ps len root marks pending ok e sized is h = record {
     pend n (inr x) = x
 
     closed : (n : ℕ) → IsMarked (replicate len false) n ⊎ ((n ≡ root) × Contains pending n) → Contains pending n ⊎ ((k : ℕ) → IsNamedIn ps (shapes_from ps (Some n)) k → IsMarked marks k)
-    closed n (inl x) = absurd (none_marked len n x)
+    closed n (inl x) = absurd (unset_marks len n x)
     closed n (inr x) = inl x.1
 
 -- the next directory to be visited

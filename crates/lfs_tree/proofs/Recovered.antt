@@ -5,14 +5,14 @@ use Rattle.std.proofs.lemmas.List.Elements.{All-from_recursion}
 use Rattle.std.proofs.lemmas.Option.{same_Some}
 use Rattle.lfs_device.specs.declared.error.Error.{Error}
 use Rattle.lfs_device.specs.declared.error.Error.TheVariants.{Io, NoMemory}
-use Rattle.lfs_writer.specs.Settling.{IsReadBesideMap}
-use Rattle.lfs_writer.specs.Standing.{ReportsWork}
+use Rattle.lfs_writer.specs.SettledFiles.{IsReadBesideMap}
+use Rattle.lfs_writer.specs.ThreadContents.{ReportsWork}
 use Rattle.lfs_model.specs.BlockSets.{AreUsed, IsInFlight, IsUsed}
 use Rattle.lfs_model.specs.BlockSets.BlockState.{InFlight, Used}
 use Rattle.lfs_model.specs.Disk.{Disk}
 use Rattle.lfs_model.specs.History.{EachEvent, EachSince, Event, OnlyReads, faults}
 use Rattle.lfs_model.specs.Keeping.{struct_at}
-use Rattle.lfs_model.specs.Layout.{onward}
+use Rattle.lfs_model.specs.Layout.{directory_after}
 use Rattle.lfs_model.specs.Operations as ops
 use Rattle.lfs_model.specs.PowerLoss.{IsLeftByStop, Survives, with_blocks}
 use Rattle.lfs_model.specs.Session.{Files, Session}
@@ -36,15 +36,15 @@ use Rattle.lfs_model.proofs.Global.{HasNoMove}
 use Rattle.lfs_model.proofs.Histories.{LeavesOnly-reads, LeavesOnly-weaker, Stops-read, unprogrammed-reads}
 use Rattle.lfs_operations.specs.Dropping.{SameInFlight}
 use Rattle.lfs_operations.specs.Ready.{IsReady}
-use Rattle.lfs_operations.specs.Recovering.{AreUnreached, AreUnreachedFrom, CanDropUnreached, HasRecovered, ReportsOfSteps}
+use Rattle.lfs_operations.specs.Recovering.{AreUnreached, AreUnreachedFrom, CanDropUnreached, HasRecovered, ReportsOfRecovery}
 use Rattle.lfs_operations.specs.EndingMove.{CanEndMove, HasEndedMove}
 use Rattle.lfs_operations.proofs.RecoverMap.{count_used}
 use Rattle.lfs_operations.proofs.RecoverWrites.{none_there}
 use Rattle.lfs_thread.specs.Kept.{Kept, State}
 use Rattle.lfs_thread.specs.Steps.{HasReported, IsOnlyRead, Writes}
-use Rattle.lfs_tree.specs.Carrying.{AppliesOn, HasCalled, SurvivesTo, ReportsError}
-use Rattle.lfs_tree.specs.Held.{IsHeld, IsRooted, tree_state_of, seen_thread}
-use Rattle.lfs_tree.specs.Recovering.{CanDropLost, HasDroppedLost}
+use Rattle.lfs_tree.specs.TreeChanges.{AppliesOn, HasFurtherCalls, SurvivesTo, ReportsError}
+use Rattle.lfs_tree.specs.RootedThreads.{IsRootedUnlessFailed, IsRooted, tree_state_of, tree_state_of_thread}
+use Rattle.lfs_tree.specs.Recoveries.{CanDropLost, HasDroppedLost}
 use Rattle.lfs_tree.specs.TreeState.{IsAppliedOn, IsSound, LeavesFlight, TreeState, kept_of, tree_view}
 use Rattle.lfs_tree.proofs.Carried.{all_pairs, keeps_writing, lists_from, read_is, with_history}
 use Rattle.lfs_tree.proofs.CarryFreed.{writes_then}
@@ -54,9 +54,9 @@ use Rattle.lfs_tree.proofs.KeptFiles.{keeps_same, keeps_then}
 
 numbers_from : (R : ℕ × ℕ → Type 0) (n : ℕ) (from : Option (ℕ × ℕ)) (xs : List Pair) (numbers : List ℕ) → AreUnreachedFrom R n from xs numbers → (j : ℕ) → j < length numbers → get_or numbers j 0 < n + length xs
 numbers_from R n from [] numbers h j low = absurd (let l = ap length h in omega arith)
-numbers_from R n from (x ∷ xs) numbers (inl h) j low = let k = numbers_from R (suc n) (onward from x) xs numbers h.1 j low in omega arith
+numbers_from R n from (x ∷ xs) numbers (inl h) j low = let k = numbers_from R (suc n) (directory_after from x) xs numbers h.1 j low in omega arith
 numbers_from R n from (x ∷ xs) numbers (inr h) j low =
-    subst (λ z. get_or z j 0 < n + length (x ∷ xs)) (sym h.1.0) (go j (subst (λ z. j < length z) h.1.0 low) (λ i l. numbers_from R (suc n) (onward from x) xs h.0 h.1.1.1 i l))
+    subst (λ z. get_or z j 0 < n + length (x ∷ xs)) (sym h.1.0) (go j (subst (λ z. j < length z) h.1.0 low) (λ i l. numbers_from R (suc n) (directory_after from x) xs h.0 h.1.1.1 i l))
   where
     go : (j : ℕ) → j < length (n ∷ h.0) → ((i : ℕ) → i < length h.0 → get_or h.0 i 0 < suc n + length xs) → get_or (n ∷ h.0) j 0 < n + length (x ∷ xs)
     go zero l next = omega arith
@@ -185,14 +185,14 @@ end_survives a b h w shows calls called first second =
 
 -- ---- calls
 
-pub called_writing : (a b : Kept) (bs : List ℕ) → Writes bs a b → HasCalled a b
+pub called_writing : (a b : Kept) (bs : List ℕ) → Writes bs a b → HasFurtherCalls a b
 called_writing a b bs w = record {
   geometry = record { block_size = w.shape.block_size; page = w.shape.page; order = w.shape.order; count = w.shape.count };
   calls = w.at_worst.events;
   called = w.at_worst.extends;
 }
 
-pub called_then : (a b c : Kept) → HasCalled a b → HasCalled b c → HasCalled a c
+pub called_then : (a b c : Kept) → HasFurtherCalls a b → HasFurtherCalls b c → HasFurtherCalls a c
 called_then a b c f g = record {
   geometry = record {
     block_size = g.geometry.block_size ∙ f.geometry.block_size;
@@ -212,7 +212,7 @@ can_end t root r = record { accepted = r.sound.accepted; writable = r.sound.fits
 pub can_drop_then : (a b : Kept) → HasEndedMove a b → CanDropLost b
 can_drop_then a b e = record { accepted = e.taken.follows.accepted; writable = e.taken.writable; used = e.used; size = e.size; none = e.none }
 
-pub recovered_whole : (t : State) (root : ℕ) (b c : Kept) → IsRooted t root true → (gstate_of t.kept.pairs ≡ no_gstate → ⊥) → HasEndedMove t.kept b → Writes (blocks_of t.kept.pairs) t.kept b → HasDroppedLost b c → HasCalled b c
+pub recovered_whole : (t : State) (root : ℕ) (b c : Kept) → IsRooted t root true → (gstate_of t.kept.pairs ≡ no_gstate → ⊥) → HasEndedMove t.kept b → Writes (blocks_of t.kept.pairs) t.kept b → HasDroppedLost b c → HasFurtherCalls b c
     → faults c.history ≡ faults t.kept.history → AppliesOn t.kept ops.Recover c
 recovered_whole t root b c rooted left e w d called quiet =
     let a = t.kept in
@@ -256,7 +256,7 @@ reports_reading {X} t m r e is reported = record {
   no_fault = λ other. reported.no_fault (λ io. other (same_error e Io (sym is ∙ io)));
 }
 
-pub reports_steps : {X : Type 0} (m d : State) (r : Result X Error) (e : Error) → r ≡ Err e → ReportsOfSteps m d r → ReportsError m.kept d.kept e
+pub reports_steps : {X : Type 0} (m d : State) (r : Result X Error) (e : Error) → r ≡ Err e → ReportsOfRecovery m d r → ReportsError m.kept d.kept e
 reports_steps {X} m d r e is reported = record {
   errors = subst (λ (z : Result X Error). IfErr z (λ f. (f ≡ Io) ⊎ (f ≡ NoMemory))) is reported.errors;
   fault = λ io. reported.fault (is ∙ ap Err io);
@@ -325,7 +325,7 @@ pub something_set : (g : Gstate) → is_no_gstate g ≡ false → g ≡ no_gstat
 something_set g e is = let k = sym e ∙ ap is_no_gstate is in absurd (cc)
 
 -- what works is sound
-pub held_sound : (thread : State) (root : ℕ) (writable : Bool) (now : TreeState) → IsHeld thread root writable → seen_thread thread writable ≡ now → now.failed ≡ false → IsSound now
+pub held_sound : (thread : State) (root : ℕ) (writable : Bool) (now : TreeState) → IsRootedUnlessFailed thread root writable → tree_state_of_thread thread writable ≡ now → now.failed ≡ false → IsSound now
 held_sound thread root writable now kept view works =
     let s = (kept (ap (λ (s : TreeState). s.failed) view ∙ works)).sound in
     subst IsSound view (record { accepted = s.accepted; fits = s.fits; is_kept = s.is_kept; used = s.used; size = s.size })

@@ -13,7 +13,7 @@ use Rattle.lfs_tree.proofs.RecoveredTwice.{recovers_through}
 use Rattle.lfs_model.specs.BlockSets.{BlockSets, BlockState, IsInFlight, in_flight_count, is_in_flight}
 use Rattle.lfs_model.specs.BlockSets.BlockState.{Free, InFlight, Used}
 use Rattle.lfs_model.specs.Disk.{SameGeometry, entry_limit}
-use Rattle.lfs_model.specs.Layout.{Goes, IsArranged}
+use Rattle.lfs_model.specs.Layout.{RemovesDirectory, IsArranged}
 use Rattle.lfs_model.specs.Operations as ops
 use Rattle.lfs_model.specs.Operations.{Operation}
 use Rattle.lfs_model.specs.PowerLoss.{IsLeftByStop, with_blocks}
@@ -32,12 +32,12 @@ use Rattle.lfs_operations.specs.EndingMove.{HasEndedMove, RecoversTo}
 use Rattle.lfs_operations.proofs.RecoverBefore.{AreKin, stand_kin}
 use Rattle.lfs_operations.specs.Ready.{KeepsRoot}
 use Rattle.lfs_thread.specs.Kept.{Kept, State}
-use Rattle.lfs_tree.specs.Allowed.{CanAdd, CanRemove, CanRemoveAttr, CanRename, CanSetAttr, HasRoom}
-use Rattle.lfs_tree.specs.Carrying.{AppliesOn, HasCalled, Spares, StandsAs, SurvivesTo, ReportsError}
-use Rattle.lfs_tree.specs.Held.{IsRooted, tree_state_of}
-use Rattle.lfs_tree.specs.KeepsFiles.{ListsStay}
-use Rattle.lfs_tree.specs.Recovering.{HasDroppedLost, HasSettled}
-use Rattle.lfs_tree.specs.TreeState.{IsSound, around_of, kept_of}
+use Rattle.lfs_tree.specs.Permissions.{CanAdd, CanRemove, CanRemoveAttr, CanRename, CanSetAttr, HasRoom}
+use Rattle.lfs_tree.specs.TreeChanges.{AppliesOn, HasFurtherCalls, SparesOthers, HasSoundTree, SurvivesTo, ReportsError}
+use Rattle.lfs_tree.specs.RootedThreads.{IsRooted, tree_state_of}
+use Rattle.lfs_tree.specs.KeptFiles.{ListsStay}
+use Rattle.lfs_tree.specs.Recoveries.{HasDroppedLost, HasEndedLosses}
+use Rattle.lfs_tree.specs.TreeState.{IsSound, surroundings_of, kept_of}
 use Rattle.lfs_tree.proofs.KeptFiles.{keeps_then}
 use Rattle.lfs_tree.proofs.Recovered.{called_then, leaves_then, recovered_already, some_since}
 
@@ -50,7 +50,7 @@ fewer_used c used sound fewer =
     let f = few_used used c.map (λ b is. Contains-count used b (let k = count-Contains (used_blocks c.disk c.pairs) b ((sound.used b).0 is) in let l = fewer b in omega arith)) in
     omega arith
 
-pub settled_whole : (a b c : Kept) → (gstate_of a.pairs ≡ no_gstate → ⊥) → HasEndedMove a b → HasDroppedLost b c → AppliesOn a ops.Recover c → HasSettled a c
+pub settled_whole : (a b c : Kept) → (gstate_of a.pairs ≡ no_gstate → ⊥) → HasEndedMove a b → HasDroppedLost b c → AppliesOn a ops.Recover c → HasEndedLosses a c
 settled_whole a b c left e d carries =
     let now : Session = record { tree = tree_in b.disk b.pairs; files = [] } in
     let done = d.completed now refl in
@@ -61,11 +61,11 @@ settled_whole a b c left e d carries =
       same = λ none. absurd (left none);
     }
 
-pub settled_stands : (a c : Kept) → HasSettled a c → KeepsRoot a c → StandsAs a (tree_in a.disk a.pairs) c
-settled_stands a c f root = record { sound = f.carries.sound; fits = f.carries.fits; root = root; shows = f.carries.shows (around_of (tree_state_of a true false)) []; no_fault = f.carries.no_fault }
+pub settled_stands : (a c : Kept) → HasEndedLosses a c → KeepsRoot a c → HasSoundTree a (tree_in a.disk a.pairs) c
+settled_stands a c f root = record { sound = f.carries.sound; fits = f.carries.fits; root = root; shows = f.carries.shows (surroundings_of (tree_state_of a true false)) []; no_fault = f.carries.no_fault }
 
 -- nothing was left
-pub settled_already : (t : State) (root : ℕ) → IsRooted t root true → gstate_of t.kept.pairs ≡ no_gstate → HasSettled t.kept t.kept
+pub settled_already : (t : State) (root : ℕ) → IsRooted t root true → gstate_of t.kept.pairs ≡ no_gstate → HasEndedLosses t.kept t.kept
 settled_already t root r e = record {
   carries = recovered_already (tree_state_of t.kept true false) refl refl r.sound e;
   leads_on = λ s disk qs h. h;
@@ -93,7 +93,7 @@ arranged_through a b c s op g leads k = record {
     fresh = k.operation.fresh;
     back = k.operation.back;
     edits = k.operation.edits;
-    stand = stand_kin a.disk b.disk (Goes k.between op) (Goes k.between op) (record { block_size = g.block_size; page = g.page; there = λ x y. y; back = λ x y. y })
+    stand = stand_kin a.disk b.disk (RemovesDirectory k.between op) (RemovesDirectory k.between op) (record { block_size = g.block_size; page = g.page; there = λ x y. y; back = λ x y. y })
         (superblocks_before k.between) None k.operation.drafts k.operation.drafts k.operation.parts (kin_itself k.operation.drafts) k.operation.stand;
     joined = k.operation.joined;
     is = k.operation.is;
@@ -137,14 +137,14 @@ survives_before a c after k clean = LeavesOnly-weaker (λ left x. record { pairs
     go left ps (inl e) = inl e
     go left ps (inr e) = inl e
 
-called_by : (a b : Kept) (op : Operation) → AppliesOn a op b → HasCalled a b
+called_by : (a b : Kept) (op : Operation) → AppliesOn a op b → HasFurtherCalls a b
 called_by a b op k = record { geometry = k.geometry; calls = k.calls; called = k.called }
 
-module _ (a b : Kept) (f : HasSettled a b) where
+module _ (a b : Kept) (f : HasEndedLosses a b) where
   pub tree_is : tree_in b.disk b.pairs ≡ tree_in a.disk a.pairs
-  tree_is = f.carries.shows (around_of (tree_state_of a true false)) []
+  tree_is = f.carries.shows (surroundings_of (tree_state_of a true false)) []
 
-  pub called_after : (c : Kept) → HasCalled b c → HasCalled a c
+  pub called_after : (c : Kept) → HasFurtherCalls b c → HasFurtherCalls a c
   called_after c k = called_then a b c (called_by a b ops.Recover f.carries) k
 
   pub carried_after : (c : Kept) (op : Operation) → renames_to_itself op ≡ false → is_recover op ≡ false → AppliesOn b op c → AppliesOn a op c
@@ -170,15 +170,15 @@ module _ (a b : Kept) (f : HasSettled a b) where
         lists = λ none. subst (λ (z : Kept). gstate_of z.pairs ≡ no_gstate → ListsStay z.disk z.pairs c.disk) (f.same none) k.lists none;
       }
 
-  pub spares_after : (c : Kept) (op : Operation) → Spares b op c → Spares a op c
-  spares_after c op k none = subst (λ (z : Kept). Spares z op c) (f.same none) k none
+  pub spares_after : (c : Kept) (op : Operation) → SparesOthers b op c → SparesOthers a op c
+  spares_after c op k none = subst (λ (z : Kept). SparesOthers z op c) (f.same none) k none
 
   -- ---- a stop
 
   left_on : (blocks : Blocks) → with_blocks blocks b.disk ≡ with_blocks blocks a.disk
   left_on blocks = λ j. record { block_size = f.carries.geometry.block_size j; page = f.carries.geometry.page j; order = f.carries.geometry.order j; blocks = blocks }
 
-  pub survives_after : (c : Kept) (change : Tree → Tree) → HasCalled b c → SurvivesTo a b (tree_in a.disk a.pairs) → SurvivesTo b c (change (tree_in b.disk b.pairs)) → SurvivesTo a c (change (tree_in a.disk a.pairs))
+  pub survives_after : (c : Kept) (change : Tree → Tree) → HasFurtherCalls b c → SurvivesTo a b (tree_in a.disk a.pairs) → SurvivesTo b c (change (tree_in b.disk b.pairs)) → SurvivesTo a c (change (tree_in a.disk a.pairs))
   survives_after c change called first second =
       survives_then a.disk a.history b.history c.history (tree_in a.disk a.pairs) (change (tree_in a.disk a.pairs)) (some_since f.carries.calls a.history b.history f.carries.called) (some_since called.calls b.history c.history called.called)
       (survives_before a b (change (tree_in a.disk a.pairs)) first)
@@ -186,7 +186,7 @@ module _ (a b : Kept) (f : HasSettled a b) where
 
   -- ---- what its checks have shown
 
-  charge_is : (name : Name) (attributes : Attributes) → is_overcharged (around_of (tree_state_of b true false)) name attributes ≡ is_overcharged (around_of (tree_state_of a true false)) name attributes
+  charge_is : (name : Name) (attributes : Attributes) → is_overcharged (surroundings_of (tree_state_of b true false)) name attributes ≡ is_overcharged (surroundings_of (tree_state_of a true false)) name attributes
   charge_is name attributes = ap₂ (λ (size page : ℕ). nat_lt (entry_limit size page) (charge_of size name attributes)) f.carries.geometry.block_size f.carries.geometry.page
 
   room_is : (need : ℕ) → HasRoom (tree_state_of a true false) need → HasRoom (tree_state_of b true false) need
@@ -225,7 +225,7 @@ module _ (a b : Kept) (f : HasSettled a b) where
     parents = subst (λ t. parent_fault t [] path ≡ None) (sym tree_is) can.parents;
     something = subst (λ (t : Tree). is_none (t path) ≡ false) (sym tree_is) can.something;
     len = can.len;
-    fits = subst (λ (t : Tree). is_overcharged (around_of (tree_state_of b true false)) (last_name path) (put_attribute kind bytes (attributes_of (t path))) ≡ false) (sym tree_is)
+    fits = subst (λ (t : Tree). is_overcharged (surroundings_of (tree_state_of b true false)) (last_name path) (put_attribute kind bytes (attributes_of (t path))) ≡ false) (sym tree_is)
         (charge_is (last_name path) (put_attribute kind bytes (attributes_of (tree_in a.disk a.pairs path))) ∙ can.fits);
     room = room_is 2 can.room;
   }
@@ -254,7 +254,7 @@ module _ (a b : Kept) (f : HasSettled a b) where
     directory = subst (λ (t : Tree). (not (same_path from to) && is_directory (t from) && is_file (t to)) ≡ false) (sym tree_is) can.directory;
     file = subst (λ (t : Tree). (not (same_path from to) && is_file (t from) && is_directory (t to)) ≡ false) (sym tree_is) can.file;
     empty = subst (λ (t : Tree). (not (same_path from to) && nat_lt 0 (length (names_of (t to)))) ≡ false) (sym tree_is) can.empty;
-    fits = subst (λ (t : Tree). (not (same_path from to) && is_overcharged (around_of (tree_state_of b true false)) (last_name to) (attributes_of (t from))) ≡ false) (sym tree_is)
+    fits = subst (λ (t : Tree). (not (same_path from to) && is_overcharged (surroundings_of (tree_state_of b true false)) (last_name to) (attributes_of (t from))) ≡ false) (sym tree_is)
         (ap (λ x. not (same_path from to) && x) (charge_is (last_name to) (attributes_of (tree_in a.disk a.pairs from))) ∙ can.fits);
     room = room_is 2 can.room;
   }

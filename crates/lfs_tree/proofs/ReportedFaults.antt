@@ -9,18 +9,18 @@ use Rattle.lfs_operations.specs.Changing.{ReportsSpace}
 use Rattle.lfs_operations.specs.Making.{HasRoomFor}
 use Rattle.lfs_thread.specs.Kept.{Kept}
 use Rattle.lfs_thread.specs.Steps.{HasReported, IsOnlyRead, Writes}
-use Rattle.lfs_tree.specs.Carrying.{HasCalled, ReportsError}
+use Rattle.lfs_tree.specs.TreeChanges.{HasFurtherCalls, ReportsError}
 use Rattle.lfs_tree.proofs.CarryRooms.{no_room}
 use Rattle.lfs_tree.proofs.Carried.{with_history}
 
-pub called_by_reading : (a b : Kept) → IsOnlyRead a b → HasCalled a b
+pub called_by_reading : (a b : Kept) → IsOnlyRead a b → HasFurtherCalls a b
 called_by_reading a b r = record {
   geometry = record { block_size = ap (λ (d : Disk). d.block_size) r.disk; page = ap (λ (d : Disk). d.page) r.disk; order = ap (λ (d : Disk). d.order) r.disk; count = ap (λ (d : Disk). block_count d) r.disk };
   calls = r.reads.events;
   called = r.reads.extends;
 }
 
-pub called_by_writing : (a : Kept) (h : List Event) (c : Kept) (bs : List ℕ) → OnlyReads a.disk.blocks a.history h → Writes bs (with_history a h) c → HasCalled a c
+pub called_by_writing : (a : Kept) (h : List Event) (c : Kept) (bs : List ℕ) → OnlyReads a.disk.blocks a.history h → Writes bs (with_history a h) c → HasFurtherCalls a c
 called_by_writing a h c bs reads w = record {
   geometry = record { block_size = w.shape.block_size; page = w.shape.page; order = w.shape.order; count = w.shape.count };
   calls = w.at_worst.events ++ reads.events;

@@ -3,12 +3,12 @@ use Rattle.std.proofs.Common.{ℕ, zero, suc, ◌≡◌, ◌+◌, ◌-◌, ◌<�
 use Rattle.std.proofs.lemmas.List.{get_or-append-add, get_or_append_left}
 use Rattle.std.proofs.lemmas.Option.{same_Some}
 use Rattle.lfs_model.specs.Disk.{Disk}
-use Rattle.lfs_model.specs.InDirectory.{BeginsAt, IsBehind, IsJoined}
+use Rattle.lfs_model.specs.InDirectory.{BeginsAt, IsPairOfDirectory, HasHardTail}
 use Rattle.lfs_model.specs.Slots.{same_pair}
 use Rattle.lfs_model.specs.Thread.{Pair, is_hard, superblocks_before}
 use Rattle.lfs_model.specs.Tree.{Path}
 use Rattle.lfs_model.specs.View.{IsAccepted}
-use Rattle.lfs_model.specs.Shown.{Leads}
+use Rattle.lfs_model.specs.Shown.{PathLeadsTo}
 use Rattle.lfs_model.proofs.Counts.{Each}
 use Rattle.lfs_model.proofs.Found.{chain_of_thread}
 use Rattle.lfs_model.proofs.Listings.{Ends}
@@ -19,13 +19,13 @@ use Rattle.lfs_model.proofs.Searches.{IsDirectory, begins_directory}
 abbrev hard_at : List Pair → ℕ → Pair → Type 0
 hard_at ps n d = is_hard (get_or ps n d).content.tail ≡ true
 
-joined_at : (ps : List Pair) (n : ℕ) (d : Pair) → Each IsJoined ps → n < length ps → hard_at ps n d
+joined_at : (ps : List Pair) (n : ℕ) (d : Pair) → Each HasHardTail ps → n < length ps → hard_at ps n d
 joined_at [] n d h l = absurd (omega arith)
 joined_at (p ∷ ps) zero d h l = h.0
 joined_at (p ∷ ps) (suc n) d h l = joined_at ps n d h.1 (omega arith)
 
 -- up to the pair hard tails lead
-joined_up_to : (ps : List Pair) (first index n : ℕ) (pair d : Pair) (rest : List Pair) → IsBehind ps first index pair rest → first ≤ n → n < index → hard_at ps n d
+joined_up_to : (ps : List Pair) (first index n : ℕ) (pair d : Pair) (rest : List Pair) → IsPairOfDirectory ps first index pair rest → first ≤ n → n < index → hard_at ps n d
 joined_up_to ps first index n pair d rest b low high =
     let e : length b.front + (n - length b.front) ≡ n = (let k = b.begins in omega (arith, low, k)) in
     let l : n - length b.front < length b.left = (let k = b.begins in let m = b.number in omega (arith, low, high, k, m)) in
@@ -56,18 +56,18 @@ not_joined ps a first d h low =
     (subst (λ (p : Pair). is_hard p.content.tail ≡ false) (sym (get_or-append-add chain (before ++ rest) (length before - 1) d ∙ get_or_append_left before rest d (length before - 1) (omega (arith, l))))
     (last_ends before d h.directory.ends l)))
 
-not_in_front : (ps : List Pair) (a : ℕ × ℕ) (first other index : ℕ) (pair : Pair) (rest : List Pair) → IsDirectory ps a other → superblocks_before ps ≤ first → IsBehind ps first index pair rest → other ≤ index → first < other → ⊥
+not_in_front : (ps : List Pair) (a : ℕ × ℕ) (first other index : ℕ) (pair : Pair) (rest : List Pair) → IsDirectory ps a other → superblocks_before ps ≤ first → IsPairOfDirectory ps first index pair rest → other ≤ index → first < other → ⊥
 not_in_front ps a first other index pair rest h low b up l =
     let k = not_joined ps a other pair h (omega (arith, low, l)) in
     let j = joined_up_to ps first index (other - 1) pair pair rest b (omega (arith, l)) (omega (arith, l, up)) in
     absurd (let z = sym k ∙ j in cc)
 
-behind_up : (ps : List Pair) (first index : ℕ) (pair : Pair) (rest : List Pair) → IsBehind ps first index pair rest → first ≤ index
+behind_up : (ps : List Pair) (first index : ℕ) (pair : Pair) (rest : List Pair) → IsPairOfDirectory ps first index pair rest → first ≤ index
 behind_up ps first index pair rest b = let k = b.begins in let n = b.number in omega (arith, k, n)
 
 -- two directories of which the pair is
-pub same_first : (disk : Disk) (ps : List Pair) (P Q : Path) (a b : ℕ × ℕ) (first other index : ℕ) (pair pair' : Pair) (rest rest' : List Pair) → IsAccepted disk ps → Leads ps P a → BeginsAt ps a first → Leads ps Q b → BeginsAt ps b other
-    → IsBehind ps first index pair rest → IsBehind ps other index pair' rest' → first ≡ other
+pub same_first : (disk : Disk) (ps : List Pair) (P Q : Path) (a b : ℕ × ℕ) (first other index : ℕ) (pair pair' : Pair) (rest rest' : List Pair) → IsAccepted disk ps → PathLeadsTo ps P a → BeginsAt ps a first → PathLeadsTo ps Q b → BeginsAt ps b other
+    → IsPairOfDirectory ps first index pair rest → IsPairOfDirectory ps other index pair' rest' → first ≡ other
 same_first disk ps P Q a b first other index pair pair' rest rest' ok leads begins leads' begins' h k =
     let d = begins_directory disk ps P a first ok leads begins in
     let e = begins_directory disk ps Q b other ok leads' begins' in
@@ -83,7 +83,7 @@ same_first disk ps P Q a b first other index pair pair' rest rest' ok leads begi
     equal (suc m) (suc n) f g = ap suc (equal m n (λ l. f (omega (arith, l))) (λ l. g (omega (arith, l))))
 
 -- and so one path leads to it
-pub same_above : (disk : Disk) (ps : List Pair) (P Q : Path) (a b : ℕ × ℕ) (first other : ℕ) → IsAccepted disk ps → Leads ps P a → BeginsAt ps a first → Leads ps Q b → BeginsAt ps b other → first ≡ other → P ≡ Q
+pub same_above : (disk : Disk) (ps : List Pair) (P Q : Path) (a b : ℕ × ℕ) (first other : ℕ) → IsAccepted disk ps → PathLeadsTo ps P a → BeginsAt ps a first → PathLeadsTo ps Q b → BeginsAt ps b other → first ≡ other → P ≡ Q
 same_above disk ps P Q a b first other ok leads begins leads' begins' e =
     let k = subst (BeginsAt ps b) (sym e) begins' in
     let same = same_Some begins.pair k.pair (sym begins.there ∙ k.there) in

@@ -4,14 +4,14 @@ use Rattle.std.specs.Prelude.{is_some, nat_lt}
 use Rattle.std.proofs.lemmas.Bool.{le-ltb, lt-ltb}
 use Rattle.std.proofs.lemmas.Option.{same_Some}
 use Rattle.std.proofs.Math.Seq.{drop-cons}
-use Rattle.lfs_model.specs.Layout.{begin_from, onward}
+use Rattle.lfs_model.specs.Layout.{directory_begin, directory_after}
 use Rattle.lfs_model.specs.Thread.{Pair, is_hard, superblocks_before}
 use Rattle.lfs_model.specs.Shown.{IsReached}
 use Rattle.lfs_model.proofs.Layouts.{onward_some}
 use Rattle.lfs_operations.specs.Recovering.{AreUnreached, AreUnreachedFrom}
 use Rattle.lfs_thread.specs.Steps.{no_pair}
 use Rattle.lfs_lookup.specs.Profile.{follows_at}
-use Rattle.lfs_tree.specs.Unreached.{AreReachMarks}
+use Rattle.lfs_tree.specs.Orphans.{AreReachMarks}
 
 pub record IsScanning (ps : List Pair) (root i : ℕ) (numbers : List ℕ) (flag : Bool) : Type 0 where
   pub from : Option (ℕ × ℕ)
@@ -50,10 +50,10 @@ module _ (ps : List Pair) (marks : List Bool) (m : AreReachMarks ps marks) (root
   own_back : IsReached ps p.at → get_or marks i false ≡ true
   own_back r = same_Some (get_or marks i false) true (sym (got marks i false (let l = m.len in omega arith)) ∙ m.marked i p (got ps i no_pair below) r)
 
-  both : (now ≡ true → IsReached ps (begin_from s.from p)) × (IsReached ps (begin_from s.from p) → now ≡ true)
+  both : (now ≡ true → IsReached ps (directory_begin s.from p)) × (IsReached ps (directory_begin s.from p) → now ≡ true)
   both = go s.from refl s.led
     where
-      go : (f : Option (ℕ × ℕ)) → s.from ≡ f → is_some f ≡ follows_at root ps i → (now ≡ true → IsReached ps (begin_from f p)) × (IsReached ps (begin_from f p) → now ≡ true)
+      go : (f : Option (ℕ × ℕ)) → s.from ≡ f → is_some f ≡ follows_at root ps i → (now ≡ true → IsReached ps (directory_begin f p)) × (IsReached ps (directory_begin f p) → now ≡ true)
       go None e l = (
         (λ h. own_there (ap (λ b. cond b flag (get_or marks i false)) l ∙ h)),
         (λ r. ap (λ b. cond b flag (get_or marks i false)) (sym l) ∙ own_back r),
@@ -63,17 +63,17 @@ module _ (ps : List Pair) (marks : List Bool) (m : AreReachMarks ps marks) (root
         (λ r. ap (λ b. cond b flag (get_or marks i false)) (sym l) ∙ s.back a e r),
       )
 
-  begin_is : (a : ℕ × ℕ) → onward s.from p ≡ Some a → begin_from s.from p ≡ a
+  begin_is : (a : ℕ × ℕ) → directory_after s.from p ≡ Some a → directory_begin s.from p ≡ a
   begin_is a e = go (is_hard p.content.tail) e
     where
-      go : (b : Bool) → cond b (Some (begin_from s.from p)) None ≡ Some a → begin_from s.from p ≡ a
-      go true f = same_Some (begin_from s.from p) a f
+      go : (b : Bool) → cond b (Some (directory_begin s.from p)) None ≡ Some a → directory_begin s.from p ≡ a
+      go true f = same_Some (directory_begin s.from p) a f
       go false f = absurd (cc)
 
   pub scan_on : (more : List ℕ) (after : Bool) → after ≡ cond (follows_at root ps i) flag (get_or marks i false) → more ≡ cond after numbers (numbers ++ i ∷ []) → IsScanning ps root (i + 1) more after
   scan_on more after f g = record {
-    from = onward s.from p;
-    goes_on = λ rest h. go after refl rest (subst (λ (n : ℕ). AreUnreachedFrom (IsReached ps) n (onward s.from p) (drop n ps) rest) one h);
+    from = directory_after s.from p;
+    goes_on = λ rest h. go after refl rest (subst (λ (n : ℕ). AreUnreachedFrom (IsReached ps) n (directory_after s.from p) (drop n ps) rest) one h);
     led = onward_some s.from p ∙ sym (ap₂ (λ (b : Bool) (n : ℕ). b && is_hard (get_or ps n no_pair).content.tail) (lt-ltb root (i + 1) (omega arith)) (let e : i + 1 - 1 ≡ i = omega arith in e));
     there = λ a e h. subst (IsReached ps) (begin_is a e) (both.0 (sym f ∙ h));
     back = λ a e r. f ∙ both.1 (subst (IsReached ps) (sym (begin_is a e)) r);
@@ -85,7 +85,7 @@ module _ (ps : List Pair) (marks : List Bool) (m : AreReachMarks ps marks) (root
       cut : drop i ps ≡ p ∷ drop (suc i) ps
       cut = drop-cons ps i no_pair below
 
-      go : (b : Bool) → after ≡ b → (rest : List ℕ) → AreUnreachedFrom (IsReached ps) (suc i) (onward s.from p) (drop (suc i) ps) rest → AreUnreachedFrom (IsReached ps) root None (drop root ps) (more ++ rest)
+      go : (b : Bool) → after ≡ b → (rest : List ℕ) → AreUnreachedFrom (IsReached ps) (suc i) (directory_after s.from p) (drop (suc i) ps) rest → AreUnreachedFrom (IsReached ps) root None (drop root ps) (more ++ rest)
       go true e rest h = subst (λ z. AreUnreachedFrom (IsReached ps) root None (drop root ps) (z ++ rest)) (sym (g ∙ ap (λ b. cond b numbers (numbers ++ i ∷ [])) e))
           (s.goes_on rest (subst (λ z. AreUnreachedFrom (IsReached ps) i s.from z rest) (sym cut) (inl (both.0 (sym f ∙ e), h))))
       go false e rest h = subst (λ z. AreUnreachedFrom (IsReached ps) root None (drop root ps) z) (sym (ap (λ z. z ++ rest) (g ∙ ap (λ b. cond b numbers (numbers ++ i ∷ [])) e) ∙ append_assoc numbers (i ∷ []) rest))

@@ -4,7 +4,7 @@ use Rattle.std.specs.Prelude.{Contains}
 use Rattle.std.proofs.lemmas.List.Elements.{All-contains, All-from_recursion}
 use Rattle.std.proofs.lemmas.Option.{same_Some}
 use Rattle.lfs_device.specs.Bytes.{HasBytes}
-use Rattle.lfs_model.proofs.Sites.{Among, among_right}
+use Rattle.lfs_model.proofs.Sites.{SomeIn, among_right}
 use Rattle.lfs_model.specs.Frame.{HoldsSlot}
 use Rattle.lfs_model.specs.TreeEdits.{change_at, same_path}
 use Rattle.lfs_model.specs.BlockSets.{AreUsed, IsFree, IsInFlight, IsUsed}
@@ -32,8 +32,8 @@ use Rattle.lfs_model.proofs.BlockSets.{Contains-count, count-Contains}
 use Rattle.lfs_model.proofs.Counts.{count, count_append, each_from_counted, each_weaker, once_from_distinct}
 use Rattle.lfs_model.proofs.Files.{HasSameFile, file_blocks_same, is_list_same}
 use Rattle.lfs_model.proofs.Histories.{LeavesOnly-reads, LeavesOnly-trans, LeavesOnly-weaker, LeavesOnly-worst, Stops-read}
-use Rattle.lfs_writer.specs.Coming.{CanCome}
-use Rattle.lfs_writer.specs.Settling.{CanSettle, IsReadBesideMap, IsSettledIn, blocks_in_list}
+use Rattle.lfs_writer.specs.StructChanges.{CanReplaceStruct}
+use Rattle.lfs_writer.specs.SettledFiles.{CanSettle, IsReadBesideMap, IsSettledIn, blocks_in_list}
 use Rattle.lfs_writer.proofs.Outside.{none_or_some, not_there}
 use Rattle.lfs_writer.proofs.Settlement.{settled_exactly}
 use Rattle.lfs_operations.proofs.Held.{here}
@@ -43,9 +43,9 @@ use Rattle.lfs_thread.specs.Kept.{Kept, State}
 use Rattle.lfs_thread.specs.Steps.{pair_in, Writes}
 use Rattle.lfs_tree.proofs.CarryCreated.{ready_to}
 use Rattle.lfs_tree.proofs.LeftAlone.{contains_among, holds_slot}
-use Rattle.lfs_tree.specs.Carrying.{HasCalled, IsAtRest, SurvivesTo}
+use Rattle.lfs_tree.specs.TreeChanges.{HasFurtherCalls, IsAtRest, SurvivesTo}
 use Rattle.lfs_tree.specs.OpenContents.{bytes_held}
-use Rattle.lfs_tree.specs.Storing.{CanCommit, CanPutContents, HasCommitted, IsFileFor, list_in, list_in_struct, struct_in, ChangesPairOf}
+use Rattle.lfs_tree.specs.Stores.{CanCommit, CanPutContents, HasCommitted, IsFileFor, list_in, list_in_struct, struct_in, ChangesPairOf}
 use Rattle.lfs_tree.specs.declared.contents_at.FileSlot.{FileSlot}
 use Rattle.lfs_lookup.proofs.AtPaths.{SizedLists}
 use Rattle.lfs_tree.proofs.Carried.{pair_blocks, with_history}
@@ -58,7 +58,7 @@ use Rattle.lfs_writer.specs.declared.contents.Contents.{Contents}
 -- ---- the slot gets them
 
 module _ (t : Kept) (path : Path) (u : Slot) (ok : IsAccepted t.disk t.pairs) (used : AreUsed t.map (used_blocks t.disk t.pairs)) (at : slot_of_path t.pairs path ≡ Some u) (sized : SizedLists t.disk)
-    (c : Contents) (can : CanCommit t path c) (pair : ℕ) (below : pair < length t.pairs) (new : Kept) (w : WritesIn t pair new) (above : Path) (name : Name) (come : CanCome t (bytes_held t c) u.struct (struct_in c))
+    (c : Contents) (can : CanCommit t path c) (pair : ℕ) (below : pair < length t.pairs) (new : Kept) (w : WritesIn t pair new) (above : Path) (name : Name) (come : CanReplaceStruct t (bytes_held t c) u.struct (struct_in c))
     (is : IsStructSet t new above name (bytes_held t c) come.gone come.come) where
   -- a block that isn't free and no pair's isn't written
   untouched : (b : ℕ) → (IsFree t.map b → ⊥) → count b (blocks_of t.pairs) ≡ 0 → block_at new.disk b ≡ block_at t.disk b
@@ -208,7 +208,7 @@ module _ (t : State) (root : ℕ) (rests : IsAtRest t root) (path : Path) (large
   at : slot_of_path t.kept.pairs path ≡ Some slot.slot.stands.stands.stands.slot
   at = ap (slot_of_path t.kept.pairs) slot.slot.is ∙ slot.slot.stands.slot
 
-  come : CanCome (with_history t.kept h) (bytes_held (with_history t.kept h) c) slot.slot.stands.stands.stands.slot.struct (struct_in c)
+  come : CanReplaceStruct (with_history t.kept h) (bytes_held (with_history t.kept h) c) slot.slot.stands.stands.stands.slot.struct (struct_in c)
   come = may_come (with_history t.kept h) path u ok used at sized c (over_read t.kept h path c can.over) can.finished
 
   below : file.spot.pair < length t.kept.pairs
@@ -245,7 +245,7 @@ module _ (t : State) (root : ℕ) (rests : IsAtRest t root) (path : Path) (large
         let writes = subst (λ (z : Pair). Writes (z.at.0 ∷ z.at.1 ∷ w.fresh) (with_history t.kept h) new) is w.writes in
         record {
           pair = s.pair;
-          there = contains_among s.pair t.kept.pairs (subst (Among (λ y. y ≡ s.pair)) (sym place.parts)
+          there = contains_among s.pair t.kept.pairs (subst (SomeIn (λ y. y ≡ s.pair)) (sym place.parts)
               (among_right (λ y. y ≡ s.pair) place.front (place.left ++ s.pair ∷ s.rest) (among_right (λ y. y ≡ s.pair) place.left (s.pair ∷ s.rest) (inl refl))));
           holds = subst (HoldsSlot t.kept.pairs s.pair) (sym slot.slot.is)
               (holds_slot t.kept.pairs slot.slot.above slot.slot.stands.on.at slot.slot.first slot.slot.name file.spot.pair file.spot.id ok.thread.distinct slot.slot.stands.on.leads slot.slot.stands.on.begins s);
@@ -284,7 +284,7 @@ module _ (t : State) (root : ℕ) (rests : IsAtRest t root) (path : Path) (large
       subst (λ p. SurvivesTo t.kept new (change_at p (with_bytes (bytes_held t.kept c)) (tree_in t.kept.disk t.kept.pairs))) (sym slot.slot.is)
       (survives_behind t root rests h new _ (with_contents_at t.kept slot.slot.above slot.slot.name (bytes_held t.kept c)) reads w.writes (gives can_put))
 
-pub called_beside : (a b c : Kept) → HasCalled a b → IsReadBesideMap b c → HasCalled a c
+pub called_beside : (a b c : Kept) → HasFurtherCalls a b → IsReadBesideMap b c → HasFurtherCalls a c
 called_beside a b c k r = record {
   geometry = subst (λ (d : Disk). SameGeometry a.disk d) (sym r.disk) k.geometry;
   calls = r.reads.events ++ k.calls;

@@ -9,7 +9,7 @@ use Rattle.lfs_device.specs.declared.error.Error.{Error}
 use Rattle.lfs_model.specs.TreeEdits.{is_beneath, last_name, renamed, rest_after, same_path}
 use Rattle.lfs_model.specs.Disk.{entry_limit}
 use Rattle.lfs_model.specs.History.{Event, OnlyReads, faults}
-use Rattle.lfs_model.specs.InDirectory.{Belongs}
+use Rattle.lfs_model.specs.InDirectory.{BelongsInDirectory}
 use Rattle.lfs_model.specs.Names.{Name, is_component, is_name}
 use Rattle.lfs_model.specs.Operations as ops
 use Rattle.lfs_model.specs.Slots.{Slot, charge_of}
@@ -17,20 +17,20 @@ use Rattle.lfs_model.specs.Refusals.{as_path, is_root}
 use Rattle.lfs_model.specs.Thread.{Pair, gstate_of, superblocks_before}
 use Rattle.lfs_model.specs.Tree.{Path, Tree, branch_of}
 use Rattle.lfs_model.specs.Profile.{FitsEntry}
-use Rattle.lfs_model.specs.Shown.{Leads, tree_in}
+use Rattle.lfs_model.specs.Shown.{PathLeadsTo, tree_in}
 use Rattle.lfs_model.proofs.Committed.{no_move_from}
 use Rattle.lfs_model.proofs.Paths.{last_is}
 use Rattle.lfs_thread.specs.Kept.{Kept, State}
 use Rattle.lfs_thread.specs.Steps.{IsOnlyRead}
 use Rattle.lfs_operations.specs.MovingSteps.{WritesAmong}
-use Rattle.lfs_tree.specs.Allowed.{CanRename}
+use Rattle.lfs_tree.specs.Permissions.{CanRename}
 use Rattle.lfs_tree.specs.Calls as call
-use Rattle.lfs_tree.specs.Calls.{left_by}
-use Rattle.lfs_tree.specs.Carrying.{AppliesOn, HasDone, IsAtRest, IsOperationOn, IsTarget, Spares, StandsAs, SurvivesTo}
-use Rattle.lfs_tree.specs.CarryingSlots.{HasEntry}
-use Rattle.lfs_tree.specs.Held.{tree_state_of}
-use Rattle.lfs_lookup.specs.Paths.{BeginsOnPath, LeadsTo, StandsOnPath}
-use Rattle.lfs_tree.specs.Shifting.{CanShift, CanShiftFound, CanShiftOnto, CanShiftOver, CanShiftTo, HasShifted, IsSource, IsSourceIn, ReportsOfWork}
+use Rattle.lfs_tree.specs.Calls.{tree_left_by}
+use Rattle.lfs_tree.specs.TreeChanges.{AppliesOn, HasDoneCall, IsAtRest, IsOperationOn, IsTarget, SparesOthers, HasSoundTree, SurvivesTo}
+use Rattle.lfs_tree.specs.SlotChanges.{HasEntry}
+use Rattle.lfs_tree.specs.RootedThreads.{tree_state_of}
+use Rattle.lfs_lookup.specs.Paths.{BeginsOnPath, LeadsTo, IsSlotOnPath}
+use Rattle.lfs_tree.specs.Moves.{CanMoveEntry, CanMoveToTarget, CanMoveOntoFile, CanMoveOntoDirectory, CanMoveToPlace, HasMovedEntry, IsSource, IsSourceIn, ReportsOfWork}
 use Rattle.lfs_tree.specs.declared.renames_at.Source.{Source}
 use Rattle.lfs_lookup.specs.declared.entry.FileStorage.{FileStorage}
 use Rattle.lfs_lookup.specs.declared.paths.Found.{Found}
@@ -50,7 +50,7 @@ use Rattle.lfs_tree.proofs.Mounting.{sound_read}
 
 -- ---- what is found
 
-source_is : (ps : List Pair) (path above : Path) (name : Name) (parent : ℕ) (slot : Spot) (source : Source) → path ≡ above ++ name ∷ [] → StandsOnPath ps above name parent slot → source ≡ record { slot = slot; first = parent } → IsSource ps path source
+source_is : (ps : List Pair) (path above : Path) (name : Name) (parent : ℕ) (slot : Spot) (source : Source) → path ≡ above ++ name ∷ [] → IsSlotOnPath ps above name parent slot → source ≡ record { slot = slot; first = parent } → IsSource ps path source
 source_is ps path above name parent slot source e s h =
     subst (IsSource ps path) (sym h) (record { slot = record { above = above; name = name; first = parent; is = e; stands = s }; first_is = refl })
 
@@ -95,7 +95,7 @@ module _ (t : State) (root : ℕ) (rests : IsAtRest t root) (from to : Path) (co
     inline = inline_fits t root rests from large bytes source.slot is.slot h;
   }
 
-  can_shift : (above : Path) (first : ℕ) (name : Name) → name ≡ last_name to → to ≡ above ++ name ∷ [] → BeginsOnPath t.kept.pairs above first → CanShift (with_history t.kept h) from to source name
+  can_shift : (above : Path) (first : ℕ) (name : Name) → name ≡ last_name to → to ≡ above ++ name ∷ [] → BeginsOnPath t.kept.pairs above first → CanMoveEntry (with_history t.kept h) from to source name
   unfolding can_edit
   can_shift above first name same e on = record {
     old = can_edit t root rests from large bytes source.slot is.slot h;
@@ -112,34 +112,34 @@ module _ (t : State) (root : ℕ) (rests : IsAtRest t root) (from to : Path) (co
     room = room_for t.kept 2 rests.held.sound can.room;
   }
 
-  pub shift_to : (parent : ℕ) (place : Spot) (name : Name) → IsTarget t.kept to (found.Nothing parent place) name → CanShiftTo (with_history t.kept h) from to source place name
+  pub shift_to : (parent : ℕ) (place : Spot) (name : Name) → IsTarget t.kept to (found.Nothing parent place) name → CanMoveToPlace (with_history t.kept h) from to source place name
   unfolding can_shift
   shift_to parent place name target =
       let there = target.leads.there in
       let same : name ≡ there.name = target.named ∙ ap last_name there.is ∙ last_is there.above there.name in
       record {
         can = can_shift there.above parent name target.named (there.is ∙ ap (λ n. there.above ++ n ∷ []) (sym same)) there.there.on;
-        belongs = subst (λ n. Belongs t.kept.disk.order t.kept.pairs parent n place.pair place.id) (sym same) there.there.belongs;
+        belongs = subst (λ n. BelongsInDirectory t.kept.disk.order t.kept.pairs parent n place.pair place.id) (sym same) there.there.belongs;
       }
 
-  pub shift_onto : (parent : ℕ) (slot : Spot) (contents : FileStorage) (name : Name) → IsTarget t.kept to (found.File parent slot contents) name → CanShiftOnto (with_history t.kept h) from to source slot contents name
+  pub shift_onto : (parent : ℕ) (slot : Spot) (contents : FileStorage) (name : Name) → IsTarget t.kept to (found.File parent slot contents) name → CanMoveOntoFile (with_history t.kept h) from to source slot contents name
   unfolding can_shift
   shift_onto parent slot contents name target =
       let there = target.leads.there in
       let same : last_name to ≡ there.name = ap last_name there.is ∙ last_is there.above there.name in
-      subst (λ n. CanShiftOnto (with_history t.kept h) from to source slot contents n) (sym (target.named ∙ same))
+      subst (λ n. CanMoveOntoFile (with_history t.kept h) from to source slot contents n) (sym (target.named ∙ same))
       (record { can = can_shift there.above parent there.name (sym same) there.is there.there.0.on; target = there.there.0.stands; shows = there.there.1 })
 
-  pub shift_over : (parent : ℕ) (slot : Spot) (first : ℕ) (name : Name) → IsTarget t.kept to (found.Directory parent slot first) name → CanShiftOver (with_history t.kept h) from to source slot first name
+  pub shift_over : (parent : ℕ) (slot : Spot) (first : ℕ) (name : Name) → IsTarget t.kept to (found.Directory parent slot first) name → CanMoveOntoDirectory (with_history t.kept h) from to source slot first name
   unfolding can_shift
   shift_over parent slot first name target =
       let there = target.leads.there in
       let stood = there.there.0 in
       let on = there.there.1 in
       let same : last_name to ≡ there.name = ap last_name there.is ∙ last_is there.above there.name in
-      let none = none_entered t.kept to (checked_apart (same_path from to) _ other can.empty) on.at (subst (λ p. Leads t.kept.pairs p on.at) (sym there.is) on.leads) in
+      let none = none_entered t.kept to (checked_apart (same_path from to) _ other can.empty) on.at (subst (λ p. PathLeadsTo t.kept.pairs p on.at) (sym there.is) on.leads) in
       let bare = bare_there t.kept.disk t.kept.pairs there.above there.name on.at first rests.held.sound.accepted (rests.held.sound.fits refl) (no_move_from t.kept.pairs rests.settled) on.leads on.begins none in
-      subst (λ n. CanShiftOver (with_history t.kept h) from to source slot first n) (sym (target.named ∙ same))
+      subst (λ n. CanMoveOntoDirectory (with_history t.kept h) from to source slot first n) (sym (target.named ∙ same))
       (record {
         can = can_shift there.above parent there.name (sym same) there.is stood.on;
         target = stood.stands;
@@ -151,7 +151,7 @@ module _ (t : State) (root : ℕ) (rests : IsAtRest t root) (from to : Path) (co
         alone = bare.alone;
       })
 
-  pub shift_found : (f : Found) (name : Name) → IsTarget t.kept to f name → CanShiftFound (with_history t.kept h) from to source f name
+  pub shift_found : (f : Found) (name : Name) → IsTarget t.kept to f name → CanMoveToTarget (with_history t.kept h) from to source f name
   shift_found found.Root name target = let k = sym can.target ∙ ap is_root target.leads.there in absurd (cc)
   shift_found found.ParentIsFile name target = let k = sym can.target_parents ∙ target.leads.parents in absurd (cc)
   shift_found found.ParentIsMissing name target = let k = sym can.target_parents ∙ target.leads.parents in absurd (cc)
@@ -162,7 +162,7 @@ module _ (t : State) (root : ℕ) (rests : IsAtRest t root) (from to : Path) (co
 -- ---- what comes of it
 
 module _ (t : State) (root : ℕ) (rests : IsAtRest t root) (from to : Path) (other : same_path from to ≡ false) (h : List Event) (c : Kept) (reads : OnlyReads t.kept.disk.blocks t.kept.history h) (w : WritesAmong (with_history t.kept h) c) where
-  shifted_at : (given to_given : List ℕ) → HasShifted (with_history t.kept h) from to c → faults c.history ≡ faults t.kept.history → as_path given ≡ from → as_path to_given ≡ to → AppliesOn t.kept (ops.Rename given to_given) c
+  shifted_at : (given to_given : List ℕ) → HasMovedEntry (with_history t.kept h) from to c → faults c.history ≡ faults t.kept.history → as_path given ≡ from → as_path to_given ≡ to → AppliesOn t.kept (ops.Rename given to_given) c
   shifted_at given to_given is quiet e f = carried t.kept h (ops.Rename given to_given) c
       (record {
         accepted = rests.held.sound.accepted;
@@ -183,19 +183,19 @@ module _ (t : State) (root : ℕ) (rests : IsAtRest t root) (from to : Path) (ot
   before = tree_in t.kept.disk t.kept.pairs
 
   -- all that is said of it
-  pub rename_does : (r : Result (Unit {0}) Error) (given to_given : List ℕ) → as_path given ≡ from → as_path to_given ≡ to → faults h ≡ faults t.kept.history → OnOk r (HasShifted (with_history t.kept h) from to new.kept)
+  pub rename_does : (r : Result (Unit {0}) Error) (given to_given : List ℕ) → as_path given ≡ from → as_path to_given ≡ to → faults h ≡ faults t.kept.history → OnOk r (HasMovedEntry (with_history t.kept h) from to new.kept)
       → ReportsFaultsSince h new.kept.history r → OnOk r (new.failed ≡ false) → SurvivesTo (with_history t.kept h) new.kept (renamed from to before) → IsOperationOn t (call.Rename from to) r new
   rename_does r given to_given named to_named quiet shifted reported works survives =
-      changed t new (HasDone t.kept (call.Rename from to)) (left_by (call.Rename from to) before) h w.blocks r quiet reads w.writes reported works (go r shifted (quiet_reported t.kept new.kept h r quiet reported))
+      changed t new (HasDoneCall t.kept (call.Rename from to)) (tree_left_by (call.Rename from to) before) h w.blocks r quiet reads w.writes reported works (go r shifted (quiet_reported t.kept new.kept h r quiet reported))
       (survives_behind t root rests h new.kept w.blocks (renamed from to before) reads w.writes survives)
     where
-      go : (r : Result (Unit {0}) Error) → OnOk r (HasShifted (with_history t.kept h) from to new.kept) → OnOk r (faults new.kept.history ≡ faults t.kept.history)
-          → OnOk r (HasDone t.kept (call.Rename from to) new.kept × StandsAs t.kept (left_by (call.Rename from to) before) new.kept)
+      go : (r : Result (Unit {0}) Error) → OnOk r (HasMovedEntry (with_history t.kept h) from to new.kept) → OnOk r (faults new.kept.history ≡ faults t.kept.history)
+          → OnOk r (HasDoneCall t.kept (call.Rename from to) new.kept × HasSoundTree t.kept (tree_left_by (call.Rename from to) before) new.kept)
       go (Err e) shifted same = tt
       go (Ok x) shifted same = (
         record {
           carries = does_rename (λ op. AppliesOn t.kept op new.kept) from to (λ given to_given e f. shifted_at t root rests from to other h new.kept reads w given to_given shifted same e f);
-          spares = does_rename (λ op. Spares t.kept op new.kept) from to (λ given to_given e f none files. shifted.alone (record { tree = tree_in t.kept.disk t.kept.pairs; files = files }) given to_given e f);
+          spares = does_rename (λ op. SparesOthers t.kept op new.kept) from to (λ given to_given e f none files. shifted.alone (record { tree = tree_in t.kept.disk t.kept.pairs; files = files }) given to_given e f);
         },
         rename_stands t.kept new.kept from to given to_given named to_named (shifted_at t root rests from to other h new.kept reads w given to_given shifted same named to_named) shifted.root,
       )

@@ -4,7 +4,7 @@ use Rattle.std.specs.Prelude.{Any, Contains}
 use Rattle.std.proofs.lemmas.Bool.{cases_lt}
 use Rattle.lfs_model.specs.BlockSets.{IsFree}
 use Rattle.lfs_model.specs.Frame.{HoldsSlot, LeavesAlone}
-use Rattle.lfs_model.specs.InDirectory.{Stands}
+use Rattle.lfs_model.specs.InDirectory.{HasNameAtPlace}
 use Rattle.lfs_model.specs.Names.{Name}
 use Rattle.lfs_model.specs.Operations as ops
 use Rattle.lfs_model.specs.Refusals.{as_path}
@@ -19,7 +19,7 @@ use Rattle.lfs_operations.specs.Changing.{WritesIn}
 use Rattle.lfs_thread.specs.Device.{four_of, two_of}
 use Rattle.lfs_thread.specs.Kept.{Kept}
 use Rattle.lfs_thread.specs.Steps.{pair_in}
-use Rattle.lfs_tree.specs.Shifting.{CanShift, HasSparedOthers}
+use Rattle.lfs_tree.specs.Moves.{CanMoveEntry, SparesOthersInMove}
 use Rattle.lfs_tree.specs.declared.renames_at.Source.{Source}
 use Rattle.lfs_lookup.specs.declared.search.Spot.{Spot}
 use Rattle.lfs_tree.proofs.Carried.{behind_below}
@@ -33,7 +33,7 @@ one_of_four a c b h = go (cases_lt 0 (count b (two_of a)))
     go (inl l) = inl (Contains-count (two_of a) b l)
     go (inr l) = inr (Contains-count (two_of c) b (let k = count-Contains (four_of a c) b h in let e = count_append b (two_of a) (two_of c) in omega (arith, l, k, e)))
 
-module _ (t new : Kept) (from to : Path) (source : Source) (name : Name) (can : CanShift t from to source name) (s : Session) (given to_given : List ℕ) (e : as_path given ≡ from) (f : as_path to_given ≡ to) where
+module _ (t new : Kept) (from to : Path) (source : Source) (name : Name) (can : CanMoveEntry t from to source name) (s : Session) (given to_given : List ℕ) (e : as_path given ≡ from) (f : as_path to_given ≡ to) where
   abbrev Concerned : ℕ → Type 0
   Concerned b = IsConcerned t.pairs (as_path given ∷ as_path to_given ∷ []) new.pairs b
 
@@ -54,7 +54,7 @@ module _ (t new : Kept) (from to : Path) (source : Source) (name : Name) (can : 
             (holds_slot t.pairs can.old.path can.old.at can.old.first can.old.name source.slot.pair source.slot.id can.old.ready.accepted.thread.distinct can.old.leads can.old.begins there),
       )
 
-  target_holds : (slot : Spot) → Stands t.pairs can.first name slot.pair slot.id → Holds (pair_in t slot.pair)
+  target_holds : (slot : Spot) → HasNameAtPlace t.pairs can.first name slot.pair slot.id → Holds (pair_in t slot.pair)
   target_holds slot there =
       subst Holds (sym (here t can.old.ready can.first slot.pair there.pair there.rest there.place)) (
         1,
@@ -71,7 +71,7 @@ module _ (t new : Kept) (from to : Path) (source : Source) (name : Name) (can : 
   source_concerned : (b : ℕ) → Contains (two_of (pair_in t source.slot.pair).at) b → Concerned b
   source_concerned = concerned source.slot.pair (behind_below t.pairs can.old.first source.slot.pair can.old.stands.pair can.old.stands.rest can.old.stands.place) source_holds
 
-  target_concerned : (slot : Spot) → Stands t.pairs can.first name slot.pair slot.id → (b : ℕ) → Contains (two_of (pair_in t slot.pair).at) b → Concerned b
+  target_concerned : (slot : Spot) → HasNameAtPlace t.pairs can.first name slot.pair slot.id → (b : ℕ) → Contains (two_of (pair_in t slot.pair).at) b → Concerned b
   target_concerned slot there = concerned slot.pair (behind_below t.pairs can.first slot.pair there.pair there.rest there.place) (target_holds slot there)
 
   -- the source's pair alone is written
@@ -94,7 +94,7 @@ module _ (t new : Kept) (from to : Path) (source : Source) (name : Name) (can : 
       each b (inr (inl k)) = inl (record { pair = pair_in t k.index; there = pair_there t.pairs k.index k.below; own = count-Contains (two_of (pair_in t k.index).at) b k.own; why = inr k.alters })
       each b (inr (inr free)) = inr free
 
-  both_concerned : (slot : Spot) → Stands t.pairs can.first name slot.pair slot.id → (b : ℕ) → Contains (four_of (pair_in t source.slot.pair).at (pair_in t slot.pair).at) b → Concerned b
+  both_concerned : (slot : Spot) → HasNameAtPlace t.pairs can.first name slot.pair slot.id → (b : ℕ) → Contains (four_of (pair_in t source.slot.pair).at (pair_in t slot.pair).at) b → Concerned b
   both_concerned slot there b h = go (one_of_four (pair_in t source.slot.pair).at (pair_in t slot.pair).at b h)
     where
       go : Contains (two_of (pair_in t source.slot.pair).at) b ⊎ Contains (two_of (pair_in t slot.pair).at) b → Concerned b
@@ -103,13 +103,13 @@ module _ (t new : Kept) (from to : Path) (source : Source) (name : Name) (can : 
 
 -- ---- a rename
 
-module _ (t new : Kept) (from to : Path) (source : Source) (name : Name) (can : CanShift t from to source name) where
-  pub spares_within : WritesIn t source.slot.pair new → HasSparedOthers t from to new
+module _ (t new : Kept) (from to : Path) (source : Source) (name : Name) (can : CanMoveEntry t from to source name) where
+  pub spares_within : WritesIn t source.slot.pair new → SparesOthersInMove t from to new
   spares_within w s given to_given e f = within_alone t new from to source name can s given to_given e f w
 
-  pub spares_one : AltersBut t (two_of (pair_in t source.slot.pair).at) new → HasSparedOthers t from to new
+  pub spares_one : AltersBut t (two_of (pair_in t source.slot.pair).at) new → SparesOthersInMove t from to new
   spares_one w s given to_given e f = rest_alone t new from to source name can s given to_given e f (two_of (pair_in t source.slot.pair).at) (source_concerned t new from to source name can s given to_given e f) w
 
-  pub spares_two : (slot : Spot) → Stands t.pairs can.first name slot.pair slot.id → AltersBut t (four_of (pair_in t source.slot.pair).at (pair_in t slot.pair).at) new → HasSparedOthers t from to new
+  pub spares_two : (slot : Spot) → HasNameAtPlace t.pairs can.first name slot.pair slot.id → AltersBut t (four_of (pair_in t source.slot.pair).at (pair_in t slot.pair).at) new → SparesOthersInMove t from to new
   spares_two slot there w s given to_given e f =
       rest_alone t new from to source name can s given to_given e f (four_of (pair_in t source.slot.pair).at (pair_in t slot.pair).at) (both_concerned t new from to source name can s given to_given e f slot there) w

@@ -3,7 +3,7 @@ use Rattle.std.proofs.Common.{ℕ, ◌≡◌, ◌≢◌, ◌⊎◌, inl, inr, �
 use Rattle.std.specs.Prelude.{OnOk, is_err}
 use Rattle.lfs_device.specs.declared.error.Error.{Error}
 use Rattle.lfs_model.specs.TreeEdits.{renamed, rest_after}
-use Rattle.lfs_model.specs.InDirectory.{Stands}
+use Rattle.lfs_model.specs.InDirectory.{HasNameAtPlace}
 use Rattle.lfs_model.specs.Names.{Name}
 use Rattle.lfs_model.specs.Slots.{Branch}
 use Rattle.lfs_model.specs.Tree.{Path}
@@ -17,8 +17,8 @@ use Rattle.lfs_operations.specs.RenamingOver.{CanRenameOntoDirectory, IsRenamedO
 use Rattle.lfs_thread.specs.Device.{four_of, two_of}
 use Rattle.lfs_thread.specs.Kept.{Kept, State}
 use Rattle.lfs_thread.specs.Steps.{IsOnlyRead, Writes, pair_in}
-use Rattle.lfs_tree.specs.Carrying.{SurvivesTo}
-use Rattle.lfs_tree.specs.Shifting.{CanShift, CanShiftOver, HasShifted, ReportsOfWork}
+use Rattle.lfs_tree.specs.TreeChanges.{SurvivesTo}
+use Rattle.lfs_tree.specs.Moves.{CanMoveEntry, CanMoveOntoDirectory, HasMovedEntry, ReportsOfWork}
 use Rattle.lfs_tree.specs.declared.renames_at.Source.{Source}
 use Rattle.lfs_lookup.specs.declared.search.Spot.{Spot}
 use Rattle.lfs_tree.proofs.Carried.{among_two, behind_below}
@@ -28,11 +28,11 @@ use Rattle.lfs_tree.proofs.ShiftedSlots.{none_gone, survives_at}
 
 -- what stands there, seen in the directory of another number
 record IsDirectoryAt (t : Kept) (first index id : ℕ) (name : Name) (at : ℕ × ℕ) : Type 0 where
-  target : Stands t.pairs first name index id
+  target : HasNameAtPlace t.pairs first name index id
   branch : target.stands.slot.struct ≡ Branch at
 
-module _ (t : Kept) (from to : Path) (source : Source) (slot : Spot) (gone : ℕ) (name : Name) (can : CanShiftOver t from to source slot gone name) where
-  abbrev shift : CanShift t from to source name
+module _ (t : Kept) (from to : Path) (source : Source) (slot : Spot) (gone : ℕ) (name : Name) (can : CanMoveOntoDirectory t from to source slot gone name) where
+  abbrev shift : CanMoveEntry t from to source name
   shift = can.can
 
   path_here : source.slot.pair ≡ slot.pair → to ≡ shift.old.path ++ name ∷ []
@@ -67,7 +67,7 @@ module _ (t : Kept) (from to : Path) (source : Source) (slot : Spot) (gone : ℕ
   over_survives_within new e gives = survives_at t new from to _ _ shift.old_is (path_here e) (gives (over_within e))
 
   pub over_done_within : (new : Kept) → source.slot.pair ≡ slot.pair → AltersBut t (two_of (pair_in t source.slot.pair).at) new
-      → ((rename : CanRenameOntoDirectory t source.slot.pair source.slot.id slot.id name gone) → IsRenamedOntoDirectory t new rename.over.can.path rename.over.can.name name) → HasShifted t from to new
+      → ((rename : CanRenameOntoDirectory t source.slot.pair source.slot.id slot.id name gone) → IsRenamedOntoDirectory t new rename.over.can.path rename.over.can.name name) → HasMovedEntry t from to new
   unfolding over_within
   over_done_within new e alters gives =
       let is : IsRenamedOntoDirectory t new shift.old.path shift.old.name name = gives (over_within e) in
@@ -116,7 +116,7 @@ module _ (t : Kept) (from to : Path) (source : Source) (slot : Spot) (gone : ℕ
   over_survives_apart new ne gives = survives_at t new from to _ _ shift.old_is shift.is (gives (over_apart ne))
 
   pub over_done_apart : (new : Kept) → source.slot.pair ≢ slot.pair → AltersBut t (four_of (pair_in t source.slot.pair).at (pair_in t slot.pair).at) new
-      → ((rename : CanReplaceDirectory t source.slot.pair source.slot.id source.first slot.pair slot.id name gone) → IsRenamedAcross t new rename.old.path rename.old.name rename.path name) → HasShifted t from to new
+      → ((rename : CanReplaceDirectory t source.slot.pair source.slot.id source.first slot.pair slot.id name gone) → IsRenamedAcross t new rename.old.path rename.old.name rename.path name) → HasMovedEntry t from to new
   unfolding over_apart
   over_done_apart new ne alters gives =
       let is : IsRenamedAcross t new shift.old.path shift.old.name shift.above name = gives (over_apart ne) in

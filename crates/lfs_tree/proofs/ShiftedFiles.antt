@@ -3,12 +3,12 @@ use Rattle.std.proofs.Common.{ℕ, ◌≡◌, ◌≢◌, ◌⊎◌, ◌<◌, ◌
 use Rattle.std.specs.Prelude.{IfErr, OnOk, is_err}
 use Rattle.lfs_device.specs.declared.error.Error.{Error}
 use Rattle.lfs_device.specs.declared.error.Error.TheVariants.{Io, NoMemory}
-use Rattle.lfs_writer.specs.Settling.{IsReadBesideMap}
-use Rattle.lfs_writer.specs.Standing.{ReportsWork}
+use Rattle.lfs_writer.specs.SettledFiles.{IsReadBesideMap}
+use Rattle.lfs_writer.specs.ThreadContents.{ReportsWork}
 use Rattle.lfs_model.specs.Frame.{LeavesAlone}
 use Rattle.lfs_model.specs.Thread.{superblocks_before}
 use Rattle.lfs_model.specs.TreeEdits.{renamed, rest_after}
-use Rattle.lfs_model.specs.InDirectory.{Stands}
+use Rattle.lfs_model.specs.InDirectory.{HasNameAtPlace}
 use Rattle.lfs_model.specs.Names.{Name}
 use Rattle.lfs_model.specs.Operations as ops
 use Rattle.lfs_model.specs.Slots.{Struct}
@@ -27,9 +27,9 @@ use Rattle.lfs_operations.specs.Renaming.{CanRenameOnto, IsRenamedOnto, with_ren
 use Rattle.lfs_thread.specs.Device.{four_of}
 use Rattle.lfs_thread.specs.Kept.{Kept, State}
 use Rattle.lfs_thread.specs.Steps.{pair_in}
-use Rattle.lfs_tree.specs.Carrying.{SurvivesTo}
+use Rattle.lfs_tree.specs.TreeChanges.{SurvivesTo}
 use Rattle.lfs_lookup.specs.Entry.{ShowsContents}
-use Rattle.lfs_tree.specs.Shifting.{CanShift, CanShiftOnto, HasShifted, HasShiftedOnto, ReportsOfWork}
+use Rattle.lfs_tree.specs.Moves.{CanMoveEntry, CanMoveOntoFile, HasMovedEntry, HasMovedOntoFile, ReportsOfWork}
 use Rattle.lfs_tree.specs.declared.renames_at.Source.{Source}
 use Rattle.lfs_lookup.specs.declared.entry.FileStorage.{FileStorage}
 use Rattle.lfs_lookup.specs.declared.entry.FileStorage.TheVariants as shown
@@ -44,15 +44,15 @@ use Rattle.lfs_tree.proofs.ShiftedSlots.{across_written, apart_across, file_besi
 
 -- what stands there, seen in the directory of another number
 record IsFileAt (t : Kept) (first index id : ℕ) (name : Name) (contents : FileStorage) : Type 0 where
-  target : Stands t.pairs first name index id
+  target : HasNameAtPlace t.pairs first name index id
   shows : ShowsContents contents target.stands.slot.struct
 
 file_branch : (c : FileStorage) (s : Struct) → ShowsContents c s → branch_of s ≡ None
 file_branch (shown.Inline len) s h = ap branch_of h.1.0
 file_branch (shown.List head size) s h = ap branch_of h
 
-module _ (t : Kept) (from to : Path) (source : Source) (slot : Spot) (contents : FileStorage) (name : Name) (can : CanShiftOnto t from to source slot contents name) where
-  abbrev shift : CanShift t from to source name
+module _ (t : Kept) (from to : Path) (source : Source) (slot : Spot) (contents : FileStorage) (name : Name) (can : CanMoveOntoFile t from to source slot contents name) where
+  abbrev shift : CanMoveEntry t from to source name
   shift = can.can
 
   -- the file's slot, as one that may be edited
@@ -106,7 +106,7 @@ module _ (t : Kept) (from to : Path) (source : Source) (slot : Spot) (contents :
   onto_survives_within new e gives = survives_at t new from to _ _ shift.old_is (path_here e) (gives (replace_within e))
 
   pub onto_within : (new : Kept) → source.slot.pair ≡ slot.pair → WritesIn t source.slot.pair new
-      → ((rename : CanRenameOnto t source.slot.pair source.slot.id slot.id name) → IsRenamedOnto t new rename.can.path rename.can.name name rename.target.stands.slot.struct) → HasShiftedOnto t from to contents new
+      → ((rename : CanRenameOnto t source.slot.pair source.slot.id slot.id name) → IsRenamedOnto t new rename.can.path rename.can.name name rename.target.stands.slot.struct) → HasMovedOntoFile t from to contents new
   unfolding replace_within within_edit
   onto_within new e w gives =
       let there = file_here e in
@@ -150,7 +150,7 @@ module _ (t : Kept) (from to : Path) (source : Source) (slot : Spot) (contents :
   below_target = behind_below t.pairs shift.first slot.pair can.target.pair can.target.rest can.target.place
 
   pub onto_apart : (new : Kept) → source.slot.pair ≢ slot.pair → WritesInTwo t (left_at t source.slot.pair source.first) slot.pair new → AltersBut t (four_of (pair_in t source.slot.pair).at (pair_in t slot.pair).at) new
-      → ((rename : CanReplaceAcross t source.slot.pair source.slot.id source.first slot.pair slot.id name) → IsReplacedAcross t new rename.old.path rename.old.name rename.path name rename.target.stands.slot.struct) → HasShiftedOnto t from to contents new
+      → ((rename : CanReplaceAcross t source.slot.pair source.slot.id source.first slot.pair slot.id name) → IsReplacedAcross t new rename.old.path rename.old.name rename.path name rename.target.stands.slot.struct) → HasMovedOntoFile t from to contents new
   unfolding replace_apart target_edit
   onto_apart new ne w alters gives =
       let is : IsReplacedAcross t new shift.old.path shift.old.name shift.above name can.target.stands.slot.struct = gives (replace_apart ne) in
@@ -169,7 +169,7 @@ module _ (t : Kept) (from to : Path) (source : Source) (slot : Spot) (contents :
 
 -- ---- the file's list is freed behind it
 
-pub onto_done : (t mid new : Kept) (from to : Path) (contents : FileStorage) → HasShiftedOnto t from to contents mid → IsReadBesideMap mid new → IsReady new → SameInFlight mid.map new.map → HasShifted t from to new
+pub onto_done : (t mid new : Kept) (from to : Path) (contents : FileStorage) → HasMovedOntoFile t from to contents mid → IsReadBesideMap mid new → IsReady new → SameInFlight mid.map new.map → HasMovedEntry t from to new
 onto_done t mid new from to contents is only ready flying = record {
   ready = ready;
   flying = λ b. ((λ h. (is.flying b).0 ((flying b).0 h)), (λ h. (flying b).1 ((is.flying b).1 h)));
@@ -210,7 +210,7 @@ reported_of {X} {Y} old new e result given is same t = record {
     error_is : {Z : Type 0} (a b : Error) (r : Result Z Error) → r ≡ Err a → r ≡ Err b → a ≡ b
     error_is a b r h k = cc
 
-pub onto_survives : (t mid new : Kept) (from to : Path) (contents : FileStorage) → WritesAmong t mid → HasShiftedOnto t from to contents mid → IsReadBesideMap mid new → SurvivesTo t mid (renamed from to (tree_in t.disk t.pairs))
+pub onto_survives : (t mid new : Kept) (from to : Path) (contents : FileStorage) → WritesAmong t mid → HasMovedOntoFile t from to contents mid → IsReadBesideMap mid new → SurvivesTo t mid (renamed from to (tree_in t.disk t.pairs))
     → SurvivesTo t new (renamed from to (tree_in t.disk t.pairs))
 onto_survives t mid new from to contents w is only k =
     survives_left t mid new.history (renamed from to (tree_in t.disk t.pairs)) (shape_geometry t mid w.writes.shape) w.writes.at_worst is.free.ready.accepted is.free.ready.writable is.shows only.reads k

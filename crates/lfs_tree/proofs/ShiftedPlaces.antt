@@ -1,21 +1,21 @@
 -- An entry that takes the place of another one, whose slot is of the same pair.
 use Rattle.std.proofs.Common.{◌≡◌, ◌≢◌, ◌∙◌, ◌++◌, [], ◌∷◌, append-nil, Some, None, sym, ap, subst}
 use Rattle.lfs_model.specs.TreeEdits.{rest_after}
-use Rattle.lfs_model.specs.InDirectory.{IsBehind, Stands}
+use Rattle.lfs_model.specs.InDirectory.{IsPairOfDirectory, HasNameAtPlace}
 use Rattle.lfs_model.specs.Names.{Name}
 use Rattle.lfs_model.specs.Tree.{Path}
 use Rattle.lfs_model.proofs.Paths.{rest_itself}
 use Rattle.lfs_thread.specs.Kept.{Kept}
-use Rattle.lfs_tree.specs.Shifting.{CanShift}
+use Rattle.lfs_tree.specs.Moves.{CanMoveEntry}
 use Rattle.lfs_tree.specs.declared.renames_at.Source.{Source}
 use Rattle.lfs_lookup.specs.declared.search.Spot.{Spot}
 use Rattle.lfs_tree.proofs.SameDirectory.{same_above, same_first}
 
-module _ (t : Kept) (from to : Path) (source : Source) (slot : Spot) (name : Name) (can : CanShift t from to source name) (target : Stands t.pairs can.first name slot.pair slot.id) (e : source.slot.pair ≡ slot.pair) where
+module _ (t : Kept) (from to : Path) (source : Source) (slot : Spot) (name : Name) (can : CanMoveEntry t from to source name) (target : HasNameAtPlace t.pairs can.first name slot.pair slot.id) (e : source.slot.pair ≡ slot.pair) where
   pub one_place : can.first ≡ can.old.first
   one_place = same_first t.disk t.pairs can.above can.old.path can.on.at can.old.at can.first can.old.first slot.pair target.pair can.old.stands.pair target.rest can.old.stands.rest
       can.old.ready.accepted can.on.leads can.on.begins can.old.leads can.old.begins target.place
-      (subst (λ i. IsBehind t.pairs can.old.first i can.old.stands.pair can.old.stands.rest) e can.old.stands.place)
+      (subst (λ i. IsPairOfDirectory t.pairs can.old.first i can.old.stands.pair can.old.stands.rest) e can.old.stands.place)
 
   one_above : can.above ≡ can.old.path
   one_above = same_above t.disk t.pairs can.above can.old.path can.on.at can.old.at can.first can.old.first can.old.ready.accepted can.on.leads can.on.begins can.old.leads can.old.begins one_place

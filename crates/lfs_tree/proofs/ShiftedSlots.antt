@@ -11,7 +11,7 @@ use Rattle.lfs_model.specs.BlockSets.{IsFree, IsUsed}
 use Rattle.lfs_model.specs.BlockSets.BlockState.{Free, Used}
 use Rattle.lfs_model.specs.Changes.{Change}
 use Rattle.lfs_model.specs.Disk.{block_at}
-use Rattle.lfs_model.specs.InDirectory.{Belongs, IsBehind}
+use Rattle.lfs_model.specs.InDirectory.{BelongsInDirectory, IsPairOfDirectory}
 use Rattle.lfs_model.specs.Names.{Name}
 use Rattle.lfs_model.specs.Slots.{Slot}
 use Rattle.lfs_model.specs.Thread.{blocks_of}
@@ -29,13 +29,13 @@ use Rattle.lfs_operations.specs.MoveEnds.{end_at}
 use Rattle.lfs_operations.specs.MovingSteps.{ReportsInSteps, WritesInTwo, left_at, WritesAmong}
 use Rattle.lfs_operations.specs.MovingAcross.{CanRenameAcross, IsRenamedAcross, with_moved}
 use Rattle.lfs_operations.specs.Ready.{IsReady, IsReadyBut}
-use Rattle.lfs_operations.specs.Removing.{goes_whole}
+use Rattle.lfs_operations.specs.Removing.{drops_pair}
 use Rattle.lfs_operations.specs.Renaming.{CanRename, IsRenamed, ReportsMove, with_renamed}
 use Rattle.lfs_thread.specs.Device.{two_of}
 use Rattle.lfs_thread.specs.Kept.{Kept, State}
 use Rattle.lfs_thread.specs.Steps.{Writes, pair_in}
-use Rattle.lfs_tree.specs.Carrying.{SurvivesTo}
-use Rattle.lfs_tree.specs.Shifting.{CanShift, CanShiftTo, HasShifted, ReportsOfWork}
+use Rattle.lfs_tree.specs.TreeChanges.{SurvivesTo}
+use Rattle.lfs_tree.specs.Moves.{CanMoveEntry, CanMoveToPlace, HasMovedEntry, ReportsOfWork}
 use Rattle.lfs_tree.specs.declared.renames_at.Source.{Source}
 use Rattle.lfs_lookup.specs.declared.search.Spot.{Spot}
 use Rattle.lfs_tree.proofs.Carried.{among_one, among_two, behind_below, pair_blocks}
@@ -86,7 +86,7 @@ reported_across old new index changes r room t = record {
 
 -- ---- which blocks are written
 
-pub apart_within : (t : Kept) (from to : Path) (source : Source) (name : Name) (new : Kept) → CanShift t from to source name → WritesIn t source.slot.pair new → WritesAmong t new
+pub apart_within : (t : Kept) (from to : Path) (source : Source) (name : Name) (new : Kept) → CanMoveEntry t from to source name → WritesIn t source.slot.pair new → WritesAmong t new
 apart_within t from to source name new can w = record {
   blocks = _;
   writes = w.writes;
@@ -105,29 +105,29 @@ IsBeside t c = (1 ≤ count c (blocks_of t.pairs)) ⊎ IsFree t.map c
 all_free : (t : Kept) (fresh : List ℕ) → AllByRecursion (IsFree t.map) fresh → Each (IsBeside t) fresh
 all_free t fresh h = each_weaker (IsFree t.map) (IsBeside t) (λ c f. inr f) fresh h
 
-source_below : (t : Kept) (from to : Path) (source : Source) (name : Name) → CanShift t from to source name → source.slot.pair < length t.pairs
+source_below : (t : Kept) (from to : Path) (source : Source) (name : Name) → CanMoveEntry t from to source name → source.slot.pair < length t.pairs
 source_below t from to source name can = behind_below t.pairs can.old.first source.slot.pair can.old.stands.pair can.old.stands.rest can.old.stands.place
 
-pub within_written : (t : Kept) (from to : Path) (source : Source) (name : Name) (new : Kept) → CanShift t from to source name → (w : WritesIn t source.slot.pair new)
+pub within_written : (t : Kept) (from to : Path) (source : Source) (name : Name) (new : Kept) → CanMoveEntry t from to source name → (w : WritesIn t source.slot.pair new)
     → Each (IsBeside t) ((pair_in t source.slot.pair).at.0 ∷ (pair_in t source.slot.pair).at.1 ∷ w.fresh)
 within_written t from to source name new can w = let k = in_pair t source.slot.pair (source_below t from to source name can) in (inl k.0, (inl k.1, all_free t w.fresh w.free))
 
 -- the pair that the second step writes
 left_below : (t : Kept) (index first : ℕ) → index < length t.pairs → left_at t index first < length t.pairs
-left_below t index first below = go (goes_whole t index first)
+left_below t index first below = go (drops_pair t index first)
   where
     go : (b : Bool) → end_at index b < length t.pairs
     go true = omega arith
     go false = below
 
-pub across_written : (t : Kept) (from to : Path) (source : Source) (name : Name) (other : ℕ) (new : Kept) → CanShift t from to source name → other < length t.pairs → (w : WritesInTwo t (left_at t source.slot.pair source.first) other new)
+pub across_written : (t : Kept) (from to : Path) (source : Source) (name : Name) (other : ℕ) (new : Kept) → CanMoveEntry t from to source name → other < length t.pairs → (w : WritesInTwo t (left_at t source.slot.pair source.first) other new)
     → (let one = left_at t source.slot.pair source.first in Each (IsBeside t) ((pair_in t other).at.0 ∷ (pair_in t other).at.1 ∷ (pair_in t one).at.0 ∷ (pair_in t one).at.1 ∷ w.fresh))
 across_written t from to source name other new can below w =
     let k = in_pair t other below in
     let l = in_pair t (left_at t source.slot.pair source.first) (left_below t source.slot.pair source.first (source_below t from to source name can)) in
     (inl k.0, (inl k.1, (inl l.0, (inl l.1, all_free t w.fresh w.free))))
 
-pub apart_across : (t : Kept) (from to : Path) (source : Source) (name : Name) (other : ℕ) (new : Kept) → CanShift t from to source name → other < length t.pairs → WritesInTwo t (left_at t source.slot.pair source.first) other new → WritesAmong t new
+pub apart_across : (t : Kept) (from to : Path) (source : Source) (name : Name) (other : ℕ) (new : Kept) → CanMoveEntry t from to source name → other < length t.pairs → WritesInTwo t (left_at t source.slot.pair source.first) other new → WritesAmong t new
 apart_across t from to source name other new can below w = record {
   blocks = _;
   writes = w.writes;
@@ -174,19 +174,19 @@ shows_at t new from to p q e f k = k ∙ ap₂ (λ a b. renamed a b (tree_in t.d
 
 -- ---- a name that isn't there
 
-module _ (t : Kept) (from to : Path) (source : Source) (place : Spot) (name : Name) (can : CanShiftTo t from to source place name) where
-  abbrev shift : CanShift t from to source name
+module _ (t : Kept) (from to : Path) (source : Source) (place : Spot) (name : Name) (can : CanMoveToPlace t from to source place name) where
+  abbrev shift : CanMoveEntry t from to source name
   shift = can.can
 
   one_directory : source.slot.pair ≡ place.pair → shift.first ≡ shift.old.first
   one_directory e = same_first t.disk t.pairs shift.above shift.old.path shift.on.at shift.old.at shift.first shift.old.first place.pair can.belongs.pair shift.old.stands.pair _ shift.old.stands.rest
       shift.old.ready.accepted shift.on.leads shift.on.begins shift.old.leads shift.old.begins can.belongs.place
-      (subst (λ i. IsBehind t.pairs shift.old.first i shift.old.stands.pair shift.old.stands.rest) e shift.old.stands.place)
+      (subst (λ i. IsPairOfDirectory t.pairs shift.old.first i shift.old.stands.pair shift.old.stands.rest) e shift.old.stands.place)
 
   pub rename_within : source.slot.pair ≡ place.pair → CanRename t source.slot.pair source.slot.id place.id name
   rename_within e = record {
     can = shift.old;
-    belongs = subst (λ i. Belongs t.disk.order t.pairs shift.old.first name i place.id) (sym e) (subst (λ f. Belongs t.disk.order t.pairs f name place.pair place.id) (one_directory e) can.belongs);
+    belongs = subst (λ i. BelongsInDirectory t.disk.order t.pairs shift.old.first name i place.id) (sym e) (subst (λ f. BelongsInDirectory t.disk.order t.pairs f name place.pair place.id) (one_directory e) can.belongs);
     is_name = shift.is_name;
     fits = shift.fits;
   }
@@ -199,7 +199,7 @@ module _ (t : Kept) (from to : Path) (source : Source) (place : Spot) (name : Na
   unfolding rename_within
   survives_within new e gives = survives_at t new from to _ _ shift.old_is (path_is e) (gives (rename_within e))
 
-  pub shifted_within : (new : Kept) → source.slot.pair ≡ place.pair → WritesIn t source.slot.pair new → ((rename : CanRename t source.slot.pair source.slot.id place.id name) → IsRenamed t new rename.can.path rename.can.name name) → HasShifted t from to new
+  pub shifted_within : (new : Kept) → source.slot.pair ≡ place.pair → WritesIn t source.slot.pair new → ((rename : CanRename t source.slot.pair source.slot.id place.id name) → IsRenamed t new rename.can.path rename.can.name name) → HasMovedEntry t from to new
   unfolding rename_within
   shifted_within new e w gives =
       let is : IsRenamed t new shift.old.path shift.old.name name = gives (rename_within e) in
@@ -236,7 +236,7 @@ module _ (t : Kept) (from to : Path) (source : Source) (place : Spot) (name : Na
   survives_apart new ne gives = survives_at t new from to _ _ shift.old_is shift.is (gives (rename_apart ne))
 
   pub shifted_apart : (new : Kept) → source.slot.pair ≢ place.pair → AltersBut t (two_of (pair_in t source.slot.pair).at) new → ((rename : CanRenameAcross t source.slot.pair source.slot.id source.first place.pair place.id name) → IsRenamedAcross t new rename.old.path rename.old.name rename.path name)
-      → HasShifted t from to new
+      → HasMovedEntry t from to new
   unfolding rename_apart
   shifted_apart new ne alters gives =
       let is : IsRenamedAcross t new shift.old.path shift.old.name shift.above name = gives (rename_apart ne) in

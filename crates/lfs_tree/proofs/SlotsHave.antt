@@ -9,7 +9,7 @@ use Rattle.lfs_model.specs.Slots.{Slot, Struct, Inline, Ctz, Branch}
 use Rattle.lfs_model.specs.Thread.{Pair, root_of}
 use Rattle.lfs_model.specs.Tree.{Path, branch_of, child_of, entry_named, root_slot, slot_at}
 use Rattle.lfs_model.specs.View.{IsAccepted}
-use Rattle.lfs_model.specs.Shown.{Leads, all_slots, entries_in}
+use Rattle.lfs_model.specs.Shown.{PathLeadsTo, all_slots, entries_in}
 use Rattle.lfs_model.proofs.Counts.{Each}
 use Rattle.lfs_model.proofs.Walks.{walk_on}
 use Rattle.lfs_lookup.proofs.AtPaths.{each_found}
@@ -23,7 +23,7 @@ module _ (P : Slot → Type 0) (disk : Disk) (ps : List Pair) (ok : IsAccepted d
       go (Inline bytes) e = absurd (let k = sym (ap (λ z. option_and_then (λ at. entry_named n (entries_in ps at)) (branch_of z)) e) ∙ child in cc)
       go (Ctz head size) e = absurd (let k = sym (ap (λ z. option_and_then (λ at. entry_named n (entries_in ps at)) (branch_of z)) e) ∙ child in cc)
       go (Branch to) e =
-          let leads : Leads ps above to = ap (λ o. option_and_then (λ (f : Slot). branch_of f.struct) o) at ∙ ap branch_of e in
+          let leads : PathLeadsTo ps above to = ap (λ o. option_and_then (λ (f : Slot). branch_of f.struct) o) at ∙ ap branch_of e in
           each_found P n (entries_in ps to) c (each_entry P disk ps above to ok leads all)
           (sym (ap (λ z. option_and_then (λ at. entry_named n (entries_in ps at)) (branch_of z)) e) ∙ child)
 

@@ -22,22 +22,22 @@ use Rattle.lfs_model.proofs.AfterStops.{survives_then}
 use Rattle.lfs_model.proofs.Arranged.{arranged_after, recovered_stays}
 use Rattle.lfs_model.proofs.Committed.{recovered_from}
 use Rattle.lfs_model.proofs.Histories.{LeavesOnly-weaker, LeavesOnly-worst}
-use Rattle.lfs_writer.specs.Standing.{CanFinish, HoldsContents, LeavesPairsAndUsed, held_in}
+use Rattle.lfs_writer.specs.ThreadContents.{CanFinish, HoldsContents, LeavesPairsAndUsed, list_blocks_of}
 use Rattle.lfs_thread.specs.Kept.{Kept, State}
 use Rattle.lfs_tree.proofs.LeftAlone.{pair_of_alone}
-use Rattle.lfs_tree.specs.Carrying.{HasCalled, IsAtRest, SurvivesTo, ReportsError}
-use Rattle.lfs_tree.specs.Held.{IsHeld, tree_state_of, seen_thread}
+use Rattle.lfs_tree.specs.TreeChanges.{HasFurtherCalls, IsAtRest, SurvivesTo, ReportsError}
+use Rattle.lfs_tree.specs.RootedThreads.{IsRootedUnlessFailed, tree_state_of, tree_state_of_thread}
 use Rattle.lfs_tree.proofs.Asking.{seen_working}
-use Rattle.lfs_tree.specs.KeepsFiles.{KeepsOthers}
-use Rattle.lfs_tree.specs.OpenContents.{CanStoreAt, IsArrangedBy, IsSettleable, IsStoredAt, bytes_held, kept_of}
+use Rattle.lfs_tree.specs.KeptFiles.{KeepsOthers}
+use Rattle.lfs_tree.specs.OpenContents.{CanStoreAt, IsArrangedBy, FitsInlineLimit, IsStoredAt, bytes_held, kept_of}
 use Rattle.lfs_tree.specs.TreeState.{IsSound, TreeState, tree_view}
-use Rattle.lfs_tree.specs.Storing.{CanCommit, HasCommitted, HasStored, IsFinished, IsLaidBy, ChangesPairOf}
+use Rattle.lfs_tree.specs.Stores.{CanCommit, HasCommitted, HasStored, IsFinished, IsLaidOutBy, ChangesPairOf}
 use Rattle.lfs_tree.proofs.BesideWritten.{accepted_beside, bytes_of_held, geometry_beside, left_beside, over_beside, rooted_beside, tree_beside}
 use Rattle.lfs_tree.proofs.UsedBlocks.{count_is}
 use Rattle.lfs_writer.specs.Contents.{bytes_in, end_room, finished, form_of}
 use Rattle.lfs_writer.specs.Form as form
 use Rattle.lfs_writer.specs.Form.{Form}
-use Rattle.lfs_writer.specs.Owned.{AreOwned}
+use Rattle.lfs_writer.specs.BlockOwners.{AreOwned}
 use Rattle.lfs_writer.specs.declared.contents.Contents.{Contents}
 
 -- ---- calls, one after another
@@ -46,10 +46,10 @@ pub each_any : (events : List Event) → EachEvent (λ e. Unit {0}) events
 each_any [] = tt
 each_any (e ∷ events) = (tt, each_any events)
 
-pub called_beside_image : (a b : Kept) → LeavesPairsAndUsed a b → HasCalled a b
+pub called_beside_image : (a b : Kept) → LeavesPairsAndUsed a b → HasFurtherCalls a b
 called_beside_image a b l = record { geometry = geometry_beside a b l; calls = l.at_worst.events; called = l.at_worst.extends }
 
-pub called_then : (a b c : Kept) → HasCalled a b → HasCalled b c → HasCalled a c
+pub called_then : (a b c : Kept) → HasFurtherCalls a b → HasFurtherCalls b c → HasFurtherCalls a c
 called_then a b c k m = record {
   geometry = record { block_size = m.geometry.block_size ∙ k.geometry.block_size; page = m.geometry.page ∙ k.geometry.page; order = m.geometry.order ∙ k.geometry.order; count = m.geometry.count ∙ k.geometry.count };
   calls = m.calls ++ k.calls;
@@ -69,7 +69,7 @@ errors_then a b c (Err e) same t = record {
 room_on : (t : Kept) → IsSound (tree_state_of t true false) → (need : ℕ) → length (used_blocks t.disk t.pairs) + need ≤ block_count t.disk → used_count t.map + need ≤ length t.map
 room_on t sound need room = let e = count_is (tree_state_of t true false) sound in let s = sound.size in omega arith
 
-finished_form : (limit : ℕ) (f : Form) → IsSettleable limit f → IsFinished limit (finished f)
+finished_form : (limit : ℕ) (f : Form) → FitsInlineLimit limit f → IsFinished limit (finished f)
 finished_form limit (form.InMemory size) h = h
 finished_form limit (form.Finished size flying) h = h
 finished_form limit (form.InHand stop base flying) h = h
@@ -89,7 +89,7 @@ module _ (t : State) (root : ℕ) (rests : IsAtRest t root) (path : Path) (conte
     pub survives_beside : (after : Tree) → SurvivesTo t.kept b.kept after
     survives_beside after clean = LeavesOnly-weaker (λ blocks spared. left_beside t.kept blocks sound.accepted (sound.fits refl) sound.used spared) (LeavesOnly-worst leaves.at_worst)
 
-    module _ (c : Contents) (holds : HoldsContents b.kept c (bytes_in t.kept.disk.blocks t.kept.disk.block_size contents) (finished (form_of contents))) (owned : AreOwned b.kept.map (held_in t.kept contents) (held_in b.kept c)) where
+    module _ (c : Contents) (holds : HoldsContents b.kept c (bytes_in t.kept.disk.blocks t.kept.disk.block_size contents) (finished (form_of contents))) (owned : AreOwned b.kept.map (list_blocks_of t.kept contents) (list_blocks_of b.kept c)) where
       bytes_same : bytes_held b.kept c ≡ bytes_held t.kept contents
       bytes_same = bytes_of_held b.kept c (bytes_in t.kept.disk.blocks t.kept.disk.block_size contents) (finished (form_of contents)) holds
 
@@ -118,7 +118,7 @@ module _ (t : State) (root : ℕ) (rests : IsAtRest t root) (path : Path) (conte
       turn_same = ap (λ (x : Tree). change_at path (with_bytes (bytes_held b.kept c)) x) tree_same ∙ ap (λ z. change_at path (with_bytes z) (tree_in t.kept.disk t.kept.pairs)) bytes_same
 
       -- seen from before the end of the list
-      arranged_before : (new : Kept) (op : ℕ → Operation) → IsLaidBy b.kept path (bytes_held b.kept c) op new → IsArrangedBy (tree_state_of t.kept true false) path (bytes_held t.kept contents) op (tree_state_of new true false)
+      arranged_before : (new : Kept) (op : ℕ → Operation) → IsLaidOutBy b.kept path (bytes_held b.kept c) op new → IsArrangedBy (tree_state_of t.kept true false) path (bytes_held t.kept contents) op (tree_state_of new true false)
       arranged_before new op laid files fd writer wr =
           let s : Session = record { tree = tree_in t.kept.disk t.kept.pairs; files = files } in
           let stays = recovered_stays t.kept.disk t.kept.pairs (record { tree = tree_in t.kept.disk t.kept.pairs; files = files }) sound.accepted (sound.fits refl) rests.settled in
@@ -140,7 +140,7 @@ module _ (t : State) (root : ℕ) (rests : IsAtRest t root) (path : Path) (conte
             k.others x ((rests_beside.held.sound.used x).0 (leaves.map.stays x is)) first second ∙ leaves.spared.same x is;
       }
 
-      stored_before : (new : Kept) → HasCalled t.kept new → faults new.history ≡ faults t.kept.history → HasCommitted b.kept path (bytes_held b.kept c) new → HasStored t.kept path (bytes_held t.kept contents) new
+      stored_before : (new : Kept) → HasFurtherCalls t.kept new → faults new.history ≡ faults t.kept.history → HasCommitted b.kept path (bytes_held b.kept c) new → HasStored t.kept path (bytes_held t.kept contents) new
       stored_before new called quiet k = record {
         works = refl;
         sound = k.sound;
@@ -160,11 +160,11 @@ module _ (t : State) (root : ℕ) (rests : IsAtRest t root) (path : Path) (conte
         none_in_flight = k.none_in_flight;
       }
 
-      pub all_stored : (new : Kept) (r : Result (Unit {0}) Error) → HasCalled t.kept new → faults b.kept.history ≡ faults t.kept.history → OnOk r (faults new.history ≡ faults b.kept.history) → OnOk r (HasCommitted b.kept path (bytes_held b.kept c) new) → OnOk r (HasStored t.kept path (bytes_held t.kept contents) new)
+      pub all_stored : (new : Kept) (r : Result (Unit {0}) Error) → HasFurtherCalls t.kept new → faults b.kept.history ≡ faults t.kept.history → OnOk r (faults new.history ≡ faults b.kept.history) → OnOk r (HasCommitted b.kept path (bytes_held b.kept c) new) → OnOk r (HasStored t.kept path (bytes_held t.kept contents) new)
       all_stored new (Ok u) called same quiet k = stored_before new called (quiet ∙ same) k
       all_stored new (Err e) called same quiet k = tt
 
-      pub survives_then_commit : (new : Kept) → HasCalled b.kept new → SurvivesTo b.kept new (change_at path (with_bytes (bytes_held b.kept c)) (tree_in b.kept.disk b.kept.pairs))
+      pub survives_then_commit : (new : Kept) → HasFurtherCalls b.kept new → SurvivesTo b.kept new (change_at path (with_bytes (bytes_held b.kept c)) (tree_in b.kept.disk b.kept.pairs))
           → SurvivesTo t.kept new (change_at path (with_bytes (bytes_held t.kept contents)) (tree_in t.kept.disk t.kept.pairs))
       survives_then_commit new called k =
           let second : EachSince (λ e. Unit {0}) b.kept.history new.history = record { events = called.calls; extends = called.called; each = each_any called.calls } in
@@ -178,14 +178,14 @@ module _ (t : State) (root : ℕ) (rests : IsAtRest t root) (path : Path) (conte
 
 -- ---- seen from a tree
 
-module _ (thread : State) (root : ℕ) (writable : Bool) (now : TreeState) (kept : IsHeld thread root writable) (view : seen_thread thread writable ≡ now) (works : now.failed ≡ false) (may : now.writable ≡ true) (path : Path) (contents : Contents) where
-  stored_working : (new : State) → new.failed ≡ false → HasStored thread.kept path (bytes_held thread.kept contents) new.kept → IsStoredAt now path (bytes_held (kept_of now) contents) (seen_thread new writable)
+module _ (thread : State) (root : ℕ) (writable : Bool) (now : TreeState) (kept : IsRootedUnlessFailed thread root writable) (view : tree_state_of_thread thread writable ≡ now) (works : now.failed ≡ false) (may : now.writable ≡ true) (path : Path) (contents : Contents) where
+  stored_working : (new : State) → new.failed ≡ false → HasStored thread.kept path (bytes_held thread.kept contents) new.kept → IsStoredAt now path (bytes_held (kept_of now) contents) (tree_state_of_thread new writable)
   stored_working new still k =
       subst (λ a. IsStoredAt now path (bytes_held (kept_of now) contents) (tree_state_of new.kept a new.failed)) (sym (ap (λ (s : TreeState). s.writable) view ∙ may))
       (subst (λ b. IsStoredAt now path (bytes_held (kept_of now) contents) (tree_state_of new.kept true b)) (sym still)
       (subst (λ (s : TreeState). IsStoredAt s path (bytes_held (kept_of s) contents) (tree_state_of new.kept true false)) (sym (seen_working thread root writable now kept view works may)) k))
 
-  pub all_stored_working : (r : Result (Unit {0}) Error) (new : State) → OnOk r (HasStored thread.kept path (bytes_held thread.kept contents) new.kept) → OnOk r (new.failed ≡ false) → OnOk r (IsStoredAt now path (bytes_held (kept_of now) contents) (seen_thread new writable))
+  pub all_stored_working : (r : Result (Unit {0}) Error) (new : State) → OnOk r (HasStored thread.kept path (bytes_held thread.kept contents) new.kept) → OnOk r (new.failed ≡ false) → OnOk r (IsStoredAt now path (bytes_held (kept_of now) contents) (tree_state_of_thread new writable))
   all_stored_working (Ok x) new k still = stored_working new still k
   all_stored_working (Err e) new k still = tt
 

@@ -10,11 +10,11 @@ use Rattle.lfs_model.specs.Tree.{Tree}
 use Rattle.lfs_model.specs.Shown.{tree_in}
 use Rattle.lfs_thread.specs.Kept.{Kept, State}
 use Rattle.lfs_tree.specs.Calls as calls
-use Rattle.lfs_tree.specs.Calls.{Call, Does, IsOperation, left_by}
-use Rattle.lfs_tree.specs.Carrying.{HasCalled, HasDone, IsAtRest, IsChange, IsOperationOn, SurvivesTo, ReportsError}
-use Rattle.lfs_tree.specs.Held.{IsHeld, IsRooted, tree_state_of, seen_thread}
-use Rattle.lfs_tree.specs.Recovering.{HasSettled}
-use Rattle.lfs_tree.specs.TreeState.{IsBroken, IsAppliedOn, IsAppliedImage, IsError, IsSound, LeavesRest, TreeState, SurvivesAs, bare, kept_of, tree_view}
+use Rattle.lfs_tree.specs.Calls.{Call, DoesOperation, IsOperation, tree_left_by}
+use Rattle.lfs_tree.specs.TreeChanges.{HasFurtherCalls, HasDoneCall, IsAtRest, IsChange, IsOperationOn, SurvivesTo, ReportsError}
+use Rattle.lfs_tree.specs.RootedThreads.{IsRootedUnlessFailed, IsRooted, tree_state_of, tree_state_of_thread}
+use Rattle.lfs_tree.specs.Recoveries.{HasEndedLosses}
+use Rattle.lfs_tree.specs.TreeState.{IsFailedTree, IsAppliedOn, IsAppliedImage, IsError, IsSound, LeavesRest, TreeState, SurvivesAs, without_cache, kept_of, tree_view}
 use Rattle.lfs_tree.proofs.NotedErrors.{noted, noted_failed, noted_held}
 use Rattle.lfs_tree.proofs.Operated.{IsPlain}
 use Rattle.lfs_tree.proofs.Carried.{lists_from}
@@ -23,47 +23,47 @@ use Rattle.lfs_tree.proofs.RecoveredFirst.{called_after, carried_after, spares_a
 
 -- ---- what a change of the thread is for who sees the tree
 
-module _ (t : State) (writable : Bool) (now : TreeState) (view : seen_thread t writable ≡ now) (Done : Kept → Type 0) (after : Tree) {X : Type 0} (r : Result X Error) (new : State) (w : IsChange t Done after r new) where
-  pub breaks : OnErr r (new.failed ≡ true) → OnErr r (IsBroken now (seen_thread new writable))
-  breaks failed = subst (λ (s : TreeState). OnErr r (IsBroken s (seen_thread new writable))) view (go r failed)
+module _ (t : State) (writable : Bool) (now : TreeState) (view : tree_state_of_thread t writable ≡ now) (Done : Kept → Type 0) (after : Tree) {X : Type 0} (r : Result X Error) (new : State) (w : IsChange t Done after r new) where
+  pub breaks : OnErr r (new.failed ≡ true) → OnErr r (IsFailedTree now (tree_state_of_thread new writable))
+  breaks failed = subst (λ (s : TreeState). OnErr r (IsFailedTree s (tree_state_of_thread new writable))) view (go r failed)
     where
-      go : (r : Result X Error) → OnErr r (new.failed ≡ true) → OnErr r (IsBroken (seen_thread t writable) (seen_thread new writable))
+      go : (r : Result X Error) → OnErr r (new.failed ≡ true) → OnErr r (IsFailedTree (tree_state_of_thread t writable) (tree_state_of_thread new writable))
       go (Ok x) f = tt
       go (Err e) f = record { failed = f; geometry = w.called.geometry; calls = w.called.calls; called = w.called.called }
 
-  pub reports : IfErr r (IsError now (seen_thread new writable))
-  reports = subst (λ (s : TreeState). IfErr r (IsError s (seen_thread new writable))) view (go r w.errors)
+  pub reports : IfErr r (IsError now (tree_state_of_thread new writable))
+  reports = subst (λ (s : TreeState). IfErr r (IsError s (tree_state_of_thread new writable))) view (go r w.errors)
     where
-      go : (r : Result X Error) → IfErr r (ReportsError t.kept new.kept) → IfErr r (IsError (seen_thread t writable) (seen_thread new writable))
+      go : (r : Result X Error) → IfErr r (ReportsError t.kept new.kept) → IfErr r (IsError (tree_state_of_thread t writable) (tree_state_of_thread new writable))
       go (Ok x) k = tt
       go (Err e) k = record { errors = k.errors; fault = k.fault; no_fault = k.no_fault }
 
 -- ---- the recovery itself
 
-module _ (t : State) (writable : Bool) (now : TreeState) (view : seen_thread t writable ≡ now) (works : t.failed ≡ false) (may : writable ≡ true) (left : gstate_of t.kept.pairs ≡ no_gstate → ⊥)
-    {X : Type 0} (r : Result X Error) (new : State) (w : IsChange t (HasSettled t.kept) (tree_in t.kept.disk t.kept.pairs) r new) where
-  pub recovers : OnErr r (new.failed ≡ true) → IsOperation now calls.Recover r (seen_thread new writable)
-  recovers failed = subst (λ (s : TreeState). IsOperation s calls.Recover r (seen_thread new writable)) view (record {
+module _ (t : State) (writable : Bool) (now : TreeState) (view : tree_state_of_thread t writable ≡ now) (works : t.failed ≡ false) (may : writable ≡ true) (left : gstate_of t.kept.pairs ≡ no_gstate → ⊥)
+    {X : Type 0} (r : Result X Error) (new : State) (w : IsChange t (HasEndedLosses t.kept) (tree_in t.kept.disk t.kept.pairs) r new) where
+  pub recovers : OnErr r (new.failed ≡ true) → IsOperation now calls.Recover r (tree_state_of_thread new writable)
+  recovers failed = subst (λ (s : TreeState). IsOperation s calls.Recover r (tree_state_of_thread new writable)) view (record {
     done = done r w.done w.works;
     alone = alone r;
-    broken = breaks t writable (seen_thread t writable) refl (HasSettled t.kept) (tree_in t.kept.disk t.kept.pairs) r new w failed;
-    errors = reports t writable (seen_thread t writable) refl (HasSettled t.kept) (tree_in t.kept.disk t.kept.pairs) r new w;
+    broken = breaks t writable (tree_state_of_thread t writable) refl (HasEndedLosses t.kept) (tree_in t.kept.disk t.kept.pairs) r new w failed;
+    errors = reports t writable (tree_state_of_thread t writable) refl (HasEndedLosses t.kept) (tree_in t.kept.disk t.kept.pairs) r new w;
     survives = w.survives;
   })
     where
-      done : (r : Result X Error) → OnOk r (HasSettled t.kept new.kept) → OnOk r (new.failed ≡ false) → OnOk r ((op : Operation) → Does calls.Recover op → IsAppliedOn (seen_thread t writable) op (seen_thread new writable))
+      done : (r : Result X Error) → OnOk r (HasEndedLosses t.kept new.kept) → OnOk r (new.failed ≡ false) → OnOk r ((op : Operation) → DoesOperation calls.Recover op → IsAppliedOn (tree_state_of_thread t writable) op (tree_state_of_thread new writable))
       done (Err e) k still = tt
       done (Ok x) k still = λ op is.
-          subst (λ o. IsAppliedOn (seen_thread t writable) o (seen_thread new writable)) (sym is)
+          subst (λ o. IsAppliedOn (tree_state_of_thread t writable) o (tree_state_of_thread new writable)) (sym is)
           (subst (λ (s : TreeState). IsAppliedImage s ops.Recover (tree_state_of new.kept writable new.failed)) (ap₂ (λ a b. tree_state_of t.kept a b) (sym may) (sym works))
           (subst (λ (s : TreeState). IsAppliedImage (tree_state_of t.kept true false) ops.Recover s) (ap₂ (λ a b. tree_state_of new.kept a b) (sym may) (sym still)) k.carries))
 
-      alone : (r : Result X Error) → OnOk r ((op : Operation) → Does calls.Recover op → LeavesRest (seen_thread t writable) op (seen_thread new writable))
+      alone : (r : Result X Error) → OnOk r ((op : Operation) → DoesOperation calls.Recover op → LeavesRest (tree_state_of_thread t writable) op (tree_state_of_thread new writable))
       alone (Err e) = tt
       alone (Ok x) = λ op is none. absurd (left none)
 
-  pub settles_seen : OnOk r (HasSettled (kept_of now) new.kept)
-  settles_seen = subst (λ (s : TreeState). OnOk r (HasSettled (kept_of s) new.kept)) view w.done
+  pub settles_seen : OnOk r (HasEndedLosses (kept_of now) new.kept)
+  settles_seen = subst (λ (s : TreeState). OnOk r (HasEndedLosses (kept_of s) new.kept)) view w.done
 
 -- where nothing is left nothing is done
 leaves_itself : (t : TreeState) (op : Operation) → LeavesRest t op t
@@ -87,26 +87,26 @@ recovery_failed {X} {Y} old mid call r s e f was is same k =
     subst (λ (z : Result Y Error). IsOperation old call z mid) (sym (is ∙ ap Err same)) (go (subst (λ (z : Result X Error). IsOperation old calls.Recover z mid) was k))
   where
     go : (let z : Result X Error = Err e in IsOperation old calls.Recover z mid) → (let z : Result Y Error = Err e in IsOperation old call z mid)
-    go k = record { done = tt; alone = tt; broken = k.broken; errors = k.errors; survives = survives_before (kept_of old) (kept_of mid) (left_by call (tree_view old)) k.survives }
+    go k = record { done = tt; alone = tt; broken = k.broken; errors = k.errors; survives = survives_before (kept_of old) (kept_of mid) (tree_left_by call (tree_view old)) k.survives }
 
 -- ---- what comes behind it
 
-module _ (old mid : TreeState) (works : old.failed ≡ false) (may : old.writable ≡ true) (done : IsAppliedOn old ops.Recover mid) (settled : HasSettled (kept_of old) (kept_of mid))
-    (t : State) (root : ℕ) (writable : Bool) (held : IsHeld t root writable) (view : seen_thread t writable ≡ mid) where
+module _ (old mid : TreeState) (works : old.failed ≡ false) (may : old.writable ≡ true) (done : IsAppliedOn old ops.Recover mid) (settled : HasEndedLosses (kept_of old) (kept_of mid))
+    (t : State) (root : ℕ) (writable : Bool) (held : IsRootedUnlessFailed t root writable) (view : tree_state_of_thread t writable ≡ mid) where
   pub writes : writable ≡ true
   writes = ap (λ (s : TreeState). s.writable) view ∙ done.writable
 
   kept_is : t.kept ≡ kept_of mid
   kept_is = ap kept_of view
 
-  pub settled_here : HasSettled (kept_of old) t.kept
-  settled_here = subst (λ (k : Kept). HasSettled (kept_of old) k) (sym kept_is) settled
+  pub settled_here : HasEndedLosses (kept_of old) t.kept
+  settled_here = subst (λ (k : Kept). HasEndedLosses (kept_of old) k) (sym kept_is) settled
 
-  bare_is : bare old ≡ tree_state_of (kept_of old) true false
+  bare_is : without_cache old ≡ tree_state_of (kept_of old) true false
   bare_is = ap₂ (λ a b. tree_state_of (kept_of old) a b) may works
 
   -- what is asked for
-  pub allowed : (P : TreeState → Type 0) → P (bare old) → P (tree_state_of (kept_of old) true false)
+  pub allowed : (P : TreeState → Type 0) → P (without_cache old) → P (tree_state_of (kept_of old) true false)
   allowed P h = subst P bare_is h
 
   pub rests_behind : IsAtRest t root
@@ -115,42 +115,42 @@ module _ (old mid : TreeState) (works : old.failed ≡ false) (may : old.writabl
     settled = subst (λ (k : Kept). gstate_of k.pairs ≡ no_gstate) (sym kept_is) done.recovered.gstate;
   }
 
-  module _ (call : Call) (plain : (op : Operation) → Does call op → IsPlain op) (first : SurvivesAs old mid (tree_view old)) where
-    operates : {X : Type 0} (r : Result X Error) (new : State) → IsOperationOn t call r new → OnErr r (new.failed ≡ true) → IsOperation old call r (seen_thread new writable)
+  module _ (call : Call) (plain : (op : Operation) → DoesOperation call op → IsPlain op) (first : SurvivesAs old mid (tree_view old)) where
+    operates : {X : Type 0} (r : Result X Error) (new : State) → IsOperationOn t call r new → OnErr r (new.failed ≡ true) → IsOperation old call r (tree_state_of_thread new writable)
     operates {X} r new w failed = record {
       done = dones r w.done w.works;
       alone = alone r w.done;
       broken = broken r failed;
       errors = errors r w.errors;
-      survives = survives_after (kept_of old) t.kept settled_here new.kept (left_by call) w.called
+      survives = survives_after (kept_of old) t.kept settled_here new.kept (tree_left_by call) w.called
           (subst (λ (k : Kept). SurvivesTo (kept_of old) k (tree_view old)) (sym kept_is) first) w.survives;
     }
       where
-        all : HasCalled (kept_of old) new.kept
+        all : HasFurtherCalls (kept_of old) new.kept
         all = called_after (kept_of old) t.kept settled_here new.kept w.called
 
-        dones : (r : Result X Error) → OnOk r (HasDone t.kept call new.kept) → OnOk r (new.failed ≡ false) → OnOk r ((op : Operation) → Does call op → IsAppliedOn old op (seen_thread new writable))
+        dones : (r : Result X Error) → OnOk r (HasDoneCall t.kept call new.kept) → OnOk r (new.failed ≡ false) → OnOk r ((op : Operation) → DoesOperation call op → IsAppliedOn old op (tree_state_of_thread new writable))
         dones (Err e) k still = tt
         dones (Ok x) k still = λ op does.
             subst (λ (s : TreeState). IsAppliedImage s op (tree_state_of new.kept writable new.failed)) (sym bare_is)
             (subst (λ (s : TreeState). IsAppliedImage (tree_state_of (kept_of old) true false) op s) (ap₂ (λ a b. tree_state_of new.kept a b) (sym writes) (sym still))
             (carried_after (kept_of old) t.kept settled_here new.kept op (plain op does).0 (plain op does).1 (k.carries op does)))
 
-        alone : (r : Result X Error) → OnOk r (HasDone t.kept call new.kept) → OnOk r ((op : Operation) → Does call op → LeavesRest old op (seen_thread new writable))
+        alone : (r : Result X Error) → OnOk r (HasDoneCall t.kept call new.kept) → OnOk r ((op : Operation) → DoesOperation call op → LeavesRest old op (tree_state_of_thread new writable))
         alone (Err e) k = tt
         alone (Ok x) k = λ op does. spares_after (kept_of old) t.kept settled_here new.kept op (k.spares op does)
 
-        broken : (r : Result X Error) → OnErr r (new.failed ≡ true) → OnErr r (IsBroken old (seen_thread new writable))
+        broken : (r : Result X Error) → OnErr r (new.failed ≡ true) → OnErr r (IsFailedTree old (tree_state_of_thread new writable))
         broken (Ok x) f = tt
         broken (Err e) f = record { failed = f; geometry = all.geometry; calls = all.calls; called = all.called }
 
-        errors : (r : Result X Error) → IfErr r (ReportsError t.kept new.kept) → IfErr r (IsError old (seen_thread new writable))
+        errors : (r : Result X Error) → IfErr r (ReportsError t.kept new.kept) → IfErr r (IsError old (tree_state_of_thread new writable))
         errors (Ok x) k = tt
         errors (Err e) k = let m = reported_after (kept_of old) t.kept settled_here new.kept e k in record { errors = m.errors; fault = m.fault; no_fault = m.no_fault }
 
     module _ {X : Type 0} (b new : State) (r : Result X Error) (w : IsOperationOn t call r b) (f : new ≡ record b { failed = is_err r || b.failed }) where
-      pub operates_noted : IsOperation old call r (seen_thread new writable)
-      operates_noted = operates r new (noted t b new (HasDone t.kept call) (left_by call (tree_in t.kept.disk t.kept.pairs)) r w f) (noted_failed t b new (HasDone t.kept call) (left_by call (tree_in t.kept.disk t.kept.pairs)) r w f)
+      pub operates_noted : IsOperation old call r (tree_state_of_thread new writable)
+      operates_noted = operates r new (noted t b new (HasDoneCall t.kept call) (tree_left_by call (tree_in t.kept.disk t.kept.pairs)) r w f) (noted_failed t b new (HasDoneCall t.kept call) (tree_left_by call (tree_in t.kept.disk t.kept.pairs)) r w f)
 
-      pub held_noted : IsHeld new root writable
-      held_noted = subst (λ a. IsHeld new root a) (sym writes) (noted_held t b new (HasDone t.kept call) (left_by call (tree_in t.kept.disk t.kept.pairs)) r w f root rests_behind.held)
+      pub held_noted : IsRootedUnlessFailed new root writable
+      held_noted = subst (λ a. IsRootedUnlessFailed new root a) (sym writes) (noted_held t b new (HasDoneCall t.kept call) (tree_left_by call (tree_in t.kept.disk t.kept.pairs)) r w f root rests_behind.held)

@@ -4,8 +4,8 @@ use Rattle.std.specs.Prelude.{Contains}
 use Rattle.std.proofs.lemmas.List.Elements.{Contains-append_cases}
 use Rattle.std.proofs.lemmas.Option.{slice_get-get_or}
 use Rattle.lfs_device.specs.declared.geometry.Geometry.{Geometry}
-use Rattle.lfs_ctz.specs.Growing.{Growing, kept_of as blocks_kept, pending_of, size_of, end_of}
-use Rattle.lfs_writer.specs.Standing.{held_in}
+use Rattle.lfs_ctz.specs.Growing.{Growing, kept_blocks as blocks_kept, pending_of, size_with_pointers, end_of}
+use Rattle.lfs_writer.specs.ThreadContents.{list_blocks_of}
 use Rattle.lfs_model.specs.Blocks.{Blocks, block_in}
 use Rattle.lfs_model.specs.BlockSets.{BlockSets, BlockState, IsFree, IsInFlight, IsUsed, in_flight_count}
 use Rattle.lfs_model.specs.BlockSets.BlockState.{Free, InFlight, Used}
@@ -15,17 +15,17 @@ use Rattle.lfs_model.specs.SkipLists.{blocks_back, blocks_for}
 use Rattle.lfs_model.specs.Operations.{Operation}
 use Rattle.lfs_model.specs.Tree.{Path}
 use Rattle.lfs_model.proofs.BlockCounts.{few_flying}
-use Rattle.lfs_tree.specs.KeepsFiles.{KeepsFile}
+use Rattle.lfs_tree.specs.KeptFiles.{KeepsFile}
 use Rattle.lfs_tree.specs.OpenContents.{IsOver, bytes_held}
-use Rattle.lfs_tree.specs.TreeState.{IsAppliedOn, IsSound, LeavesFlight, TreeState, bare, kept_of}
+use Rattle.lfs_tree.specs.TreeState.{IsAppliedOn, IsSound, LeavesFlight, TreeState, without_cache, kept_of}
 use Rattle.lfs_tree.proofs.ContentsStay.{StayAs, base_list, bytes_stay, hand_bytes_stay, hand_stays, hand_still, list_stays, of_all, stored_stays}
 use Rattle.lfs_tree.proofs.KeptFiles.{list_used}
-use Rattle.lfs_writer.specs.Apart.{IsApart}
-use Rattle.lfs_writer.specs.Based.{IsBase, list_blocks}
-use Rattle.lfs_writer.specs.Contents.{Stands, bytes_in, form_of}
+use Rattle.lfs_writer.specs.BlocksApart.{IsApart}
+use Rattle.lfs_writer.specs.Bases.{IsBase, list_blocks}
+use Rattle.lfs_writer.specs.Contents.{AreOnDisk, bytes_in, form_of}
 use Rattle.lfs_writer.specs.Form.{form_blocks}
 use Rattle.lfs_writer.specs.Hand.{IsHand, hand_bytes}
-use Rattle.lfs_writer.specs.Owned.{blocks_held}
+use Rattle.lfs_writer.specs.BlockOwners.{blocks_held}
 use Rattle.lfs_writer.specs.declared.contents.Contents.{Contents}
 use Rattle.lfs_writer.specs.declared.contents.Contents.TheVariants.{InMemory, Finished, InHand}
 use Rattle.lfs_writer.specs.declared.stored_list.Stored.{Stored}
@@ -35,7 +35,7 @@ use Rattle.lfs_writer.proofs.Flights.{begun_flying, stored_flying}
 -- ---- contents in each form
 
 abbrev pub StandStill : BlockSets → Blocks → Geometry → Contents → BlockSets → Blocks → Type 0
-StandStill map d now c later e = Stands later e now c × ((blocks_held e now.block_size c ≡ blocks_held d now.block_size c) × (bytes_in e now.block_size c ≡ bytes_in d now.block_size c))
+StandStill map d now c later e = AreOnDisk later e now c × ((blocks_held e now.block_size c ≡ blocks_held d now.block_size c) × (bytes_in e now.block_size c ≡ bytes_in d now.block_size c))
 
 hand_still_on : (map later : BlockSets) (d e : Blocks) (now : Geometry) (hand : Hand) → now ≡ hand.list.geometry → IsHand map d now.block_size hand.list hand.base hand.shared
     → StayAs map d (blocks_held d now.block_size (InHand hand)) later e
@@ -50,7 +50,7 @@ hand_still_on map later d e now hand is list stay = (
   ),
 )
 
-pub stands_still : (map later : BlockSets) (d e : Blocks) (now : Geometry) (c : Contents) → StayAs map d (blocks_held d now.block_size c) later e → Stands map d now c → StandStill map d now c later e
+pub stands_still : (map later : BlockSets) (d e : Blocks) (now : Geometry) (c : Contents) → StayAs map d (blocks_held d now.block_size c) later e → AreOnDisk map d now c → StandStill map d now c later e
 stands_still map later d e now (InMemory list) stay is = (
   record {
     idle = record { count = stay.size ∙ is.idle.count ∙ sym stay.count; none = λ b flies. is.idle.none b (stay.none_comes b flies) };
@@ -71,14 +71,14 @@ stands_still map later d e now (InHand hand) stay is =
     )
 
 -- at most so many blocks are in flight
-pub stands_flying : (map : BlockSets) (d : Blocks) (now : Geometry) (c : Contents) → Stands map d now c → in_flight_count map ≤ form_blocks now.block_size (form_of c)
+pub stands_flying : (map : BlockSets) (d : Blocks) (now : Geometry) (c : Contents) → AreOnDisk map d now c → in_flight_count map ≤ form_blocks now.block_size (form_of c)
 stands_flying map d now (InMemory list) is = few_flying [] map (λ b flies. absurd (is.idle.none b flies))
 stands_flying map d now (Finished stored) is = stored_flying map d now.block_size stored is
 stands_flying map d now (InHand hand) is =
     let list : IsHand map d now.block_size hand.list hand.base hand.shared = subst (λ (k : Geometry). IsHand map d k.block_size hand.list hand.base hand.shared) (sym is.geometry) is.list in
     let few = begun_flying map d now.block_size hand.list hand.base hand.shared list.begun in
     let many = list.many in
-    let e : size_of now.block_size hand.list ≡ end_of hand.list = ap (λ (k : Geometry). size_of k.block_size hand.list) is.geometry in
+    let e : size_with_pointers now.block_size hand.list ≡ end_of hand.list = ap (λ (k : Geometry). size_with_pointers k.block_size hand.list) is.geometry in
     let f = ap (blocks_for now.block_size) e in
     omega arith
 
@@ -103,7 +103,7 @@ own_state map d block_size g base shared hand b has = ⊎_elim
     (λ pending. inr (of_all (IsInFlight map) (pending_of g) hand.begun.marked.pending b pending))
     (Contains-append_cases (blocks_back d g.full g.head) (pending_of g) b has)
 
-pub held_states : (map : BlockSets) (d : Blocks) (now : Geometry) (c : Contents) → Stands map d now c → (b : ℕ) → Contains (blocks_held d now.block_size c) b → IsUsed map b ⊎ IsInFlight map b
+pub held_states : (map : BlockSets) (d : Blocks) (now : Geometry) (c : Contents) → AreOnDisk map d now c → (b : ℕ) → Contains (blocks_held d now.block_size c) b → IsUsed map b ⊎ IsInFlight map b
 held_states map d now (InMemory list) is b has = absurd (omega (arith, has.1))
 held_states map d now (Finished stored) is b has =
     state_of map b (let l = base_below d now.block_size stored is.base b has in omega (arith, l, is.count)) (of_all (λ x. ¬ (IsFree map x)) (list_blocks d now.block_size stored.head stored.size) is.marked b has)
@@ -121,7 +121,7 @@ module _ (old new : TreeState) (path : Path) (c : Contents) (over : IsOver old p
   abbrev now : Geometry
   now = over.stands.geometry
 
-  held_here : blocks_held old.disk.blocks now.block_size c ≡ held_in (kept_of old) c
+  held_here : blocks_held old.disk.blocks now.block_size c ≡ list_blocks_of (kept_of old) c
   held_here = ap (λ n. blocks_held old.disk.blocks n c) over.stands.divided.block_size
 
   abbrev IsStill : ℕ → Type 0
@@ -147,7 +147,7 @@ module _ (old new : TreeState) (path : Path) (c : Contents) (over : IsOver old p
   still : StandStill old.map old.disk.blocks now c new.map new.disk.blocks
   still = stands_still old.map new.map old.disk.blocks new.disk.blocks now c stay over.stands.stands
 
-  held_now : held_in (kept_of new) c ≡ blocks_held old.disk.blocks now.block_size c
+  held_now : list_blocks_of (kept_of new) c ≡ blocks_held old.disk.blocks now.block_size c
   held_now = ap (λ n. blocks_held new.disk.blocks n c) (geometry.block_size ∙ sym over.stands.divided.block_size) ∙ still.1.0
 
   pub over_stays : IsOver new path c
@@ -177,7 +177,7 @@ pub contents_stay : (old new : TreeState) (op : Operation) (path : Path) (c : Co
     → IsOver new path c × (bytes_held (kept_of new) c ≡ bytes_held (kept_of old) c)
 contents_stay old new op path c over sound k away =
     let keeps = k.keeps path over.file away in
-    (over_stays (bare old) (bare new) path c over sound k.sound k.geometry k.flight keeps, bytes_held_stay (bare old) (bare new) path c over sound k.sound k.geometry k.flight keeps)
+    (over_stays (without_cache old) (without_cache new) path c over sound k.sound k.geometry k.flight keeps, bytes_held_stay (without_cache old) (without_cache new) path c over sound k.sound k.geometry k.flight keeps)
 
 -- no more blocks are in flight than contents in that form may have
 pub flying_of : (t : TreeState) (path : Path) (c : Contents) → IsOver t path c → in_flight_count t.map ≤ form_blocks t.disk.block_size (form_of c)

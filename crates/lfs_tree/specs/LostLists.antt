@@ -1,33 +1,33 @@
 -- The skip lists of slots that are dropped. Their blocks are freed after that.
 use Rattle.std.specs.Prelude.{ℕ, ◌≤◌, ◌+◌, false, List, [], ◌∷◌, Option, Some, None}
 use Rattle.std.specs.List.{AllByRecursion, flat_map}
-use Rattle.lfs_writer.specs.Settling.{blocks_in_list}
+use Rattle.lfs_writer.specs.SettledFiles.{blocks_in_list}
 use Rattle.lfs_model.specs.Content.{RawSlot, struct_typed}
 use Rattle.lfs_model.specs.Slots.{Slot, Struct, Inline, Ctz, Branch}
 use Rattle.lfs_model.specs.Shown.{used_blocks}
 use Rattle.lfs_model.specs.Steps.{count}
 use Rattle.lfs_operations.specs.Ready.{IsReadyBut}
 use Rattle.lfs_thread.specs.Kept.{Kept}
-use Rattle.lfs_writer.specs.Based.{IsBase}
+use Rattle.lfs_writer.specs.Bases.{IsBase}
 use Rattle.lfs_writer.specs.declared.stored_list.Stored.{Stored}
 
 -- ---- which lists
 
-abbrev pub list_named : Struct → List Stored
-list_named (Ctz head size) = record { head = head; size = size; in_flight = false } ∷ []
-list_named (Inline bytes) = []
-list_named (Branch to) = []
+abbrev pub list_of_struct : Struct → List Stored
+list_of_struct (Ctz head size) = record { head = head; size = size; in_flight = false } ∷ []
+list_of_struct (Inline bytes) = []
+list_of_struct (Branch to) = []
 
-abbrev pub lists_named : List Slot → List Stored
-lists_named slots = flat_map (λ s. list_named s.struct) slots
+abbrev pub lists_of_slots : List Slot → List Stored
+lists_of_slots slots = flat_map (λ s. list_of_struct s.struct) slots
 
 -- the list of a log's slot, whose struct is a type and bytes
-abbrev pub list_typed : Option (ℕ × List ℕ) → List Stored
-list_typed None = []
-list_typed (Some struct) = list_named (struct_typed struct.0 struct.1)
+abbrev pub list_of_raw_struct : Option (ℕ × List ℕ) → List Stored
+list_of_raw_struct None = []
+list_of_raw_struct (Some struct) = list_of_struct (struct_typed struct.0 struct.1)
 
-abbrev pub lists_typed : List RawSlot → List Stored
-lists_typed slots = flat_map (λ s. list_typed s.struct) slots
+abbrev pub lists_of_raw_slots : List RawSlot → List Stored
+lists_of_raw_slots slots = flat_map (λ s. list_of_raw_struct s.struct) slots
 
 -- ---- their blocks
 

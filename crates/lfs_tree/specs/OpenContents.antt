@@ -17,16 +17,16 @@ use Rattle.lfs_model.specs.Thread.{gstate_of}
 use Rattle.lfs_model.specs.Tree.{Path}
 use Rattle.lfs_model.specs.Profile.{IsWritable}
 use Rattle.lfs_model.specs.Shown.{tree_in, used_blocks}
-use Rattle.lfs_writer.specs.Standing.{StandsIn, held_in}
+use Rattle.lfs_writer.specs.ThreadContents.{AreOnDiskOf, list_blocks_of}
 use Rattle.lfs_operations.specs.Storing.{IsWriterOf}
 use Rattle.lfs_thread.specs.Kept.{Kept}
-pub use Rattle.lfs_tree.specs.KeepsFiles.{KeepsOthers, blocks_named, list_at}
+pub use Rattle.lfs_tree.specs.KeptFiles.{KeepsOthers, blocks_named, list_at}
 pub use Rattle.lfs_tree.specs.TreeState.{kept_of}
-use Rattle.lfs_tree.specs.TreeState.{IsBroken, IsError, TreeState, IsSound, SurvivesAs, around_of, bare, tree_view}
+use Rattle.lfs_tree.specs.TreeState.{IsFailedTree, IsError, TreeState, IsSound, SurvivesAs, surroundings_of, without_cache, tree_view}
 use Rattle.lfs_writer.specs.Contents.{IsLarge, NeedsRoom, bytes_in, end_room, form_of, truncate_room, write_room}
 use Rattle.lfs_writer.specs.Form as form
 use Rattle.lfs_writer.specs.Form.{Form, form_size}
-use Rattle.lfs_writer.specs.Owned.{AreOwned}
+use Rattle.lfs_writer.specs.BlockOwners.{AreOwned}
 use Rattle.lfs_writer.specs.declared.contents.Contents.{Contents}
 
 -- the bytes of a writer's contents
@@ -41,8 +41,8 @@ pub record HasBytesAs (t : TreeState) (these : List ℕ) (shape : Form) (content
 -- These are the contents of an open writer over the file at the path. They are on the disk, and their used blocks are the file's.
 pub record IsOverFile (t : Kept) (path : Path) (contents : Contents) : Type 0 where
   pub file : is_file (tree_in t.disk t.pairs path) ≡ true
-  pub stands : StandsIn t contents
-  pub owned : AreOwned t.map (list_at t path) (held_in t contents)
+  pub stands : AreOnDiskOf t contents
+  pub owned : AreOwned t.map (list_at t path) (list_blocks_of t contents)
 
 abbrev pub IsOver : TreeState → Path → Contents → Type 0
 IsOver t path contents = IsOverFile (kept_of t) path contents
@@ -58,29 +58,29 @@ pub record CanOpen (t : TreeState) (path : Path) : Type 0 where
 
 -- So many bytes, at least one, may be written there. Past the inline limit there is room for the blocks in flight that this
 -- takes.
-pub record CanWriteBeside (t : TreeState) (contents : Contents) (place count : ℕ) : Type 0 where
+pub record CanWriteOpenFile (t : TreeState) (contents : Contents) (place count : ℕ) : Type 0 where
   pub works : t.failed ≡ false
-  pub stands : StandsIn (kept_of t) contents
+  pub stands : AreOnDiskOf (kept_of t) contents
   pub large : IsLarge (inline_limit t.disk.block_size) (form_of contents)
   pub some : 1 ≤ count
   pub small : place + count < 2 ^ 31
   pub room : inline_limit t.disk.block_size < max (form_size (form_of contents)) (place + count)
-      → length (around_of t).used + write_room t.disk.block_size place count (form_of contents) ≤ block_count t.disk
+      → length (surroundings_of t).used + write_room t.disk.block_size place count (form_of contents) ≤ block_count t.disk
 
 -- They may be cut or filled up to that size. Where blocks are wanted, there is room for them.
-pub record CanTruncateBeside (t : TreeState) (contents : Contents) (size : ℕ) : Type 0 where
+pub record CanTruncateOpenFile (t : TreeState) (contents : Contents) (size : ℕ) : Type 0 where
   pub works : t.failed ≡ false
-  pub stands : StandsIn (kept_of t) contents
+  pub stands : AreOnDiskOf (kept_of t) contents
   pub large : IsLarge (inline_limit t.disk.block_size) (form_of contents)
   pub small : size < 2 ^ 31
   pub room : NeedsRoom (inline_limit t.disk.block_size) size (form_of contents)
-      → length (around_of t).used + truncate_room t.disk.block_size size (form_of contents) ≤ block_count t.disk
+      → length (surroundings_of t).used + truncate_room t.disk.block_size size (form_of contents) ≤ block_count t.disk
 
 -- contents are in memory exactly where they are at most the limit
-abbrev pub IsSettleable : ℕ → Form → Type 0
-IsSettleable limit (form.InMemory size) = size ≤ limit
-IsSettleable limit (form.Finished size flying) = limit < size
-IsSettleable limit (form.InHand stop base flying) = limit < max stop base
+abbrev pub FitsInlineLimit : ℕ → Form → Type 0
+FitsInlineLimit limit (form.InMemory size) = size ≤ limit
+FitsInlineLimit limit (form.Finished size flying) = limit < size
+FitsInlineLimit limit (form.InHand stop base flying) = limit < max stop base
 
 -- The file at the path may get these contents: there is room for what is still to be written of them, and then for two blocks.
 pub record CanStoreAtImage (t : TreeState) (path : Path) (contents : Contents) : Type 0 where
@@ -88,12 +88,12 @@ pub record CanStoreAtImage (t : TreeState) (path : Path) (contents : Contents) :
   pub writable : t.writable ≡ true
   pub settled : gstate_of t.pairs ≡ no_gstate
   pub over : IsOver t path contents
-  pub form : IsSettleable (inline_limit t.disk.block_size) (form_of contents)
-  pub end : length (around_of t).used + end_room t.disk.block_size (form_of contents) ≤ block_count t.disk
-  pub room : length (around_of t).used + ctz_blocks t.disk.block_size (length (bytes_held (kept_of t) contents)) + 2 ≤ block_count t.disk
+  pub form : FitsInlineLimit (inline_limit t.disk.block_size) (form_of contents)
+  pub end : length (surroundings_of t).used + end_room t.disk.block_size (form_of contents) ≤ block_count t.disk
+  pub room : length (surroundings_of t).used + ctz_blocks t.disk.block_size (length (bytes_held (kept_of t) contents)) + 2 ≤ block_count t.disk
 
 abbrev pub CanStoreAt : TreeState → Path → Contents → Type 0
-CanStoreAt t path contents = CanStoreAtImage (bare t) path contents
+CanStoreAt t path contents = CanStoreAtImage (without_cache t) path contents
 
 -- ---- what comes of it
 
@@ -102,13 +102,13 @@ abbrev pub IsOpenedForm : ℕ → ℕ → Form → Type 0
 IsOpenedForm block_size size shape = ((shape ≡ form.InMemory size) × (size ≤ inline_limit block_size)) ⊎ (shape ≡ form.Finished size false)
 
 -- Only blocks were written that the image doesn't use: it shows what it showed, in the same pairs.
-pub record IsWrittenBeside (old new : TreeState) : Type 0 where
+pub record WritesUnusedBlocks (old new : TreeState) : Type 0 where
   pub works : new.failed ≡ false
   pub sound : IsSound new
   pub writable : new.writable ≡ old.writable
   pub pairs : new.pairs ≡ old.pairs
   pub shows : tree_view new ≡ tree_view old
-  pub around : around_of new ≡ around_of old
+  pub around : surroundings_of new ≡ surroundings_of old
   pub stay : (b : ℕ) → Contains (used_blocks old.disk old.pairs) b → block_at new.disk b ≡ block_at old.disk b
   pub geometry : SameGeometry old.disk new.disk
   pub calls : List Event
@@ -118,8 +118,8 @@ pub record IsWrittenBeside (old new : TreeState) : Type 0 where
 -- What a call promises that changes a writer's contents and leaves the image. A loss of power during the call leaves the image,
 -- too.
 pub record IsWriting {X : Type 0} (old : TreeState) (result : Result X Error) (new : TreeState) : Type 0 where
-  pub beside : OnOk result (IsWrittenBeside old new)
-  pub broken : OnErr result (IsBroken old new)
+  pub beside : OnOk result (WritesUnusedBlocks old new)
+  pub broken : OnErr result (IsFailedTree old new)
   pub errors : IfErr result (IsError old new)
   pub survives : old.writable ≡ true → SurvivesAs old new (tree_view old)
 
@@ -152,4 +152,4 @@ pub record IsStoredAtImage (old : TreeState) (path : Path) (bytes : List ℕ) (n
   pub none_in_flight : in_flight_count new.map ≡ 0
 
 abbrev pub IsStoredAt : TreeState → Path → List ℕ → TreeState → Type 0
-IsStoredAt old path bytes new = IsStoredAtImage (bare old) path bytes (bare new)
+IsStoredAt old path bytes new = IsStoredAtImage (without_cache old) path bytes (without_cache new)

@@ -23,7 +23,7 @@ use Rattle.lfs_model.specs.View.{IsAccepted}
 use Rattle.lfs_model.specs.Profile.{IsWritable}
 use Rattle.lfs_model.specs.Shown.{tree_in, used_blocks}
 use Rattle.lfs_thread.specs.Kept.{Kept}
-use Rattle.lfs_tree.specs.KeepsFiles.{KeepsFile, ListsStay}
+use Rattle.lfs_tree.specs.KeptFiles.{KeepsFile, ListsStay}
 
 -- The disk and its calls so far, its pairs, and the state of each block. Also whether the image is in the writing profile,
 -- whether a call failed, and which blocks are cached.
@@ -37,8 +37,8 @@ pub record TreeState : Type 0 where
   pub cache : CachedBlocks
 
 -- equal except for the cached blocks
-abbrev pub bare : TreeState → TreeState
-bare t = record t { cache = [] }
+abbrev pub without_cache : TreeState → TreeState
+without_cache t = record t { cache = [] }
 
 abbrev pub kept_of : TreeState → Kept
 kept_of t = record { disk = t.disk; history = t.history; pairs = t.pairs; map = t.map }
@@ -46,8 +46,8 @@ kept_of t = record { disk = t.disk; history = t.history; pairs = t.pairs; map = 
 abbrev pub tree_view : TreeState → Tree
 tree_view t = tree_in t.disk t.pairs
 
-abbrev pub around_of : TreeState → Surroundings
-around_of t = record {
+abbrev pub surroundings_of : TreeState → Surroundings
+surroundings_of t = record {
   writable = t.writable;
   block_size = t.disk.block_size;
   page = t.disk.page;
@@ -65,20 +65,20 @@ pub record IsSoundImage (t : TreeState) : Type 0 where
   pub size : length t.map ≡ block_count t.disk
 
 abbrev pub IsSound : TreeState → Type 0
-IsSound t = IsSoundImage (bare t)
+IsSound t = IsSoundImage (without_cache t)
 
 -- ---- calls that only read
 
 -- The disk was only read, by calls that didn't fail, and nothing else changed but the cached blocks. No call of a failed tree is
 -- meant.
-pub record IsAsked (old new : TreeState) : Type 0 where
+pub record WasOnlyRead (old new : TreeState) : Type 0 where
   pub same : new ≡ record old { history = new.history; cache = new.cache }
   pub failed : old.failed ≡ true → new ≡ old
   pub reads : OnlyReads old.disk.blocks old.history new.history
   pub no_fault : faults new.history ≡ faults old.history
 
 -- a call failed that only reads
-pub record IsBrokenAsking (old new : TreeState) : Type 0 where
+pub record FailsInRead (old new : TreeState) : Type 0 where
   pub failed : new.failed ≡ true
   pub disk : new.disk ≡ old.disk
   pub reads : OnlyReads old.disk.blocks old.history new.history
@@ -90,9 +90,9 @@ pub record IsError (old new : TreeState) (e : Error) : Type 0 where
   pub no_fault : e ≢ Io → faults new.history ≡ faults old.history
 
 -- what such a call promises
-pub record IsAsking {X : Type 0} (old : TreeState) (result : Result X Error) (new : TreeState) : Type 0 where
-  pub asked : OnOk result (IsAsked old new)
-  pub broken : OnErr result (IsBrokenAsking old new)
+pub record IsReadOnlyCall {X : Type 0} (old : TreeState) (result : Result X Error) (new : TreeState) : Type 0 where
+  pub asked : OnOk result (WasOnlyRead old new)
+  pub broken : OnErr result (FailsInRead old new)
   pub errors : IfErr result (IsError old new)
 
 -- The same of a mount. `Corrupt` comes where the disk isn't accepted.
@@ -104,7 +104,7 @@ pub record IsMountError (old new : TreeState) (e : Error) : Type 0 where
 -- ---- calls that write
 
 -- a call failed: nothing is known of the disk but its shape
-pub record IsBroken (old new : TreeState) : Type 0 where
+pub record IsFailedTree (old new : TreeState) : Type 0 where
   pub failed : new.failed ≡ true
   pub geometry : SameGeometry old.disk new.disk
   pub calls : List Event
@@ -141,7 +141,7 @@ pub record IsAppliedImage (old : TreeState) (op : Operation) (new : TreeState) :
   pub lists : gstate_of old.pairs ≡ no_gstate → ListsStay old.disk old.pairs new.disk
 
 abbrev pub IsAppliedOn : TreeState → Operation → TreeState → Type 0
-IsAppliedOn old op new = IsAppliedImage (bare old) op (bare new)
+IsAppliedOn old op new = IsAppliedImage (without_cache old) op (without_cache new)
 
 -- Where nothing was to recover, the blocks of files keep their bytes. So do blocks of pairs that the operation isn't about.
 abbrev pub LeavesRest : TreeState → Operation → TreeState → Type 0

@@ -1,11 +1,11 @@
 // Attributes of entries at paths, in a thread that has nothing to recover.
 
 ghost use Rattle.std.specs.Prelude.{◌≡◌, true, false};
-ghost use Rattle.lfs_tree.specs.Allowed.{CanRemoveAttr, CanSetAttr};
+ghost use Rattle.lfs_tree.specs.Permissions.{CanRemoveAttr, CanSetAttr};
 ghost use Rattle.lfs_tree.specs.Calls as call;
-ghost use Rattle.lfs_tree.specs.Carrying.{IsAtRest, IsOperationOn};
-ghost use Rattle.lfs_tree.specs.CarryingSlots.{IsSlotIn, has_slot};
-ghost use Rattle.lfs_tree.specs.Held.{tree_state_of};
+ghost use Rattle.lfs_tree.specs.TreeChanges.{IsAtRest, IsOperationOn};
+ghost use Rattle.lfs_tree.specs.SlotChanges.{IsSlotIn, has_slot};
+ghost use Rattle.lfs_tree.specs.RootedThreads.{tree_state_of};
 
 use crate::entries_at::{find_target, know_device};
 use lfs_device::{BlockDevice, Error};

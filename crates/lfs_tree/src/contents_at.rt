@@ -1,17 +1,17 @@
 // Files that get the contents of a writer, in a thread that has nothing to recover.
 
 ghost use Rattle.std.specs.Prelude.{◌≡◌, ◌∷◌, [], false, true, IfErr, OnOk};
-ghost use Rattle.lfs_writer.specs.Standing.{ReportsWork};
+ghost use Rattle.lfs_writer.specs.ThreadContents.{ReportsWork};
 ghost use Rattle.lfs_model.specs.TreeEdits.{change_at};
 ghost use Rattle.lfs_model.specs.History.{faults};
 ghost use Rattle.lfs_model.specs.Effects.{with_bytes};
 ghost use Rattle.lfs_model.specs.Shown.{tree_in};
 ghost use Rattle.lfs_operations.specs.Changing.{WritesIn};
 ghost use Rattle.lfs_operations.specs.Storing.{IsStructSet, with_contents_at};
-ghost use Rattle.lfs_tree.specs.Carrying.{HasCalled, IsAtRest, IsChange, SurvivesTo, ReportsError};
-ghost use Rattle.lfs_tree.specs.Held.{tree_state_of};
+ghost use Rattle.lfs_tree.specs.TreeChanges.{HasFurtherCalls, IsAtRest, IsChange, SurvivesTo, ReportsError};
+ghost use Rattle.lfs_tree.specs.RootedThreads.{tree_state_of};
 ghost use Rattle.lfs_tree.specs.OpenContents.{CanStoreAt, bytes_held};
-ghost use Rattle.lfs_tree.specs.Storing.{CanCommit, CanPutContents, HasCommitted, HasStored, IsFileIn, is_file_found, list_in, list_named, no_list};
+ghost use Rattle.lfs_tree.specs.Stores.{CanCommit, CanPutContents, HasCommitted, HasStored, IsFileIn, is_file_found, list_in, list_named, no_list};
 
 use crate::entries_at::{find_target, know_device};
 use lfs_device::{BlockDevice, Error};
@@ -128,7 +128,7 @@ fn commit_at<D: BlockDevice>(
     requires can { CanCommit thread.old.kept path.now contents }
     ensures done { OnOk result (HasCommitted thread.old.kept path.now (bytes_held thread.old.kept contents) thread.new.kept) }
     ensures works { OnOk result (thread.new.failed ≡ false) }
-    ensures called { HasCalled thread.old.kept thread.new.kept }
+    ensures called { HasFurtherCalls thread.old.kept thread.new.kept }
     ensures no_fault { OnOk result (faults thread.new.kept.history ≡ faults thread.old.kept.history) }
     ensures errors { IfErr result (ReportsError thread.old.kept thread.new.kept) }
     ensures survives { SurvivesTo thread.old.kept thread.new.kept (change_at path.now (with_bytes (bytes_held thread.old.kept contents)) (tree_in thread.old.kept.disk thread.old.kept.pairs)) }

@@ -5,10 +5,10 @@ ghost use Rattle.lfs_device.specs.Bytes.{HasBytes};
 ghost use Rattle.lfs_model.specs.Frame.{pairs_of_path, parents};
 ghost use Rattle.lfs_model.specs.History.{reads};
 ghost use Rattle.lfs_model.specs.TreeEdits.{last_name};
-ghost use Rattle.lfs_tree.specs.Allowed.{CanCreate, CanMake};
+ghost use Rattle.lfs_tree.specs.Permissions.{CanCreate, CanMakeDirectory};
 ghost use Rattle.lfs_tree.specs.Calls as call;
-ghost use Rattle.lfs_tree.specs.Carrying.{IsAtRest, IsOperationOn, IsPlaceIn, IsTarget, is_place};
-ghost use Rattle.lfs_tree.specs.Held.{tree_state_of};
+ghost use Rattle.lfs_tree.specs.TreeChanges.{IsAtRest, IsOperationOn, IsPlaceIn, IsTarget, is_place};
+ghost use Rattle.lfs_tree.specs.RootedThreads.{tree_state_of};
 ghost use Rattle.lfs_lookup.specs.Reading.{IsReading};
 
 use lfs_device::{BlockDevice, Error};
@@ -105,7 +105,7 @@ pub(crate) fn make_at<D: BlockDevice>(
     path: &Path<'_>,
 ) -> Result<(), Error>
     requires rests { IsAtRest thread.old root }
-    requires can { CanMake (tree_state_of thread.old.kept true false) path.now }
+    requires can { CanMakeDirectory (tree_state_of thread.old.kept true false) path.now }
     ensures { IsOperationOn thread.old (call.Mkdir path.now) result thread.new }
 {
     path.know_bytes();

@@ -9,7 +9,7 @@ ghost use Rattle.lfs_pair.specs.Fresh.{FailsUntouched};
 ghost use Rattle.lfs_thread.specs.Device.{two_of};
 ghost use Rattle.lfs_thread.specs.Kept.{disk_on, kept_view_on};
 ghost use Rattle.lfs_thread.specs.Steps.{Writes};
-ghost use Rattle.lfs_tree.specs.Formatting.{ComesBack, ErasesTwo, IsEmptyMap, IsEmptyRoot, IsEmptyThread, IsFormatted, ShowsEmptyRoot, put_superblock};
+ghost use Rattle.lfs_tree.specs.Formats.{ReturnsDevice, ErasesTwo, IsEmptyMap, IsEmptyRoot, IsEmptyThread, IsFormatted, ShowsEmptyRoot, put_superblock};
 
 use lfs_alloc::BlockMap;
 use lfs_cache::Cache;
@@ -108,7 +108,7 @@ pub fn format<D: BlockDevice>(alloc: Global, mut device: D) -> Result<Thread<D>,
     ensures shows { IfOk result (λ t. ShowsEmptyRoot t.kept) }
     ensures writes { IfOk result (λ t. Writes (two_of anchor) (kept_view_on D.BlockDevice device [] []) t.kept) }
     ensures calls { IfOk result (λ t. ErasesTwo (D.history device) t.kept.history) }
-    ensures back { IfErr result (λ e. ComesBack D.BlockDevice (two_of anchor) device e.0 e.1) }
+    ensures back { IfErr result (λ e. ReturnsDevice D.BlockDevice (two_of anchor) device e.0 e.1) }
 {
     let block_count = device.geometry().block_count;
     let mut pairs = Vec::new(alloc);

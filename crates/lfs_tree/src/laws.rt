@@ -5,9 +5,9 @@ ghost use Rattle.lfs_model.specs.BlockSets.{in_flight_count};
 ghost use Rattle.lfs_model.specs.Keeping.{takes_or_moves};
 ghost use Rattle.lfs_model.specs.Operations.{Operation};
 ghost use Rattle.lfs_model.specs.Tree.{Path};
-ghost use Rattle.lfs_tree.specs.KeepsFiles.{taken_by};
+ghost use Rattle.lfs_tree.specs.KeptFiles.{blocks_taken_by};
 ghost use Rattle.lfs_tree.specs.OpenContents.{IsOver, bytes_held};
-ghost use Rattle.lfs_tree.specs.TreeState.{IsAppliedOn, IsSound, TreeState, around_of, kept_of};
+ghost use Rattle.lfs_tree.specs.TreeState.{IsAppliedOn, IsSound, TreeState, surroundings_of, kept_of};
 ghost use Rattle.lfs_writer.specs.Contents.{form_of};
 ghost use Rattle.lfs_writer.specs.Form.{form_blocks};
 ghost use Rattle.lfs_writer.specs.declared.contents.Contents.{Contents};
@@ -23,6 +23,6 @@ pub fn contents_stay()
 {}
 
 /// An operation that is applied takes few blocks more than the image has.
-pub fn carried_takes_few()
-    ensures { (old new : TreeState) (op : Operation) → IsSound old → old.writable ≡ true → IsAppliedOn old op new → length (around_of new).used ≤ length (around_of old).used + taken_by op }
+pub fn operations_take_few_blocks()
+    ensures { (old new : TreeState) (op : Operation) → IsSound old → old.writable ≡ true → IsAppliedOn old op new → length (surroundings_of new).used ≤ length (surroundings_of old).used + blocks_taken_by op }
 {}

@@ -5,7 +5,6 @@
 mod answers;
 mod attributes_at;
 mod contents_at;
-mod either;
 mod entries_at;
 mod formats;
 mod laws;
@@ -13,6 +12,7 @@ mod lost_lists;
 mod lost_recovery;
 mod mounted_tree;
 mod opened_contents;
+mod order_choice;
 mod orphans;
 mod readers;
 mod remounts;
@@ -21,7 +21,7 @@ mod renames_at;
 mod tree;
 mod writers;
 
-pub use either::mount_either;
 pub use formats::format;
-pub use laws::{carried_takes_few, contents_stay};
+pub use laws::{contents_stay, operations_take_few_blocks};
+pub use order_choice::mount_either;
 pub use tree::Tree;

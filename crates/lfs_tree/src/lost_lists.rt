@@ -2,8 +2,8 @@
 
 ghost use Rattle.std.specs.Prelude.{◌≡◌, ◌++◌, ◌<◌, IfErr, IfOk, OnOk, false, is_err, length, map};
 ghost use Rattle.std.specs.Option.{option_to_list};
-ghost use Rattle.lfs_writer.specs.Settling.{IsReadBesideMap};
-ghost use Rattle.lfs_writer.specs.Standing.{ReportsWork};
+ghost use Rattle.lfs_writer.specs.SettledFiles.{IsReadBesideMap};
+ghost use Rattle.lfs_writer.specs.ThreadContents.{ReportsWork};
 ghost use Rattle.lfs_model.specs.LoggedContent.{HasParts, HaveParts};
 ghost use Rattle.lfs_model.specs.Slots.{Content as ModelContent};
 ghost use Rattle.lfs_operations.specs.Dropping.{SameInFlight};
@@ -12,7 +12,7 @@ ghost use Rattle.lfs_operations.specs.Recovering.{AreUnreached, slots_at};
 ghost use Rattle.lfs_tag.specs.ContentView.{slot_view};
 ghost use Rattle.lfs_thread.specs.CachedLog.{IsBlockOf};
 ghost use Rattle.lfs_thread.specs.Steps.{pair_in};
-ghost use Rattle.lfs_tree.specs.LostLists.{CanFreeLists, list_typed, lists_named, lists_typed};
+ghost use Rattle.lfs_tree.specs.LostLists.{CanFreeLists, list_of_raw_struct, lists_of_slots, lists_of_raw_slots};
 ghost use Rattle.lfs_lookup.specs.Reading.{IsReading};
 ghost use Rattle.lfs_lookup.specs.Search.{HoldsContent};
 
@@ -26,7 +26,7 @@ use std::alloc::{AllocError, Global};
 // Returns the list that a slot names, if it names one.
 fn list_of(slot: &Slot<'_>) -> Option<Stored>
     requires { HasParts (slot_view slot.now) }
-    ensures { option_to_list result ≡ list_typed (slot_view slot.now).struct }
+    ensures { option_to_list result ≡ list_of_raw_struct (slot_view slot.now).struct }
 {
     let Some(structure) = slot.structure else {
         return None;
@@ -44,7 +44,7 @@ fn list_of(slot: &Slot<'_>) -> Option<Stored>
 // Adds the lists that slots name.
 fn push_lists(lists: &mut Vec<Stored>, slots: &[Slot<'_>]) -> Result<(), AllocError>
     requires { HaveParts (map slot_view slots.now) }
-    ensures { OnOk result (lists.new.items ≡ lists.old.items ++ lists_typed (map slot_view slots.now)) }
+    ensures { OnOk result (lists.new.items ≡ lists.old.items ++ lists_of_raw_slots (map slot_view slots.now)) }
 {
     for slot in slots {
         if let Some(list) = list_of(slot) {
@@ -57,7 +57,7 @@ fn push_lists(lists: &mut Vec<Stored>, slots: &[Slot<'_>]) -> Result<(), AllocEr
 // Adds the lists that the slots of a log name.
 fn push_lists_in(alloc: Global, lists: &mut Vec<Stored>, log: &Log<'_>) -> Result<(), Error>
     requires { HoldsContent log.now }
-    ensures lists { (content : ModelContent) → IsBlockOf log.now content → OnOk result (lists.new.items ≡ lists.old.items ++ lists_named content.slots) }
+    ensures lists { (content : ModelContent) → IsBlockOf log.now content → OnOk result (lists.new.items ≡ lists.old.items ++ lists_of_slots content.slots) }
     ensures errors { IfErr result (λ e. e ≡ Error.NoMemory) }
 {
     let content = Content::read(alloc, log)?;
@@ -74,7 +74,7 @@ fn push_lists_at<D: BlockDevice>(
 ) -> Result<(), Error>
     requires works { thread.old.failed ≡ false }
     requires below { index < length thread.old.kept.pairs }
-    ensures lists { OnOk result (lists.new.items ≡ lists.old.items ++ lists_named (pair_in thread.old.kept index).content.slots) }
+    ensures lists { OnOk result (lists.new.items ≡ lists.old.items ++ lists_of_slots (pair_in thread.old.kept index).content.slots) }
     ensures reading { IsReading thread.old thread.new result }
 {
     thread.load_pair(index)?;
@@ -91,7 +91,7 @@ pub(crate) fn lists_of_pairs<D: BlockDevice>(
 ) -> Result<Vec<Stored>, Error>
     requires works { thread.old.failed ≡ false }
     requires unreached { AreUnreached thread.old.kept.pairs numbers.now }
-    ensures lists { IfOk result (λ lists. lists.items ≡ lists_named (slots_at thread.old.kept.pairs numbers.now)) }
+    ensures lists { IfOk result (λ lists. lists.items ≡ lists_of_slots (slots_at thread.old.kept.pairs numbers.now)) }
     ensures reading { IsReading thread.old thread.new result }
 {
     let mut lists = Vec::new(alloc);

@@ -7,10 +7,10 @@ ghost use Rattle.lfs_model.specs.Thread.{blocks_of, gstate_of, superblocks_befor
 ghost use Rattle.lfs_model.specs.Shown.{tree_in};
 ghost use Rattle.lfs_operations.specs.Recovering.{CanDropUnreached, slots_at};
 ghost use Rattle.lfs_thread.specs.Steps.{Writes};
-ghost use Rattle.lfs_tree.specs.Carrying.{HasCalled, IsChange, SurvivesTo, ReportsError};
-ghost use Rattle.lfs_tree.specs.Held.{IsRooted};
-ghost use Rattle.lfs_tree.specs.LostLists.{lists_named};
-ghost use Rattle.lfs_tree.specs.Recovering.{CanDropLost, HasDroppedLost, HasSettled};
+ghost use Rattle.lfs_tree.specs.TreeChanges.{HasFurtherCalls, IsChange, SurvivesTo, ReportsError};
+ghost use Rattle.lfs_tree.specs.RootedThreads.{IsRooted};
+ghost use Rattle.lfs_tree.specs.LostLists.{lists_of_slots};
+ghost use Rattle.lfs_tree.specs.Recoveries.{CanDropLost, HasDroppedLost, HasEndedLosses};
 
 use crate::entries_at::know_device;
 use crate::lost_lists::{free_lists, lists_of_pairs};
@@ -33,7 +33,7 @@ fn drop_with_lists<D: BlockDevice>(
 ) -> Result<(), Error>
     requires works { thread.old.failed ≡ false }
     requires can { CanDropUnreached thread.old.kept numbers.now }
-    requires lists { lists.now ≡ lists_named (slots_at thread.old.kept.pairs numbers.now) }
+    requires lists { lists.now ≡ lists_of_slots (slots_at thread.old.kept.pairs numbers.now) }
     ensures dropped { OnOk result (HasDroppedLost thread.old.kept thread.new.kept) }
     ensures works { OnOk result (thread.new.failed ≡ false) }
     ensures no_fault { OnOk result (faults thread.new.kept.history ≡ faults thread.old.kept.history) }
@@ -60,7 +60,7 @@ fn drop_lost_directories<D: BlockDevice>(
     requires root { root ≡ superblocks_before thread.old.kept.pairs }
     ensures dropped { OnOk result (HasDroppedLost thread.old.kept thread.new.kept) }
     ensures works { OnOk result (thread.new.failed ≡ false) }
-    ensures called { HasCalled thread.old.kept thread.new.kept }
+    ensures called { HasFurtherCalls thread.old.kept thread.new.kept }
     ensures no_fault { OnOk result (faults thread.new.kept.history ≡ faults thread.old.kept.history) }
     ensures errors { IfErr result (ReportsError thread.old.kept thread.new.kept) }
     ensures survives { SurvivesTo thread.old.kept thread.new.kept (tree_in thread.old.kept.disk thread.old.kept.pairs) }
@@ -83,7 +83,7 @@ pub(crate) fn recover_at<D: BlockDevice>(
 ) -> Result<(), Error>
     requires rooted { IsRooted thread.old root true }
     requires left { gstate_of thread.old.kept.pairs ≡ no_gstate → ⊥ }
-    ensures { IsChange thread.old (HasSettled thread.old.kept) (tree_in thread.old.kept.disk thread.old.kept.pairs) result thread.new }
+    ensures { IsChange thread.old (HasEndedLosses thread.old.kept) (tree_in thread.old.kept.disk thread.old.kept.pairs) result thread.new }
 {
     end_move(alloc, thread)?;
     drop_lost_directories(alloc, thread, root)

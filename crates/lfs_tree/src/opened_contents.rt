@@ -6,9 +6,9 @@ ghost use Rattle.lfs_model.specs.BlockSets.{in_flight_count};
 ghost use Rattle.lfs_model.specs.Slots.{Inline, Slot};
 ghost use Rattle.lfs_model.specs.Shown.{tree_in};
 ghost use Rattle.lfs_thread.specs.Beside.{IsDividedAs};
-ghost use Rattle.lfs_tree.specs.Held.{IsRooted};
+ghost use Rattle.lfs_tree.specs.RootedThreads.{IsRooted};
 ghost use Rattle.lfs_tree.specs.OpenContents.{IsOpenedForm, IsOverFile, bytes_held};
-ghost use Rattle.lfs_tree.specs.Opening.{CanBeOpened, IsOpened, opened_form};
+ghost use Rattle.lfs_tree.specs.Openings.{CanBeOpened, IsOpened, opened_form};
 ghost use Rattle.lfs_lookup.specs.Reading.{IsReading};
 ghost use Rattle.lfs_lookup.specs.declared.entry.FileStorage.TheVariants as entry_contents;
 ghost use Rattle.lfs_lookup.specs.declared.search.Spot.{Spot as SpotSeen};
@@ -59,7 +59,7 @@ fn open_list<D: BlockDevice>(thread: &Thread<D>, head: u32, size: u32) -> Conten
 }
 
 // Makes the contents of a file, from its slot.
-fn opened_from<D: BlockDevice>(
+fn open_contents<D: BlockDevice>(
     alloc: Global,
     thread: &mut Thread<D>,
     slot: Spot,
@@ -98,7 +98,7 @@ pub(crate) fn open_at<D: BlockDevice>(
     };
     // By its sizes a list has as many bytes as its entry says.
     let _device = thread.device();
-    opened_from(alloc, thread, slot, contents)
+    open_contents(alloc, thread, slot, contents)
 }
 
 // Makes contents of no bytes.

@@ -7,7 +7,7 @@ ghost use Rattle.lfs_operations.specs.Recovering.{AreUnreached};
 ghost use Rattle.lfs_lookup.specs.Items.{item_view, items_view};
 ghost use Rattle.lfs_lookup.specs.Profile.{follows_at};
 ghost use Rattle.lfs_lookup.specs.Reading.{IsReading};
-ghost use Rattle.lfs_tree.specs.Unreached.{AllBegin, AreReachMarks, HasMarked, IsNamedBy, IsNamedIn};
+ghost use Rattle.lfs_tree.specs.Orphans.{AllBegin, AreReachMarks, HasMarked, IsNamedBy, IsNamedIn};
 ghost use Rattle.lfs_lookup.specs.Walk.{BeginsIfBranch};
 
 use lfs_device::{BlockDevice, Error};
@@ -16,7 +16,7 @@ use lfs_thread::{Thread, number_of};
 use std::alloc::{AllocError, Global};
 
 // Makes so many marks that aren't set.
-fn none_marked(alloc: Global, count: usize) -> Result<Vec<bool>, AllocError>
+fn unset_marks(alloc: Global, count: usize) -> Result<Vec<bool>, AllocError>
     ensures { IfOk result (λ marks. marks.items ≡ replicate count false) }
 {
     vec![in alloc; false; count]
@@ -84,7 +84,7 @@ fn mark_directories<D: BlockDevice>(
     ensures reading { IsReading thread.old thread.new result }
 {
     let state = thread.state();
-    let mut marks = none_marked(alloc, thread.len())?;
+    let mut marks = unset_marks(alloc, thread.len())?;
     let mut pending = Vec::new(alloc);
     mark(&mut marks, &mut pending, root)?;
     while let Some(first) = pending.pop() {
@@ -126,7 +126,7 @@ fn note(numbers: &mut Vec<usize>, index: usize, is_reached: bool) -> Result<(), 
 }
 
 // Returns the numbers of the pairs of directories whose first one isn't marked.
-fn unmarked<D: BlockDevice>(
+fn unmarked_directories<D: BlockDevice>(
     alloc: Global,
     thread: &Thread<D>,
     root: usize,
@@ -163,6 +163,6 @@ pub(crate) fn unreached<D: BlockDevice>(
     ensures reading { IsReading thread.old thread.new result }
 {
     let marks = mark_directories(alloc, thread, root)?;
-    let numbers = unmarked(alloc, thread, root, &marks)?;
+    let numbers = unmarked_directories(alloc, thread, root, &marks)?;
     Ok(numbers)
 }

@@ -9,7 +9,7 @@ ghost use Rattle.lfs_model.specs.TreeEdits.{bytes_at};
 ghost use Rattle.lfs_lookup.specs.FileContents.{AreContentsAt, AreFoundAt, struct_of};
 ghost use Rattle.lfs_lookup.specs.Finds.{Finds};
 ghost use Rattle.lfs_tree.specs.Reads.{ReadsOnce};
-ghost use Rattle.lfs_tree.specs.TreeState.{IsAsking, kept_of, tree_view};
+ghost use Rattle.lfs_tree.specs.TreeState.{IsReadOnlyCall, kept_of, tree_view};
 
 use crate::answers::note_error;
 use crate::tree::Tree;
@@ -25,7 +25,7 @@ impl<D: BlockDevice> Tree<D> {
     /// after either.
     pub fn find_file(&mut self, alloc: Global, path: &Path<'_>) -> Result<FoundFile, Error>
         requires { self.old.failed ≡ false }
-        ensures asks { IsAsking self.old result self.new }
+        ensures asks { IsReadOnlyCall self.old result self.new }
         ensures found { IfOk result (λ found. Finds (tree_view self.old) path.now found.finding) }
         ensures contents { IfOk result (λ found. AreFoundAt (kept_of self.old) path.now found.contents) }
         ensures few { ReadsOnce (parents path.now) self.old self.new.history }
@@ -49,7 +49,7 @@ impl<D: BlockDevice> Tree<D> {
     ) -> Result<Vec<u8>, Error>
         requires works { self.old.failed ≡ false }
         requires there { (path : ModelPath) × AreContentsAt self.old.pairs path contents.now }
-        ensures asks { IsAsking self.old result self.new }
+        ensures asks { IsReadOnlyCall self.old result self.new }
         ensures bytes { (path : ModelPath) → AreContentsAt self.old.pairs path contents.now → IfOk result (λ v. v.items ≡ take count (drop position (bytes_at (tree_view self.old path)))) }
         ensures end { IfOk result (λ v. position + length v.items < 2 ^ 32) }
         ensures none { (own : List ℕ) → struct_of contents.now ≡ Inline own → self.new.history ≡ self.old.history }

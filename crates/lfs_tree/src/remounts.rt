@@ -1,7 +1,7 @@
 // A device that is mounted again.
 
 ghost use Rattle.std.specs.Prelude.{◌≡◌, IfErr, OnErr, OnOk};
-ghost use Rattle.lfs_tree.specs.TreeState.{IsBrokenAsking, IsMountError, IsMountedTree};
+ghost use Rattle.lfs_tree.specs.TreeState.{FailsInRead, IsMountError, IsMountedTree};
 
 use crate::tree::Tree;
 use lfs_alloc::BlockMap;
@@ -30,12 +30,12 @@ impl Spare {
 }
 
 // Mounts the same device again.
-pub(crate) fn mounted_again<D: BlockDevice>(
+pub(crate) fn mount_again<D: BlockDevice>(
     tree: Tree<D>,
     spare: Spare,
 ) -> (Tree<D>, Result<(), Error>)
     ensures mounted { OnOk result.1 (IsMountedTree tree.disk tree.history result.0) }
-    ensures broken { OnErr result.1 (IsBrokenAsking tree result.0) }
+    ensures broken { OnErr result.1 (FailsInRead tree result.0) }
     ensures errors { IfErr result.1 (IsMountError tree result.0) }
 {
     let is_writable = tree.is_writable;

@@ -1,20 +1,20 @@
 // Entries at paths that are removed, in a thread that has nothing to recover.
 
 ghost use Rattle.std.specs.Prelude.{◌≡◌, true, false, is_err, OnOk};
-ghost use Rattle.lfs_writer.specs.Settling.{IsReadBesideMap};
-ghost use Rattle.lfs_writer.specs.Standing.{ReportsWork};
-ghost use Rattle.lfs_model.specs.TreeEdits.{removed};
+ghost use Rattle.lfs_writer.specs.SettledFiles.{IsReadBesideMap};
+ghost use Rattle.lfs_writer.specs.ThreadContents.{ReportsWork};
+ghost use Rattle.lfs_model.specs.TreeEdits.{tree_without};
 ghost use Rattle.lfs_model.specs.Tree.{Path as TreePath};
 ghost use Rattle.lfs_model.specs.Shown.{tree_in};
 ghost use Rattle.lfs_operations.specs.Dropping.{SameInFlight};
 ghost use Rattle.lfs_operations.specs.Ready.{IsReady};
 ghost use Rattle.lfs_operations.specs.Unlinking.{ReportsOfSteps};
 ghost use Rattle.lfs_operations.specs.MovingSteps.{WritesAmong};
-ghost use Rattle.lfs_tree.specs.Allowed.{CanRemove};
+ghost use Rattle.lfs_tree.specs.Permissions.{CanRemove};
 ghost use Rattle.lfs_tree.specs.Calls as call;
-ghost use Rattle.lfs_tree.specs.Carrying.{IsAtRest, IsOperationOn, SurvivesTo};
-ghost use Rattle.lfs_tree.specs.Going.{CanFree, CanGo, CanTake, HasGone, HasSpared};
-ghost use Rattle.lfs_tree.specs.Held.{tree_state_of};
+ghost use Rattle.lfs_tree.specs.TreeChanges.{IsAtRest, IsOperationOn, SurvivesTo};
+ghost use Rattle.lfs_tree.specs.Removals.{CanFree, CanRemoveFound, CanRemoveFile, HasRemoved, SparesOthersInRemoval};
+ghost use Rattle.lfs_tree.specs.RootedThreads.{tree_state_of};
 
 use crate::entries_at::{find_target, know_device};
 use lfs_device::{BlockDevice, Error};
@@ -68,12 +68,12 @@ fn take_file<D: BlockDevice>(
     contents: FileStorage,
 ) -> Result<(), Error>
     requires works { thread.old.failed ≡ false }
-    requires can { (path : TreePath) × CanTake thread.old.kept path parent slot contents }
-    ensures gone { OnOk result ((path : TreePath) → CanTake thread.old.kept path parent slot contents → HasGone thread.old.kept path thread.new.kept) }
-    ensures alone { OnOk result ((path : TreePath) → CanTake thread.old.kept path parent slot contents → HasSpared thread.old.kept path thread.new.kept) }
+    requires can { (path : TreePath) × CanRemoveFile thread.old.kept path parent slot contents }
+    ensures gone { OnOk result ((path : TreePath) → CanRemoveFile thread.old.kept path parent slot contents → HasRemoved thread.old.kept path thread.new.kept) }
+    ensures alone { OnOk result ((path : TreePath) → CanRemoveFile thread.old.kept path parent slot contents → SparesOthersInRemoval thread.old.kept path thread.new.kept) }
     ensures errors { ReportsOfSteps thread.old thread.new result }
     ensures device { WritesAmong thread.old.kept thread.new.kept }
-    ensures survives { (path : TreePath) → CanTake thread.old.kept path parent slot contents → SurvivesTo thread.old.kept thread.new.kept (removed path (tree_in thread.old.kept.disk thread.old.kept.pairs)) }
+    ensures survives { (path : TreePath) → CanRemoveFile thread.old.kept path parent slot contents → SurvivesTo thread.old.kept thread.new.kept (tree_without path (tree_in thread.old.kept.disk thread.old.kept.pairs)) }
 {
     remove_file(alloc, thread, slot.pair, slot.id, parent)?;
     free_list(thread, contents)
@@ -86,12 +86,12 @@ fn remove_target<D: BlockDevice>(
     found: Found,
 ) -> Result<(), Error>
     requires works { thread.old.failed ≡ false }
-    requires can { (path : TreePath) × CanGo thread.old.kept path found }
-    ensures gone { OnOk result ((path : TreePath) → CanGo thread.old.kept path found → HasGone thread.old.kept path thread.new.kept) }
-    ensures alone { OnOk result ((path : TreePath) → CanGo thread.old.kept path found → HasSpared thread.old.kept path thread.new.kept) }
+    requires can { (path : TreePath) × CanRemoveFound thread.old.kept path found }
+    ensures gone { OnOk result ((path : TreePath) → CanRemoveFound thread.old.kept path found → HasRemoved thread.old.kept path thread.new.kept) }
+    ensures alone { OnOk result ((path : TreePath) → CanRemoveFound thread.old.kept path found → SparesOthersInRemoval thread.old.kept path thread.new.kept) }
     ensures errors { ReportsOfSteps thread.old thread.new result }
     ensures device { WritesAmong thread.old.kept thread.new.kept }
-    ensures survives { (path : TreePath) → CanGo thread.old.kept path found → SurvivesTo thread.old.kept thread.new.kept (removed path (tree_in thread.old.kept.disk thread.old.kept.pairs)) }
+    ensures survives { (path : TreePath) → CanRemoveFound thread.old.kept path found → SurvivesTo thread.old.kept thread.new.kept (tree_without path (tree_in thread.old.kept.disk thread.old.kept.pairs)) }
 {
     match found {
         Found::File {

@@ -5,13 +5,13 @@ ghost use Rattle.lfs_model.specs.TreeEdits.{renamed, same_path};
 ghost use Rattle.lfs_model.specs.Tree.{Path};
 ghost use Rattle.lfs_model.specs.Shown.{tree_in};
 ghost use Rattle.lfs_operations.specs.MovingSteps.{WritesAmong};
-ghost use Rattle.lfs_tree.specs.Allowed.{CanRename};
+ghost use Rattle.lfs_tree.specs.Permissions.{CanRename};
 ghost use Rattle.lfs_tree.specs.Calls as call;
 ghost use Rattle.lfs_tree.specs.Calls.{IsOperation};
-ghost use Rattle.lfs_tree.specs.Carrying.{IsAtRest, IsOperationOn, SurvivesTo};
-ghost use Rattle.lfs_tree.specs.CarryingSlots.{has_slot};
-ghost use Rattle.lfs_tree.specs.Held.{tree_state_of};
-ghost use Rattle.lfs_tree.specs.Shifting.{CanShiftFound, CanShiftOnto, CanShiftOver, HasShifted, HasShiftedOnto, IsSourceIn, ReportsOfWork};
+ghost use Rattle.lfs_tree.specs.TreeChanges.{IsAtRest, IsOperationOn, SurvivesTo};
+ghost use Rattle.lfs_tree.specs.SlotChanges.{has_slot};
+ghost use Rattle.lfs_tree.specs.RootedThreads.{tree_state_of};
+ghost use Rattle.lfs_tree.specs.Moves.{CanMoveToTarget, CanMoveOntoFile, CanMoveOntoDirectory, HasMovedEntry, HasMovedOntoFile, IsSourceIn, ReportsOfWork};
 
 use crate::answers::note_error;
 use crate::entries_at::{find_target, know_device};
@@ -57,11 +57,11 @@ fn replace_file<D: BlockDevice>(
     name: &[u8],
 ) -> Result<(), Error>
     requires works { thread.old.failed ≡ false }
-    requires can { (from to : Path) × CanShiftOnto thread.old.kept from to source slot _contents name.now }
-    ensures shifted { OnOk result ((from to : Path) → CanShiftOnto thread.old.kept from to source slot _contents name.now → HasShiftedOnto thread.old.kept from to _contents thread.new.kept) }
+    requires can { (from to : Path) × CanMoveOntoFile thread.old.kept from to source slot _contents name.now }
+    ensures shifted { OnOk result ((from to : Path) → CanMoveOntoFile thread.old.kept from to source slot _contents name.now → HasMovedOntoFile thread.old.kept from to _contents thread.new.kept) }
     ensures errors { ReportsOfWork thread.old thread.new result }
     ensures device { WritesAmong thread.old.kept thread.new.kept }
-    ensures survives { (from to : Path) → CanShiftOnto thread.old.kept from to source slot _contents name.now → SurvivesTo thread.old.kept thread.new.kept (renamed from to (tree_in thread.old.kept.disk thread.old.kept.pairs)) }
+    ensures survives { (from to : Path) → CanMoveOntoFile thread.old.kept from to source slot _contents name.now → SurvivesTo thread.old.kept thread.new.kept (renamed from to (tree_in thread.old.kept.disk thread.old.kept.pairs)) }
 {
     let from = source.slot;
     if from.pair == slot.pair {
@@ -90,11 +90,11 @@ fn move_onto_file<D: BlockDevice>(
     name: &[u8],
 ) -> Result<(), Error>
     requires works { thread.old.failed ≡ false }
-    requires can { (from to : Path) × CanShiftOnto thread.old.kept from to source slot contents name.now }
-    ensures shifted { OnOk result ((from to : Path) → CanShiftOnto thread.old.kept from to source slot contents name.now → HasShifted thread.old.kept from to thread.new.kept) }
+    requires can { (from to : Path) × CanMoveOntoFile thread.old.kept from to source slot contents name.now }
+    ensures shifted { OnOk result ((from to : Path) → CanMoveOntoFile thread.old.kept from to source slot contents name.now → HasMovedEntry thread.old.kept from to thread.new.kept) }
     ensures errors { ReportsOfWork thread.old thread.new result }
     ensures device { WritesAmong thread.old.kept thread.new.kept }
-    ensures survives { (from to : Path) → CanShiftOnto thread.old.kept from to source slot contents name.now → SurvivesTo thread.old.kept thread.new.kept (renamed from to (tree_in thread.old.kept.disk thread.old.kept.pairs)) }
+    ensures survives { (from to : Path) → CanMoveOntoFile thread.old.kept from to source slot contents name.now → SurvivesTo thread.old.kept thread.new.kept (renamed from to (tree_in thread.old.kept.disk thread.old.kept.pairs)) }
 {
     replace_file(alloc, thread, source, slot, contents, name)?;
     free_list(thread, contents)
@@ -110,11 +110,11 @@ fn move_onto_directory<D: BlockDevice>(
     name: &[u8],
 ) -> Result<(), Error>
     requires works { thread.old.failed ≡ false }
-    requires can { (from to : Path) × CanShiftOver thread.old.kept from to source slot gone name.now }
-    ensures shifted { OnOk result ((from to : Path) → CanShiftOver thread.old.kept from to source slot gone name.now → HasShifted thread.old.kept from to thread.new.kept) }
+    requires can { (from to : Path) × CanMoveOntoDirectory thread.old.kept from to source slot gone name.now }
+    ensures shifted { OnOk result ((from to : Path) → CanMoveOntoDirectory thread.old.kept from to source slot gone name.now → HasMovedEntry thread.old.kept from to thread.new.kept) }
     ensures errors { ReportsOfWork thread.old thread.new result }
     ensures device { WritesAmong thread.old.kept thread.new.kept }
-    ensures survives { (from to : Path) → CanShiftOver thread.old.kept from to source slot gone name.now → SurvivesTo thread.old.kept thread.new.kept (renamed from to (tree_in thread.old.kept.disk thread.old.kept.pairs)) }
+    ensures survives { (from to : Path) → CanMoveOntoDirectory thread.old.kept from to source slot gone name.now → SurvivesTo thread.old.kept thread.new.kept (renamed from to (tree_in thread.old.kept.disk thread.old.kept.pairs)) }
 {
     let from = source.slot;
     if from.pair == slot.pair {
@@ -143,11 +143,11 @@ fn move_to_target<D: BlockDevice>(
     name: &[u8],
 ) -> Result<(), Error>
     requires works { thread.old.failed ≡ false }
-    requires can { (from to : Path) × CanShiftFound thread.old.kept from to source found name.now }
-    ensures shifted { OnOk result ((from to : Path) → CanShiftFound thread.old.kept from to source found name.now → HasShifted thread.old.kept from to thread.new.kept) }
+    requires can { (from to : Path) × CanMoveToTarget thread.old.kept from to source found name.now }
+    ensures shifted { OnOk result ((from to : Path) → CanMoveToTarget thread.old.kept from to source found name.now → HasMovedEntry thread.old.kept from to thread.new.kept) }
     ensures errors { ReportsOfWork thread.old thread.new result }
     ensures device { WritesAmong thread.old.kept thread.new.kept }
-    ensures survives { (from to : Path) → CanShiftFound thread.old.kept from to source found name.now → SurvivesTo thread.old.kept thread.new.kept (renamed from to (tree_in thread.old.kept.disk thread.old.kept.pairs)) }
+    ensures survives { (from to : Path) → CanMoveToTarget thread.old.kept from to source found name.now → SurvivesTo thread.old.kept thread.new.kept (renamed from to (tree_in thread.old.kept.disk thread.old.kept.pairs)) }
 {
     match found {
         Found::Nothing { place, .. } => {

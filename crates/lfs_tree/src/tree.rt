@@ -16,16 +16,16 @@ ghost use Rattle.lfs_mount.specs.Device.{IsMountError};
 ghost use Rattle.lfs_tag.specs.FieldsView.{move_view};
 ghost use Rattle.lfs_thread.specs.Device.{GivesBack, two_of};
 ghost use Rattle.lfs_thread.specs.Kept.{disk_on, kept_view_on};
-ghost use Rattle.lfs_tree.specs.Allowed.{CanCreate, CanMake, CanRemove, CanRemoveAttr, CanSetAttr};
+ghost use Rattle.lfs_tree.specs.Permissions.{CanCreate, CanMakeDirectory, CanRemove, CanRemoveAttr, CanSetAttr};
 ghost use Rattle.lfs_lookup.specs.CachedPairs.{AreSmall};
 ghost use Rattle.lfs_tree.specs.Calls as call;
 ghost use Rattle.lfs_tree.specs.Calls.{IsOperation};
 ghost use Rattle.lfs_tree.specs.Reads.{HasCached, ReadsOnce, ReadsToCreate};
-ghost use Rattle.lfs_tree.specs.Recovering.{HasSettled};
+ghost use Rattle.lfs_tree.specs.Recoveries.{HasEndedLosses};
 ghost use Rattle.lfs_lookup.specs.AttributeAt.{IsAttributesSize};
 ghost use Rattle.lfs_lookup.specs.Finds.{Finds, has_names, list_item_view};
-ghost use Rattle.lfs_tree.specs.Formatting.{ComesBack, IsFormatted, WritesFirstTwo};
-ghost use Rattle.lfs_tree.specs.TreeState.{IsAsking, IsBrokenAsking, IsMountError as IsMountErrorOf, IsMountedTree, IsSound, around_of, kept_of, tree_view};
+ghost use Rattle.lfs_tree.specs.Formats.{ReturnsDevice, IsFormatted, WritesFirstTwo};
+ghost use Rattle.lfs_tree.specs.TreeState.{IsReadOnlyCall, FailsInRead, IsMountError as IsMountErrorOf, IsMountedTree, IsSound, surroundings_of, kept_of, tree_view};
 
 use crate::answers::note_error;
 use crate::attributes_at::{remove_attr_at, set_attr_at};
@@ -33,12 +33,12 @@ use crate::entries_at::{create_at, make_at};
 use crate::formats::format;
 use crate::lost_recovery::recover_at;
 use crate::mounted_tree::read_root;
-use crate::remounts::{Spare, mounted_again};
+use crate::remounts::{Spare, mount_again};
 use crate::removals_at::remove_at;
 use core::mem::replace_with;
 use lfs_device::{BlockDevice, Error, Geometry};
 use lfs_lookup::{
-    Finding, FoundAttribute, Inside, Listing, Path, attribute_at, attributes_size_at, find_at,
+    FoundAttribute, FoundNode, Inside, Listing, Path, attribute_at, attributes_size_at, find_at,
     list_at, look_inside_at,
 };
 use lfs_tag::MoveState;
@@ -59,14 +59,14 @@ pub struct Tree<D: BlockDevice> {
 }
 
 impl<D: BlockDevice> Model for Tree<D> {
-    ghost use Rattle.lfs_tree.specs.Held.{IsHeld, seen_thread};
+    ghost use Rattle.lfs_tree.specs.RootedThreads.{IsRootedUnlessFailed, tree_state_of_thread};
     ghost use Rattle.lfs_tree.specs.TreeState.{TreeState};
 
     ghost Value = { TreeState };
 
-    ghost view = { λ t. seen_thread t.thread t.is_writable };
+    ghost view = { λ t. tree_state_of_thread t.thread t.is_writable };
 
-    ghost invariant = { λ t. IsHeld t.thread t.root t.is_writable };
+    ghost invariant = { λ t. IsRootedUnlessFailed t.thread t.root t.is_writable };
 }
 
 impl<D: BlockDevice> Tree<D> {
@@ -100,7 +100,7 @@ impl<D: BlockDevice> Tree<D> {
         ensures formatted { IfOk result (λ t. IsFormatted (kept_of t)) }
         ensures geometry { IfOk result (λ t. SameGeometry (disk_on D.BlockDevice device) t.disk) }
         ensures calls { IfOk result (λ t. WritesFirstTwo (kept_view_on D.BlockDevice device [] []) (kept_of t)) }
-        ensures back { IfErr result (λ e. ComesBack D.BlockDevice (two_of anchor) device e.0 e.1) }
+        ensures back { IfErr result (λ e. ReturnsDevice D.BlockDevice (two_of anchor) device e.0 e.1) }
     {
         match format(alloc, device) {
             Ok(thread) => Ok(Tree {
@@ -117,11 +117,11 @@ impl<D: BlockDevice> Tree<D> {
     /// Errors are those of [`mount`](Tree::mount). The tree has failed after any.
     pub fn remount(&mut self, alloc: Global) -> Result<(), Error>
         ensures mounted { OnOk result (IsMountedTree self.old.disk self.old.history self.new) }
-        ensures broken { OnErr result (IsBrokenAsking self.old self.new) }
+        ensures broken { OnErr result (FailsInRead self.old self.new) }
         ensures errors { IfErr result (IsMountErrorOf self.old self.new) }
     {
         match Spare::new(alloc) {
-            Ok(spare) => replace_with(self, spare, mounted_again),
+            Ok(spare) => replace_with(self, spare, mount_again),
             Err(error) => {
                 self.thread.fail();
                 Err(error)
@@ -178,7 +178,7 @@ impl<D: BlockDevice> Tree<D> {
     /// Returns how many blocks the image uses.
     pub fn used_count(&self) -> u32
         requires { self.now.failed ≡ false }
-        ensures { result ≡ length (around_of self.now).used }
+        ensures { result ≡ length (surroundings_of self.now).used }
     {
         self.thread.used_count()
     }
@@ -187,7 +187,7 @@ impl<D: BlockDevice> Tree<D> {
     pub fn is_used(&self, block: u32) -> bool
         requires works { self.now.failed ≡ false }
         requires below { block < block_count self.now.disk }
-        ensures { result ≡ list_any (λ b. b == block) (around_of self.now).used }
+        ensures { result ≡ list_any (λ b. b == block) (surroundings_of self.now).used }
     {
         self.thread.is_used(block)
     }
@@ -195,7 +195,7 @@ impl<D: BlockDevice> Tree<D> {
     /// Returns the global state (DESIGN.md of littlefs, "The move problem").
     pub fn gstate(&self) -> MoveState
         requires { self.now.failed ≡ false }
-        ensures { move_view result ≡ (around_of self.now).gstate }
+        ensures { move_view result ≡ (surroundings_of self.now).gstate }
     {
         self.thread.state()
     }
@@ -205,9 +205,9 @@ impl<D: BlockDevice> Tree<D> {
     ///
     /// Errors: `Io` where a read failed. `NoMemory` where memory isn't granted. The tree has failed
     /// after either.
-    pub fn look_up(&mut self, alloc: Global, path: &Path<'_>) -> Result<Finding, Error>
+    pub fn look_up(&mut self, alloc: Global, path: &Path<'_>) -> Result<FoundNode, Error>
         requires { self.old.failed ≡ false }
-        ensures asks { IsAsking self.old result self.new }
+        ensures asks { IsReadOnlyCall self.old result self.new }
         ensures found { IfOk result (Finds (tree_view self.old) path.now) }
         ensures few { ReadsOnce (parents path.now) self.old self.new.history }
         ensures hand { AreSmall self.old.pairs (parents path.now) → IfOk result (λ found. found.fault ≡ None → HasCached self.new (parents path.now)) }
@@ -224,7 +224,7 @@ impl<D: BlockDevice> Tree<D> {
     /// after either.
     pub fn look_inside(&mut self, alloc: Global, path: &Path<'_>) -> Result<Inside, Error>
         requires { self.old.failed ≡ false }
-        ensures asks { IsAsking self.old result self.new }
+        ensures asks { IsReadOnlyCall self.old result self.new }
         ensures found { IfOk result (λ inside. Finds (tree_view self.old) path.now inside.finding) }
         ensures has { IfOk result (λ inside. inside.has_entries ≡ has_names (tree_view self.old) path.now) }
         ensures few { reads self.new.history ≤ reads self.old.history + sum_by (pairs_of_path self.old.pairs) (parents path.now ++ path.now ∷ []) }
@@ -247,7 +247,7 @@ impl<D: BlockDevice> Tree<D> {
         kind: u8,
     ) -> Result<FoundAttribute, Error>
         requires { self.old.failed ≡ false }
-        ensures asks { IsAsking self.old result self.new }
+        ensures asks { IsReadOnlyCall self.old result self.new }
         ensures found { IfOk result (λ found. Finds (tree_view self.old) path.now found.finding) }
         ensures bytes { IfOk result (λ found. (option_map (λ v. v.items) found.bytes ≡ attribute_of kind (attributes_of (tree_view self.old path.now))) × IfSome found.bytes (λ v. length v.items ≤ 1022)) }
         ensures few { ReadsOnce (parents path.now) self.old self.new.history }
@@ -265,7 +265,7 @@ impl<D: BlockDevice> Tree<D> {
     /// after either.
     pub fn attributes_size(&mut self, alloc: Global, path: &Path<'_>) -> Result<usize, Error>
         requires { self.old.failed ≡ false }
-        ensures asks { IsAsking self.old result self.new }
+        ensures asks { IsReadOnlyCall self.old result self.new }
         ensures size { IfOk result (IsAttributesSize (attributes_of (tree_view self.old path.now))) }
         ensures few { ReadsOnce (parents path.now) self.old self.new.history }
     {
@@ -282,7 +282,7 @@ impl<D: BlockDevice> Tree<D> {
     /// after either.
     pub fn list(&mut self, alloc: Global, path: &Path<'_>) -> Result<Listing, Error>
         requires { self.old.failed ≡ false }
-        ensures asks { IsAsking self.old result self.new }
+        ensures asks { IsReadOnlyCall self.old result self.new }
         ensures found { IfOk result (λ listing. Finds (tree_view self.old) path.now listing.finding) }
         ensures items { IfOk result (λ listing. map list_item_view listing.items.items ≡ items_in (tree_view self.old) path.now) }
         ensures few { ReadsOnce (parents path.now ++ path.now ∷ []) self.old self.new.history }
@@ -299,7 +299,7 @@ impl<D: BlockDevice> Tree<D> {
     /// Errors: `Io` where a call of the device failed. `NoMemory` where memory isn't granted. The
     /// tree has failed after either.
     pub fn mkdir(&mut self, alloc: Global, path: &Path<'_>) -> Result<(), Error>
-        requires { CanMake self.old path.now }
+        requires { CanMakeDirectory self.old path.now }
         ensures { IsOperation self.old (call.Mkdir path.now) result self.new }
     {
         self.recover(alloc)?;
@@ -374,7 +374,7 @@ impl<D: BlockDevice> Tree<D> {
         requires works { self.old.failed ≡ false }
         requires writable { self.old.writable ≡ true }
         ensures does { IsOperation self.old call.Recover result self.new }
-        ensures settled { OnOk result (HasSettled (kept_of self.old) (kept_of self.new)) }
+        ensures settled { OnOk result (HasEndedLosses (kept_of self.old) (kept_of self.new)) }
         ensures idle { gstate_of self.old.pairs ≡ no_gstate → self.new ≡ self.old }
     {
         if self.gstate().is_none() {

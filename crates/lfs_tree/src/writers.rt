@@ -7,8 +7,8 @@ ghost use Rattle.lfs_model.specs.Disk.{inline_limit};
 ghost use Rattle.lfs_model.specs.Writers.{written_into, zeros_to};
 ghost use Rattle.lfs_model.specs.Effects.{with_bytes};
 ghost use Rattle.lfs_model.specs.Tree.{Path as ModelPath};
-ghost use Rattle.lfs_tree.specs.OpenContents.{CanOpen, CanStoreAt, CanTruncateBeside, CanWriteBeside, HasBytesAs, IsOpenedForm, IsOver, IsStoredAt, IsWriting, bytes_held, kept_of};
-ghost use Rattle.lfs_tree.specs.TreeState.{IsAsking, IsBroken, IsBrokenAsking, IsError, SurvivesAs, tree_view};
+ghost use Rattle.lfs_tree.specs.OpenContents.{CanOpen, CanStoreAt, CanTruncateOpenFile, CanWriteOpenFile, HasBytesAs, IsOpenedForm, IsOver, IsStoredAt, IsWriting, bytes_held, kept_of};
+ghost use Rattle.lfs_tree.specs.TreeState.{IsReadOnlyCall, IsFailedTree, FailsInRead, IsError, SurvivesAs, tree_view};
 ghost use Rattle.lfs_writer.specs.Contents.{form_of};
 ghost use Rattle.lfs_writer.specs.Form as form;
 ghost use Rattle.lfs_writer.specs.Form.{truncated, written};
@@ -30,7 +30,7 @@ impl<D: BlockDevice> Tree<D> {
     /// after either.
     pub fn contents(&mut self, alloc: Global, path: &Path<'_>) -> Result<Contents, Error>
         requires { CanOpen self.old path.now }
-        ensures asks { IsAsking self.old result self.new }
+        ensures asks { IsReadOnlyCall self.old result self.new }
         ensures over { IfOk result (IsOver self.new path.now) }
         ensures bytes { IfOk result (λ c. bytes_held (kept_of self.new) c ≡ bytes_at (tree_view self.old path.now)) }
         ensures form { IfOk result (λ c. IsOpenedForm self.old.disk.block_size (length (bytes_at (tree_view self.old path.now))) (form_of c)) }
@@ -50,7 +50,7 @@ impl<D: BlockDevice> Tree<D> {
         ensures over { (path : ModelPath) → is_file (tree_view self.old path) ≡ true → IfOk result (IsOver self.new path) }
         ensures bytes { IfOk result (λ c. bytes_held (kept_of self.new) c ≡ []) }
         ensures form { IfOk result (λ c. form_of c ≡ form.InMemory 0) }
-        ensures broken { OnErr result (IsBrokenAsking self.old self.new) }
+        ensures broken { OnErr result (FailsInRead self.old self.new) }
         ensures errors { IfErr result (IsError self.old self.new) }
     {
         let contents = no_contents(alloc, &self.thread);
@@ -70,7 +70,7 @@ impl<D: BlockDevice> Tree<D> {
         place: u32,
         bytes: &[u8],
     ) -> Result<Contents, Error>
-        requires { CanWriteBeside self.old contents place (length bytes.now) }
+        requires { CanWriteOpenFile self.old contents place (length bytes.now) }
         ensures over { (path : ModelPath) → IsOver self.old path contents → IfOk result (IsOver self.new path) }
         ensures written { IfOk result (HasBytesAs self.new (written_into (bytes_held (kept_of self.old) contents) place bytes.now)
             (written (inline_limit self.old.disk.block_size) place (length bytes.now) (form_of contents))) }
@@ -91,7 +91,7 @@ impl<D: BlockDevice> Tree<D> {
         contents: Contents,
         size: u32,
     ) -> Result<Contents, Error>
-        requires { CanTruncateBeside self.old contents size }
+        requires { CanTruncateOpenFile self.old contents size }
         ensures over { (path : ModelPath) → IsOver self.old path contents → IfOk result (IsOver self.new path) }
         ensures truncated { IfOk result (HasBytesAs self.new (take size (zeros_to size (bytes_held (kept_of self.old) contents)))
             (truncated (inline_limit self.old.disk.block_size) size (form_of contents))) }
@@ -109,7 +109,7 @@ impl<D: BlockDevice> Tree<D> {
     pub fn store(&mut self, alloc: Global, path: &Path<'_>, contents: Contents) -> Result<(), Error>
         requires { CanStoreAt self.old path.now contents }
         ensures stored { OnOk result (IsStoredAt self.old path.now (bytes_held (kept_of self.old) contents) self.new) }
-        ensures broken { OnErr result (IsBroken self.old self.new) }
+        ensures broken { OnErr result (IsFailedTree self.old self.new) }
         ensures errors { IfErr result (IsError self.old self.new) }
         ensures survives { SurvivesAs self.old self.new (change_at path.now (with_bytes (bytes_held (kept_of self.old) contents)) (tree_view self.old)) }
     {

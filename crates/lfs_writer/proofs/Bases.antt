@@ -7,10 +7,10 @@ use Rattle.lfs_model.specs.Blocks.{Blocks, block_in}
 use Rattle.lfs_model.specs.BlockSets.{BlockSets}
 use Rattle.lfs_model.specs.SkipLists.{word_at, blocks_for, IsList, data_of, bytes_of}
 use Rattle.lfs_model.proofs.Files.{Same, back_same, data_same, list_same}
-use Rattle.lfs_writer.specs.Apart.{IsApart, Spares}
-use Rattle.lfs_writer.specs.Based.{list_blocks}
+use Rattle.lfs_writer.specs.BlocksApart.{IsApart, SparesApart}
+use Rattle.lfs_writer.specs.Bases.{list_blocks}
 
-module _ (map : BlockSets) (pending : List ℕ) (d e : Blocks) (block_size head size : ℕ) (spares : Spares map pending d e) (apart : All (IsApart map pending) (list_blocks d block_size head size)) where
+module _ (map : BlockSets) (pending : List ℕ) (d e : Blocks) (block_size head size : ℕ) (spares : SparesApart map pending d e) (apart : All (IsApart map pending) (list_blocks d block_size head size)) where
   same : Same d e (list_blocks d block_size head size)
   same = recursion_from_All (λ b. block_in e b ≡ block_in d b) (list_blocks d block_size head size) (λ k x l. spares.same (get_or (list_blocks d block_size head size) k x) (apart k x l))
 

@@ -10,7 +10,7 @@ use Rattle.lfs_model.specs.History.{event, faults}
 use Rattle.lfs_model.specs.History.Call.{Read}
 use Rattle.lfs_model.proofs.Histories.{AtWorst-read, LeavesOnly-reads, OnlyReads-trans, began, goes_on, unprogrammed-reads}
 use Rattle.lfs_ctz.specs.Growing.{Growing, pending_of}
-use Rattle.lfs_writer.specs.Apart.{IsApart, IsMarked, Spares}
+use Rattle.lfs_writer.specs.BlocksApart.{IsApart, IsTakenInMap, SparesApart}
 use Rattle.lfs_writer.specs.Calls.{LeavesApart, LeavesUsed}
 use Rattle.lfs_writer.specs.Hand.{KeepsUsed, SparesUsed}
 use Rattle.lfs_writer.proofs.Growth.{Spares-refl, Spares-trans, SparesPages-trans, stops_trans}
@@ -61,7 +61,7 @@ module _ {D : Type 0} (g : Ghosts D) where
 
   pub apart_reads : {old new : D} (map : BlockSets) (pending : List ℕ) → ReadsOnly g old new → LeavesApart g map pending old new
   apart_reads {old} {new} map pending only = record {
-    spared = subst (Spares map pending (g.blocks old)) (sym only.same) (Spares-refl map pending (g.blocks old));
+    spared = subst (SparesApart map pending (g.blocks old)) (sym only.same) (Spares-refl map pending (g.blocks old));
     pages = record { stays = λ k i apart was. unprogrammed-reads k i only.reads ∙ was };
     geometry = only.geometry;
     at_worst = LeavesOnly-reads AtWorst-read only.reads (Spares-refl map pending (g.blocks old));
@@ -110,7 +110,7 @@ module _ {D : Type 0} (g : Ghosts D) where
   used_read {map} first only = used_on (record { count = refl; used = refl; stays = λ b used. used }) first (used_reads map only)
 
   -- used blocks stand apart
-  pub used_of : {map : BlockSets} {d : Blocks} {old new : D} (list : Growing) → IsMarked map d list → LeavesApart g map (pending_of list) old new → LeavesUsed g map old new
+  pub used_of : {map : BlockSets} {d : Blocks} {old new : D} (list : Growing) → IsTakenInMap map d list → LeavesApart g map (pending_of list) old new → LeavesUsed g map old new
   used_of {map} {d} {old} {new} list marked leaves = record {
     spared = to_used map d list marked (g.blocks old) (g.blocks new) leaves.spared;
     pages = to_used_pages map d list marked (g.history old) (g.history new) leaves.pages;

@@ -14,12 +14,12 @@ use Rattle.lfs_model.proofs.Counts.{count, each_from_counted, once_from_distinct
 use Rattle.lfs_thread.specs.Kept.{Kept}
 use Rattle.lfs_writer.specs.Form.{Form}
 use Rattle.lfs_writer.specs.Hand.{IsListStored}
-use Rattle.lfs_writer.specs.Owned.{AreOwned}
+use Rattle.lfs_writer.specs.BlockOwners.{AreOwned}
 use Rattle.lfs_writer.specs.declared.contents.Contents.TheVariants.{Finished}
 use Rattle.lfs_writer.specs.declared.stored_list.Stored.{Stored}
-use Rattle.lfs_writer.specs.Coming.{CanCome}
-use Rattle.lfs_writer.specs.Settling.{blocks_in_list}
-use Rattle.lfs_writer.specs.Standing.{HoldsContents}
+use Rattle.lfs_writer.specs.StructChanges.{CanReplaceStruct}
+use Rattle.lfs_writer.specs.SettledFiles.{blocks_in_list}
+use Rattle.lfs_writer.specs.ThreadContents.{HoldsContents}
 use Rattle.lfs_writer.proofs.Ends.{none_distinct}
 use Rattle.lfs_writer.proofs.Outside.{came, come_apart, counted_both, outside}
 
@@ -43,7 +43,7 @@ module _ (t : Kept) (s : Stored) (was : List ℕ) (stored : IsListStored t.map t
 
 -- a list
 pub list_comes : (t : Kept) (s : Stored) (bytes : List ℕ) (form : Form) (was : Struct) → HoldsContents t (Finished s) bytes form → s.size ≡ length bytes → inline_limit t.disk.block_size < length bytes
-    → AreOwned t.map (file_blocks t.disk was) (blocks_in_list t s) → IsDistinct nat_eq (file_blocks t.disk was) → CanCome t bytes was (Ctz s.head s.size)
+    → AreOwned t.map (file_blocks t.disk was) (blocks_in_list t s) → IsDistinct nat_eq (file_blocks t.disk was) → CanReplaceStruct t bytes was (Ctz s.head s.size)
 list_comes t s bytes form was holds size large owned distinct =
     let stored : IsListStored t.map t.disk.blocks t.disk.block_size s = subst (λ (n : ℕ). IsListStored t.map t.disk.blocks n s) holds.divided.block_size holds.has.stands in
     let list : IsList t.disk.blocks t.disk.block_size s.head s.size = ⊎_elim (λ none. absurd (omega arith)) (λ is. is) stored.base in
@@ -60,7 +60,7 @@ list_comes t s bytes form was holds size large owned distinct =
     }
 
 -- inline
-pub inline_comes : (t : Kept) (bytes : List ℕ) (was : Struct) → length bytes ≤ inline_limit t.disk.block_size → CanCome t bytes was (Inline bytes)
+pub inline_comes : (t : Kept) (bytes : List ℕ) (was : Struct) → length bytes ≤ inline_limit t.disk.block_size → CanReplaceStruct t bytes was (Inline bytes)
 inline_comes t bytes was few = record {
   stores = (refl, few);
   list = tt;

@@ -8,11 +8,11 @@ use Rattle.lfs_device.specs.declared.geometry.Geometry.{Geometry}
 use Rattle.lfs_model.specs.Blocks.{Blocks}
 use Rattle.lfs_model.specs.BlockSets.{BlockSets}
 use Rattle.lfs_model.specs.SkipLists.{IsList, blocks_back, blocks_for, bytes_of, data_of}
-use Rattle.lfs_ctz.specs.Growing.{Growing, size_of}
-use Rattle.lfs_writer.specs.Apart.{Grows, IsApart, Spares}
-use Rattle.lfs_writer.specs.Based.{IsBase, list_blocks}
+use Rattle.lfs_ctz.specs.Growing.{Growing, size_with_pointers}
+use Rattle.lfs_writer.specs.BlocksApart.{Grows, IsApart, SparesApart}
+use Rattle.lfs_writer.specs.Bases.{IsBase, list_blocks}
 use Rattle.lfs_writer.proofs.Bases.{bytes_stay, list_stays}
-use Rattle.lfs_writer.specs.Taken.{Keeps}
+use Rattle.lfs_writer.specs.TakenBlocks.{Keeps}
 use Rattle.lfs_writer.proofs.Growth.{Grows-trans}
 
 -- growth, reads, and more growth
@@ -41,21 +41,21 @@ none_behind d block_size head size end content le =
     ap (λ (l : List ℕ). content ++ l) (drop_all end (bytes_of d block_size head size) (let few = few_bytes size (flat_map (data_of d) (enumerate_from 0 (blocks_back d (blocks_for block_size size) head))) in omega arith)) ∙ append-nil content
 
 -- the base is a list still, with the same bytes, also by another name of the geometry
-pub listed : (map : BlockSets) (pending : List ℕ) (d e : Blocks) (geometry now : Geometry) (head size : ℕ) → now ≡ geometry → Spares map pending d e → All (IsApart map pending) (list_blocks d geometry.block_size head size)
+pub listed : (map : BlockSets) (pending : List ℕ) (d e : Blocks) (geometry now : Geometry) (head size : ℕ) → now ≡ geometry → SparesApart map pending d e → All (IsApart map pending) (list_blocks d geometry.block_size head size)
     → 1 ≤ size → IsBase d geometry.block_size head size → IsList e now.block_size head size
 listed map pending d e geometry now head size same spared apart some base =
     subst (λ (k : Geometry). IsList e k.block_size head size) (sym same) (list_stays map pending d e geometry.block_size head size spared apart (base_list d geometry.block_size head size some base))
 
-pub read_bytes : (map : BlockSets) (pending : List ℕ) (d e : Blocks) (geometry now : Geometry) (head size from to : ℕ) (taken : List ℕ) → now ≡ geometry → Spares map pending d e
+pub read_bytes : (map : BlockSets) (pending : List ℕ) (d e : Blocks) (geometry now : Geometry) (head size from to : ℕ) (taken : List ℕ) → now ≡ geometry → SparesApart map pending d e
     → All (IsApart map pending) (list_blocks d geometry.block_size head size) → taken ≡ slice_range (bytes_of e now.block_size head size) from to → taken ≡ slice_range (bytes_of d geometry.block_size head size) from to
 read_bytes map pending d e geometry now head size from to taken same spared apart is =
     is ∙ ap (λ (k : Geometry). slice_range (bytes_of e k.block_size head size) from to) same ∙ ap (λ (l : List ℕ). slice_range l from to) (bytes_stay map pending d e geometry.block_size head size spared apart)
 
-pub sized : (geometry now : Geometry) (g : Growing) → now ≡ geometry → size_of now.block_size g ≡ size_of geometry.block_size g
-sized geometry now g same = ap (λ (k : Geometry). size_of k.block_size g) same
+pub sized : (geometry now : Geometry) (g : Growing) → now ≡ geometry → size_with_pointers now.block_size g ≡ size_with_pointers geometry.block_size g
+sized geometry now g same = ap (λ (k : Geometry). size_with_pointers k.block_size g) same
 
-pub counted : (geometry now : Geometry) (g : Growing) (n : ℕ) → now ≡ geometry → n ≡ blocks_for now.block_size (size_of now.block_size g) → n ≡ blocks_for geometry.block_size (size_of geometry.block_size g)
-counted geometry now g n same is = is ∙ ap (λ (k : Geometry). blocks_for k.block_size (size_of k.block_size g)) same
+pub counted : (geometry now : Geometry) (g : Growing) (n : ℕ) → now ≡ geometry → n ≡ blocks_for now.block_size (size_with_pointers now.block_size g) → n ≡ blocks_for geometry.block_size (size_with_pointers geometry.block_size g)
+counted geometry now g n same is = is ∙ ap (λ (k : Geometry). blocks_for k.block_size (size_with_pointers k.block_size g)) same
 
 -- a list's blocks are all there
 pub not_corrupt : {T : Type 0} (x : Error) → (x ≡ Error.Io) ⊎ (x ≡ Error.Corrupt) → (◌≡◌ {A = Result T Error} (Err x) (Err Error.Corrupt) → ⊥) → (x ≡ Error.Io) ⊎ (x ≡ Error.NoMemory)

@@ -6,10 +6,10 @@ use Rattle.std.proofs.lemmas.List.Elements.{All-contains, All-contains_itself, A
 use Rattle.lfs_model.specs.Blocks.{Blocks, SameButThese}
 use Rattle.lfs_model.specs.BlockSets.{BlockSets, IsFree, IsInFlight}
 use Rattle.lfs_model.specs.SkipLists.{IsList}
-use Rattle.lfs_writer.specs.Apart.{IsApart}
-use Rattle.lfs_writer.specs.Based.{IsBase, list_blocks}
+use Rattle.lfs_writer.specs.BlocksApart.{IsApart}
+use Rattle.lfs_writer.specs.Bases.{IsBase, list_blocks}
 use Rattle.lfs_writer.specs.Hand.{IsListStored}
-use Rattle.lfs_writer.specs.Released.{Releases}
+use Rattle.lfs_writer.specs.Releases.{Releases}
 use Rattle.lfs_writer.specs.declared.stored_list.Stored.{Stored}
 use Rattle.lfs_writer.proofs.Bases.{blocks_stay, list_stays}
 use Rattle.lfs_writer.proofs.Ends.{base_distinct, gone_of, still_apart, still_flying}

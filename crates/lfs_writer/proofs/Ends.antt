@@ -9,11 +9,11 @@ use Rattle.lfs_model.specs.Blocks.{Blocks, SameButThese}
 use Rattle.lfs_model.specs.BlockSets.{BlockSets, IsFree, IsInFlight}
 use Rattle.lfs_model.specs.BlockSets.BlockState.{Free, Used}
 use Rattle.lfs_model.specs.SkipLists.{blocks_for, AreListBlocks, IsList}
-use Rattle.lfs_ctz.specs.Growing.{Growing, blocks_of_list, kept_of, pending_of}
-use Rattle.lfs_writer.specs.Based.{IsBase, list_blocks}
+use Rattle.lfs_ctz.specs.Growing.{Growing, blocks_of_list, kept_blocks, pending_of}
+use Rattle.lfs_writer.specs.Bases.{IsBase, list_blocks}
 use Rattle.lfs_writer.specs.Hand.{IsHand, IsListStored, KeepsUsed}
-use Rattle.lfs_writer.specs.Released.{Releases}
-use Rattle.lfs_writer.specs.Taken.{Keeps}
+use Rattle.lfs_writer.specs.Releases.{Releases}
+use Rattle.lfs_writer.specs.TakenBlocks.{Keeps}
 use Rattle.lfs_writer.specs.declared.stored_list.Stored.{Stored}
 use Rattle.lfs_writer.proofs.Bases.{blocks_stay, list_stays}
 use Rattle.lfs_writer.proofs.Hands.{Contains-drop, Contains-take, distinct_parts}
@@ -65,7 +65,7 @@ module _ (map later : BlockSets) (e f : Blocks) (block_size : ℕ) (h : Growing)
   out : Releases map later (gone_of base.in_flight shared (list_blocks e block_size base.head base.size))
   out = subst (λ (l : List ℕ). Releases map later (gone_of base.in_flight shared l)) stay released
 
-  kept_is : list_blocks f block_size head size ≡ kept_of e h
+  kept_is : list_blocks f block_size head size ≡ kept_blocks e h
   kept_is = blocks ∙ hand.own
 
   pub ends : IsListStored later f block_size (record { head = head; size = size; in_flight = true })
@@ -73,12 +73,12 @@ module _ (map later : BlockSets) (e f : Blocks) (block_size : ℕ) (h : Growing)
     base = inr list;
     count = released.count ∙ hand.begun.marked.count ∙ sym others.count;
     marked = subst (All (λ b. ¬ (IsFree later b))) (sym kept_is) (λ k x l free.
-        hand.begun.marked.kept k x l (sym (out.others (get_or (kept_of e h) k x) (still_apart shared (kept_of e h) (list_blocks e block_size base.head base.size) (get_or (kept_of e h) k x) base.in_flight
-        (base_distinct e block_size base.head base.size hand.begun.list) hand.begun.front hand.begun.behind (All-contains_itself (kept_of e h) k x l))) ∙ free));
+        hand.begun.marked.kept k x l (sym (out.others (get_or (kept_blocks e h) k x) (still_apart shared (kept_blocks e h) (list_blocks e block_size base.head base.size) (get_or (kept_blocks e h) k x) base.in_flight
+        (base_distinct e block_size base.head base.size hand.begun.list) hand.begun.front hand.begun.behind (All-contains_itself (kept_blocks e h) k x l))) ∙ free));
     flying = λ b is. (
       refl,
       subst (λ (l : List ℕ). Contains l b) (sym kept_is)
-          (still_flying map later shared (kept_of e h) (list_blocks e block_size base.head base.size) b base.in_flight hand.begun.front out (hand.begun.flying b) is),
+          (still_flying map later shared (kept_blocks e h) (list_blocks e block_size base.head base.size) b base.in_flight hand.begun.front out (hand.begun.flying b) is),
     );
   }
 

@@ -12,12 +12,12 @@ use Rattle.lfs_model.specs.BlockSets.{BlockSets, in_flight_count}
 use Rattle.lfs_model.specs.Writers.{written_into, zeros_to}
 use Rattle.lfs_device.specs.declared.geometry.Geometry.{Geometry}
 use Rattle.lfs_model.specs.SkipLists.{blocks_back, blocks_for, bytes_of}
-use Rattle.lfs_ctz.specs.Growing.{Growing, IsGrowing, blocks_of_list, content_of, is_held, joined, kept_of, pending_of, size_of}
-use Rattle.lfs_writer.specs.Apart.{Grows, IsMarked, Spares}
-use Rattle.lfs_writer.specs.Based.{IsBase, list_blocks}
+use Rattle.lfs_ctz.specs.Growing.{Growing, IsGrowing, blocks_of_list, content_of, is_in_buffer_alone, bytes_of_blocks, kept_blocks, pending_of, size_with_pointers}
+use Rattle.lfs_writer.specs.BlocksApart.{Grows, IsTakenInMap, SparesApart}
+use Rattle.lfs_writer.specs.Bases.{IsBase, list_blocks}
 use Rattle.lfs_writer.specs.Hand.{IsListBegun, IsHand, IsListStored, hand_bytes, stored_bytes}
-use Rattle.lfs_writer.specs.Roomy.{base_blocks}
-use Rattle.lfs_writer.specs.Taken.{Keeps}
+use Rattle.lfs_writer.specs.BaseRoom.{base_blocks}
+use Rattle.lfs_writer.specs.TakenBlocks.{Keeps}
 use Rattle.lfs_writer.specs.declared.stored_list.Stored.{Stored}
 use Rattle.lfs_model.proofs.BlockCounts.{few_flying}
 use Rattle.lfs_model.proofs.Files.{length_back}
@@ -31,9 +31,9 @@ pub shaped : (d : Blocks) (geometry now : Geometry) → geometry ≡ now → IsD
 shaped d geometry now same shape = subst (λ (k : Geometry). IsDivided k.block_size geometry.block_count d) same shape
 
 -- a list in hand has as many bytes as its size says
-pub length-content : (d : Blocks) (block_size count : ℕ) (g : Growing) → 1024 ≤ block_size → IsDivided block_size count d → IsGrowing d g → length (content_of d g) ≡ size_of block_size g
+pub length-content : (d : Blocks) (block_size count : ℕ) (g : Growing) → 1024 ≤ block_size → IsDivided block_size count d → IsGrowing d g → length (content_of d g) ≡ size_with_pointers block_size g
 length-content d block_size count g large shape growing =
-    omega (arith, length-append (joined d (blocks_back d g.full g.head)) g.rest, length-back_data d block_size count g.full g.head large shape growing.chain.in_range)
+    omega (arith, length-append (bytes_of_blocks d (blocks_back d g.full g.head)) g.rest, length-back_data d block_size count g.full g.head large shape growing.chain.in_range)
 
 -- bytes at the end of those in hand are written over what the base has there
 pub written_on : (content base bytes : List ℕ) (end : ℕ) → length content ≡ end → (content ++ bytes) ++ drop (end + length bytes) base ≡ written_into (content ++ drop end base) end bytes
@@ -66,26 +66,26 @@ stored_flying map d block_size s stored =
     let few = few_flying (lent s.in_flight bb) map (λ b is. in_lent s.in_flight bb b (stored.flying b is).0 (stored.flying b is).1) in
     omega (arith, few, length-lent d block_size s s.in_flight)
 
-pub begun_flying : (map : BlockSets) (d : Blocks) (block_size : ℕ) (g : Growing) (base : Stored) (shared : ℕ) → IsListBegun map d block_size g base shared → in_flight_count map ≤ length (kept_of d g) + base_blocks block_size base
+pub begun_flying : (map : BlockSets) (d : Blocks) (block_size : ℕ) (g : Growing) (base : Stored) (shared : ℕ) → IsListBegun map d block_size g base shared → in_flight_count map ≤ length (kept_blocks d g) + base_blocks block_size base
 begun_flying map d block_size g base shared begun =
     let bb : List ℕ = list_blocks d block_size base.head base.size in
-    let few = few_flying (kept_of d g ++ lent base.in_flight bb) map (λ b is. ⊎_elim
-    (λ has. Contains-append_left (kept_of d g) (lent base.in_flight bb) b has)
-    (λ both. Contains-append_right (kept_of d g) (lent base.in_flight bb) b (in_lent base.in_flight bb b both.0 both.1))
+    let few = few_flying (kept_blocks d g ++ lent base.in_flight bb) map (λ b is. ⊎_elim
+    (λ has. Contains-append_left (kept_blocks d g) (lent base.in_flight bb) b has)
+    (λ both. Contains-append_right (kept_blocks d g) (lent base.in_flight bb) b (in_lent base.in_flight bb b both.0 both.1))
     (begun.flying b is)) in
-    omega (arith, few, length-append (kept_of d g) (lent base.in_flight bb), length-lent d block_size base base.in_flight)
+    omega (arith, few, length-append (kept_blocks d g) (lent base.in_flight bb), length-lent d block_size base base.in_flight)
 
 -- ---- a list in hand that grows, also under another name of the geometry
 
-pub wrote : (map : BlockSets) (d e : Blocks) (geometry now : Geometry) (g h : Growing) (base : Stored) (shared : ℕ) (bytes : List ℕ) → now ≡ geometry → IsListBegun map d geometry.block_size g base shared → Spares map (pending_of g) d e
-    → content_of e h ≡ content_of d g ++ bytes → size_of now.block_size h ≡ size_of geometry.block_size g + length bytes → length (content_of d g) ≡ size_of geometry.block_size g
-    → hand_bytes e now.block_size h base ≡ written_into (hand_bytes d geometry.block_size g base) (size_of geometry.block_size g) bytes
+pub wrote : (map : BlockSets) (d e : Blocks) (geometry now : Geometry) (g h : Growing) (base : Stored) (shared : ℕ) (bytes : List ℕ) → now ≡ geometry → IsListBegun map d geometry.block_size g base shared → SparesApart map (pending_of g) d e
+    → content_of e h ≡ content_of d g ++ bytes → size_with_pointers now.block_size h ≡ size_with_pointers geometry.block_size g + length bytes → length (content_of d g) ≡ size_with_pointers geometry.block_size g
+    → hand_bytes e now.block_size h base ≡ written_into (hand_bytes d geometry.block_size g base) (size_with_pointers geometry.block_size g) bytes
 wrote map d e geometry now g h base shared bytes same begun spared content sum long =
-    let end : ℕ = size_of geometry.block_size g in
+    let end : ℕ = size_with_pointers geometry.block_size g in
     let old : List ℕ = bytes_of d geometry.block_size base.head base.size in
     let stay : bytes_of e now.block_size base.head base.size ≡ old =
     ap (λ (k : Geometry). bytes_of e k.block_size base.head base.size) same ∙ bytes_stay map (pending_of g) d e geometry.block_size base.head base.size spared begun.apart in
-    ap (λ (l : List ℕ). l ++ drop (size_of now.block_size h) (bytes_of e now.block_size base.head base.size)) content
+    ap (λ (l : List ℕ). l ++ drop (size_with_pointers now.block_size h) (bytes_of e now.block_size base.head base.size)) content
     ∙ ap (λ n. content_of d g ++ bytes ++ drop n (bytes_of e now.block_size base.head base.size)) sum
     ∙ ap (λ (l : List ℕ). content_of d g ++ bytes ++ drop (end + length bytes) l) stay
     ∙ written_on (content_of d g) old bytes end long
@@ -140,9 +140,9 @@ more_zeros old now new part at size done n le so_far is zeros written =
     ∙ ap (written_into old at) (replicate-append-replicate done n 0)
 
 -- the bytes in hand are among the contents
-pub in_hand : (d : Blocks) (block_size count : ℕ) (g : Growing) (base : Stored) → 1024 ≤ block_size → IsDivided block_size count d → IsGrowing d g → size_of block_size g ≤ length (hand_bytes d block_size g base)
+pub in_hand : (d : Blocks) (block_size count : ℕ) (g : Growing) (base : Stored) → 1024 ≤ block_size → IsDivided block_size count d → IsGrowing d g → size_with_pointers block_size g ≤ length (hand_bytes d block_size g base)
 in_hand d block_size count g base large shape growing =
-    omega (arith, length-content d block_size count g large shape growing, length-append (content_of d g) (drop (size_of block_size g) (stored_bytes d block_size base)))
+    omega (arith, length-content d block_size count g large shape growing, length-append (content_of d g) (drop (size_with_pointers block_size g) (stored_bytes d block_size base)))
 
 -- room for all is room for a part
 pub part_fits : (geometry now : Geometry) (s t : Stored) (used was all was_all size end : ℕ) → now ≡ geometry → s ≡ t → size ≤ end → used ≡ was → all ≡ was_all → was + blocks_for geometry.block_size end + base_blocks geometry.block_size t ≤ was_all
@@ -157,18 +157,18 @@ part_fits geometry now s t used was all was_all size end same base le is count r
 
 -- a base has as many bytes as its size says
 pub length-base : (d : Blocks) (block_size count head size : ℕ) → 1024 ≤ block_size → IsDivided block_size count d → IsBase d block_size head size → length (bytes_of d block_size head size) ≡ size
-length-base d block_size count head size large shape (inl none) = omega (arith, length-take size (joined d (list_blocks d block_size head size)))
+length-base d block_size count head size large shape (inl none) = omega (arith, length-take size (bytes_of_blocks d (list_blocks d block_size head size)))
 length-base d block_size count head size large shape (inr list) = length-bytes_of d block_size count head size large shape list
 
 -- the contents are as long as the longer of both
-pub length-hand : (d : Blocks) (block_size count : ℕ) (g : Growing) (base : Stored) → 1024 ≤ block_size → IsDivided block_size count d → IsGrowing d g → IsBase d block_size base.head base.size → length (hand_bytes d block_size g base) ≡ max (size_of block_size g) base.size
+pub length-hand : (d : Blocks) (block_size count : ℕ) (g : Growing) (base : Stored) → 1024 ≤ block_size → IsDivided block_size count d → IsGrowing d g → IsBase d block_size base.head base.size → length (hand_bytes d block_size g base) ≡ max (size_with_pointers block_size g) base.size
 length-hand d block_size count g base large shape growing based =
     omega (
       arith,
       length-content d block_size count g large shape growing,
       length-base d block_size count base.head base.size large shape based,
-      length-append (content_of d g) (drop (size_of block_size g) (stored_bytes d block_size base)),
-      length-drop (size_of block_size g) (stored_bytes d block_size base),
+      length-append (content_of d g) (drop (size_with_pointers block_size g) (stored_bytes d block_size base)),
+      length-drop (size_with_pointers block_size g) (stored_bytes d block_size base),
     )
 
 -- bytes at the end or behind it

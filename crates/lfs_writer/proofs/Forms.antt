@@ -5,7 +5,7 @@ use Rattle.std.proofs.lemmas.Bool.{or_left, or_right, eqb-true, eqb-false, leb-t
 use Rattle.std.proofs.lemmas.List.{length-take, length-replicate}
 use Rattle.lfs_model.specs.Disk.{inline_limit}
 use Rattle.lfs_model.specs.SkipLists.{blocks_for}
-use Rattle.lfs_model.specs.Session.{Writer, ctz_blocks, held_by}
+use Rattle.lfs_model.specs.Session.{Writer, ctz_blocks, blocks_held_by}
 use Rattle.lfs_model.specs.Writers.{after_write, after_truncate, after_sync, opened_writer, written_into, turns, write_place, zeros_to}
 use Rattle.lfs_model.specs.Operations.{Flags}
 use Rattle.lfs_model.specs.Tree.{Path}
@@ -232,23 +232,23 @@ kept_opened_list block_size path flags bytes = record {
 
 -- ---- space
 
-held_dirty : (block_size : ℕ) (w : Writer) → w.dirty ≡ true → inline_limit block_size < length w.contents → held_by block_size w ≡ 2 + (if w.turned then 2 else 1) * blocks_for block_size (length w.contents)
+held_dirty : (block_size : ℕ) (w : Writer) → w.dirty ≡ true → inline_limit block_size < length w.contents → blocks_held_by block_size w ≡ 2 + (if w.turned then 2 else 1) * blocks_for block_size (length w.contents)
 held_dirty block_size w dirty large =
     let n : ℕ = length w.contents in
-    let first : held_by block_size w ≡ 2 + (if w.turned then 2 else 1) * ctz_blocks block_size n = ap (λ (t : Bool). if not t then 0 else 2 + (if w.turned then 2 else 1) * ctz_blocks block_size n) dirty in
+    let first : blocks_held_by block_size w ≡ 2 + (if w.turned then 2 else 1) * ctz_blocks block_size n = ap (λ (t : Bool). if not t then 0 else 2 + (if w.turned then 2 else 1) * ctz_blocks block_size n) dirty in
     let outside : nat_le n (inline_limit block_size) ≡ false = lt-leb n (inline_limit block_size) large in
     first ∙ ap (λ (t : Bool). 2 + (if w.turned then 2 else 1) * (if t then 0 else blocks_for block_size n)) outside
 
-held_turned : (block_size : ℕ) (w : Writer) → w.dirty ≡ true → inline_limit block_size < length w.contents → w.turned ≡ true → held_by block_size w ≡ 2 + 2 * blocks_for block_size (length w.contents)
+held_turned : (block_size : ℕ) (w : Writer) → w.dirty ≡ true → inline_limit block_size < length w.contents → w.turned ≡ true → blocks_held_by block_size w ≡ 2 + 2 * blocks_for block_size (length w.contents)
 held_turned block_size w dirty large turned = held_dirty block_size w dirty large ∙ ap (λ (t : Bool). 2 + (if t then 2 else 1) * blocks_for block_size (length w.contents)) turned
 
-held_once : (block_size : ℕ) (w : Writer) → w.dirty ≡ true → inline_limit block_size < length w.contents → 2 + blocks_for block_size (length w.contents) ≤ held_by block_size w
-held_once block_size w dirty large = turned_or w.turned (2 + blocks_for block_size (length w.contents) ≤ held_by block_size w)
+held_once : (block_size : ℕ) (w : Writer) → w.dirty ≡ true → inline_limit block_size < length w.contents → 2 + blocks_for block_size (length w.contents) ≤ blocks_held_by block_size w
+held_once block_size w dirty large = turned_or w.turned (2 + blocks_for block_size (length w.contents) ≤ blocks_held_by block_size w)
     (λ t. let e = held_turned block_size w dirty large t in omega arith)
-    (λ t. let e : held_by block_size w ≡ 2 + 1 * blocks_for block_size (length w.contents) = held_dirty block_size w dirty large ∙ ap (λ (t : Bool). 2 + (if t then 2 else 1) * blocks_for block_size (length w.contents)) t in omega arith)
+    (λ t. let e : blocks_held_by block_size w ≡ 2 + 1 * blocks_for block_size (length w.contents) = held_dirty block_size w dirty large ∙ ap (λ (t : Bool). 2 + (if t then 2 else 1) * blocks_for block_size (length w.contents)) t in omega arith)
 
 -- The blocks in flight, and two more while the writer is dirty, are no more than it holds.
-pub held_covers : (block_size : ℕ) (form : Form) (w : Writer) → IsWriterForm block_size form w → form_blocks block_size form ≤ held_by block_size w - 2
+pub held_covers : (block_size : ℕ) (form : Form) (w : Writer) → IsWriterForm block_size form w → form_blocks block_size form ≤ blocks_held_by block_size w - 2
 held_covers block_size (InMemory size) w kept = omega arith
 held_covers block_size (Finished size true) w kept =
     let is : size ≡ length w.contents = kept.size in
@@ -272,7 +272,7 @@ held_covers block_size (InHand end base false) w kept =
     omega arith
 
 -- room for what a writer holds is room for going on, or for a list over the base
-pub room_grown : (block_size end base : ℕ) (flying : Bool) (v : Writer) (used all : ℕ) → IsWriterForm block_size (InHand end base flying) v → used + held_by block_size v ≤ all
+pub room_grown : (block_size end base : ℕ) (flying : Bool) (v : Writer) (used all : ℕ) → IsWriterForm block_size (InHand end base flying) v → used + blocks_held_by block_size v ≤ all
     → used + blocks_for block_size end + (if flying then blocks_for block_size base else 0) ≤ all
 room_grown block_size end base flying v used all kept room =
     let covers = held_covers block_size (InHand end base flying) v kept in
@@ -282,7 +282,7 @@ room_grown block_size end base flying v used all kept room =
     omega arith
 
 -- for a list that ends and another one over it
-pub room_turned : (block_size end base : ℕ) (v : Writer) (used all : ℕ) → IsWriterForm block_size (InHand end base true) v → used + held_by block_size v ≤ all
+pub room_turned : (block_size end base : ℕ) (v : Writer) (used all : ℕ) → IsWriterForm block_size (InHand end base true) v → used + blocks_held_by block_size v ≤ all
     → used + 2 * blocks_for block_size (max base end) ≤ all
 room_turned block_size end base v used all kept room =
     let is : max end base ≡ length v.contents = kept.size in
@@ -292,7 +292,7 @@ room_turned block_size end base v used all kept room =
     omega arith
 
 -- for ending a list as it is
-pub room_ended : (block_size end base : ℕ) (flying : Bool) (w : Writer) (used all : ℕ) → IsWriterForm block_size (InHand end base flying) w → used + held_by block_size w ≤ all
+pub room_ended : (block_size end base : ℕ) (flying : Bool) (w : Writer) (used all : ℕ) → IsWriterForm block_size (InHand end base flying) w → used + blocks_held_by block_size w ≤ all
     → used + (if flying then blocks_for block_size base else 0) + blocks_for block_size base ≤ all
 room_ended block_size end base true w used all kept room =
     let is : max end base ≡ length w.contents = kept.size in

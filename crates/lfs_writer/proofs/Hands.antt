@@ -11,14 +11,14 @@ use Rattle.lfs_model.specs.Blocks.{Blocks}
 use Rattle.lfs_model.specs.BlockSets.{BlockSets, IsFree}
 use Rattle.lfs_model.specs.BlockSets.BlockState.{Free, Used}
 use Rattle.lfs_model.specs.SkipLists.{blocks_for}
-use Rattle.lfs_ctz.specs.Growing.{Growing, IsGrowing, blocks_of_list, is_held, kept_of, pending_of, size_of}
+use Rattle.lfs_ctz.specs.Growing.{Growing, IsGrowing, blocks_of_list, is_in_buffer_alone, kept_blocks, pending_of, size_with_pointers}
 use Rattle.lfs_ctz.specs.Growing.{pending_in}
 use Rattle.lfs_ctz.specs.declared.rest.Rest.{Rest}
 use Rattle.lfs_ctz.specs.declared.rest.Rest.TheVariants.{Closed, Shared, Handed, Held}
-use Rattle.lfs_writer.specs.Apart.{Grows, IsApart, IsMarked, Spares}
-use Rattle.lfs_writer.specs.Based.{list_blocks}
+use Rattle.lfs_writer.specs.BlocksApart.{Grows, IsApart, IsTakenInMap, SparesApart}
+use Rattle.lfs_writer.specs.Bases.{list_blocks}
 use Rattle.lfs_writer.specs.Hand.{IsListBegun, IsHand, IsListStored}
-use Rattle.lfs_writer.specs.Taken.{Keeps}
+use Rattle.lfs_writer.specs.TakenBlocks.{Keeps}
 use Rattle.lfs_writer.specs.declared.stored_list.Stored.{Stored}
 use Rattle.lfs_writer.proofs.Bases.{blocks_stay, list_stays}
 use Rattle.lfs_writer.proofs.Growth.{in_longer, split}
@@ -49,13 +49,13 @@ distinct_parts n xs b distinct (i, lt, is) k x l same =
 
 -- ---- growth
 
-pub hand_grows : (map later : BlockSets) (d e : Blocks) (block_size : ℕ) (g h : Growing) (base : Stored) (shared : ℕ) → IsListBegun map d block_size g base shared → Spares map (pending_of g) d e → Keeps map later
-    → Grows map d g later e h → IsGrowing e h → IsMarked later e h → blocks_of_list e h ≡ kept_of e h → length (kept_of e h) ≡ blocks_for block_size (size_of block_size h) → is_held h ≡ false → IsHand later e block_size h base shared
+pub hand_grows : (map later : BlockSets) (d e : Blocks) (block_size : ℕ) (g h : Growing) (base : Stored) (shared : ℕ) → IsListBegun map d block_size g base shared → SparesApart map (pending_of g) d e → Keeps map later
+    → Grows map d g later e h → IsGrowing e h → IsTakenInMap later e h → blocks_of_list e h ≡ kept_blocks e h → length (kept_blocks e h) ≡ blocks_for block_size (size_with_pointers block_size h) → is_in_buffer_alone h ≡ false → IsHand later e block_size h base shared
 hand_grows map later d e block_size g h base shared begun spared keeps grown growing marked own many listed =
     let bb : List ℕ = list_blocks d block_size base.head base.size in
     let stay : list_blocks e block_size base.head base.size ≡ bb = blocks_stay map (pending_of g) d e block_size base.head base.size spared begun.apart in
-    let x : List ℕ = kept_of d g in
-    let y : List ℕ = kept_of e h in
+    let x : List ℕ = kept_blocks d g in
+    let y : List ℕ = kept_blocks e h in
     let all : y ≡ x ++ drop (length x) y = split x y grown.front in
     let size : length (take shared x) ≡ length (take shared bb) = ap length begun.front in
     let long = length_back d (blocks_for block_size base.size) base.head in
@@ -91,7 +91,7 @@ hand_grows map later d e block_size g h base shared begun spared keeps grown gro
 -- ---- the beginning
 
 pub begins : (map : BlockSets) (d : Blocks) (block_size : ℕ) (g : Growing) (base : Stored) (full : ℕ) → IsListStored map d block_size base → IsGrowing d g → pending_of g ≡ []
-    → kept_of d g ≡ take full (list_blocks d block_size base.head base.size) → g.full ≡ full → IsListBegun map d block_size g base full
+    → kept_blocks d g ≡ take full (list_blocks d block_size base.head base.size) → g.full ≡ full → IsListBegun map d block_size g base full
 begins map d block_size g base full stored growing none kept is =
     let bb : List ℕ = list_blocks d block_size base.head base.size in
     let long = length_back d (blocks_for block_size base.size) base.head in
@@ -110,7 +110,7 @@ begins map d block_size g base full stored growing none kept is =
       apart = λ k x l. (stored.marked k x l, λ i y m. absurd (omega (arith, m)));
       few = omega arith;
       front = ap (take full) kept ∙ take-take full full bb (omega arith);
-      behind = λ k x l. absurd (omega (arith, l, length-drop full (kept_of d g), ap length kept));
+      behind = λ k x l. absurd (omega (arith, l, length-drop full (kept_blocks d g), ap length kept));
       taken = λ b has used. Contains-take full bb b (subst (λ (l : List ℕ). Contains l b) kept has);
       flying = λ b flying. inr (stored.flying b flying);
     }
@@ -121,7 +121,7 @@ pending_none (Shared b) e = refl
 pending_none (Handed b) e = absurd (omega (arith, e))
 pending_none Held e = refl
 
-pub none_pending : (d : Blocks) (g : Growing) → kept_of d g ≡ [] → (pending_of g ≡ []) × (g.full ≡ 0)
+pub none_pending : (d : Blocks) (g : Growing) → kept_blocks d g ≡ [] → (pending_of g ≡ []) × (g.full ≡ 0)
 none_pending d g none =
     let many = length-kept d g in
     let empty = ap length none in

@@ -10,15 +10,15 @@ use Rattle.std.specs.Prelude.{All, Contains, slice_range}
 use Rattle.lfs_model.specs.Blocks.{Blocks}
 use Rattle.lfs_model.specs.BlockSets.{BlockSets, IsFree, IsInFlight}
 use Rattle.lfs_model.specs.SkipLists.{AreListBlocks, IsList, blocks_back, blocks_for, bytes_before, bytes_of}
-use Rattle.lfs_ctz.specs.Growing.{Growing, IsGrowing, IsHeld, IsRest, content_of, is_held_in, joined, kept_of, pending_in, pending_of, size_of, end_of}
+use Rattle.lfs_ctz.specs.Growing.{Growing, IsGrowing, IsInBufferAlone, IsRest, content_of, is_rest_in_buffer, bytes_of_blocks, kept_blocks, pending_in, pending_of, size_with_pointers, end_of}
 use Rattle.lfs_ctz.specs.declared.rest.Rest.{Rest}
 use Rattle.lfs_ctz.specs.declared.rest.Rest.TheVariants.{Closed, Shared, Handed, Held}
-use Rattle.lfs_writer.specs.Based.{IsBase, list_blocks}
-use Rattle.lfs_writer.specs.Contents.{IsQuiet, held_bytes}
+use Rattle.lfs_writer.specs.Bases.{IsBase, list_blocks}
+use Rattle.lfs_writer.specs.Contents.{IsInMemoryAlone, held_bytes}
 use Rattle.lfs_writer.proofs.Copies.{base_list, none_behind}
-use Rattle.lfs_writer.specs.Written.{IsAt}
+use Rattle.lfs_writer.specs.HandWrites.{EndsAt}
 use Rattle.lfs_writer.proofs.Ends.{none_chain}
-use Rattle.lfs_writer.specs.Roomy.{base_blocks}
+use Rattle.lfs_writer.specs.BaseRoom.{base_blocks}
 use Rattle.lfs_writer.specs.declared.stored_list.Stored.{Stored}
 use Rattle.lfs_model.proofs.ListSizes.{blocks_for-more}
 use Rattle.lfs_writer.proofs.Flights.{zeros_not, as_block, at_end}
@@ -92,7 +92,7 @@ pub shortened_bytes : (old : List ℕ) (size : ℕ) → size ≤ length old → 
 shortened_bytes old size le = sym (ap (take size) (zeros_not old size le))
 
 -- bytes that stand in memory alone are as many as the list has
-pub held_size : (e : Growing) → IsHeld e → end_of e ≡ length e.rest
+pub held_size : (e : Growing) → IsInBufferAlone e → end_of e ≡ length e.rest
 held_size e held = omega (arith, ap (bytes_before e.geometry.block_size) held.none)
 
 -- more of them are loaded
@@ -111,32 +111,32 @@ bytes_on d e geometry now head size same is = ap (λ x. bytes_of x now.block_siz
 
 -- ---- bytes in memory as the beginning of a list
 
-never : (t : Rest) → (full : ℕ) → is_held_in t ≡ true → full ≡ 0 → (disk : Blocks) (head : ℕ) (rest : List ℕ) → IsRest disk full head rest t
+never : (t : Rest) → (full : ℕ) → is_rest_in_buffer t ≡ true → full ≡ 0 → (disk : Blocks) (head : ℕ) (rest : List ℕ) → IsRest disk full head rest t
 never Closed full held none disk head rest = absurd (cc)
 never (Shared b) full held none disk head rest = absurd (cc)
 never (Handed b) full held none disk head rest = absurd (cc)
 never Held full held none disk head rest = none
 
-pending_held : (t : Rest) → is_held_in t ≡ true → pending_in t ≡ []
+pending_held : (t : Rest) → is_rest_in_buffer t ≡ true → pending_in t ≡ []
 pending_held Closed held = absurd (cc)
 pending_held (Shared b) held = absurd (cc)
 pending_held (Handed b) held = absurd (cc)
 pending_held Held held = refl
 
-pub held_pending : (g : Growing) → IsHeld g → pending_of g ≡ []
+pub held_pending : (g : Growing) → IsInBufferAlone g → pending_of g ≡ []
 held_pending g held = pending_held g.stand held.held
 
-pub held_growing : (disk : Blocks) (g : Growing) → IsHeld g → IsGrowing disk g
+pub held_growing : (disk : Blocks) (g : Growing) → IsInBufferAlone g → IsGrowing disk g
 held_growing disk g held = record {
   chain = subst (λ n. AreListBlocks disk n g.head) (sym held.none) (none_chain disk g.head);
   stand = never g.stand g.full held.held held.none disk g.head g.rest;
 }
 
-pub held_kept : (disk : Blocks) (g : Growing) → IsHeld g → kept_of disk g ≡ []
+pub held_kept : (disk : Blocks) (g : Growing) → IsInBufferAlone g → kept_blocks disk g ≡ []
 held_kept disk g held = ap₂ (λ n (p : List ℕ). blocks_back disk n g.head ++ p) held.none (held_pending g held)
 
-pub held_content : (disk : Blocks) (g : Growing) → IsHeld g → content_of disk g ≡ g.rest
-held_content disk g held = ap (λ n. joined disk (blocks_back disk n g.head) ++ g.rest) held.none
+pub held_content : (disk : Blocks) (g : Growing) → IsInBufferAlone g → content_of disk g ≡ g.rest
+held_content disk g held = ap (λ n. bytes_of_blocks disk (blocks_back disk n g.head) ++ g.rest) held.none
 
 -- what a call finds of the bytes that it reads
 pub part_read : (bytes buf found : List ℕ) (pos n part : ℕ) → part ≤ n → found ≡ take n buf → found ≡ slice_range bytes pos (pos + n) → take part buf ≡ take part (drop pos bytes)
@@ -144,11 +144,11 @@ part_read bytes buf found pos n part le is read =
     sym (take-take part n buf le) ∙ ap (take part) (sym is ∙ read ∙ ap (λ k. take k (drop pos bytes)) (let k : pos + n - pos ≡ n = omega arith in k)) ∙ take-take part n (drop pos bytes) le
 
 -- over no base
-pub begins_none : (map : BlockSets) (d : Blocks) (now : Geometry) (e : Growing) → IsQuiet map d now e → IsAt map d now (record { list = e; base = record { head = 0; size = 0; in_flight = false }; shared = 0 }) (length (held_bytes e)) (held_bytes e)
+pub begins_none : (map : BlockSets) (d : Blocks) (now : Geometry) (e : Growing) → IsInMemoryAlone map d now e → EndsAt map d now (record { list = e; base = record { head = 0; size = 0; in_flight = false }; shared = 0 }) (length (held_bytes e)) (held_bytes e)
 begins_none map d now e quiet =
     let g : Growing = e in
     let held = quiet.resting.held in
-    let none : kept_of d g ≡ [] = held_kept d g held in
+    let none : kept_blocks d g ≡ [] = held_kept d g held in
     let block_size : ℕ = e.geometry.block_size in
     record {
       begun = record {
@@ -170,5 +170,5 @@ begins_none map d now e quiet =
         };
       };
       size = held_size e held;
-      bytes = none_behind d block_size 0 0 (size_of block_size g) (content_of d g) (omega arith) ∙ held_content d g held;
+      bytes = none_behind d block_size 0 0 (size_with_pointers block_size g) (content_of d g) (omega arith) ∙ held_content d g held;
     }

@@ -4,7 +4,7 @@ use Rattle.std.specs.Prelude.{Contains}
 use Rattle.std.proofs.lemmas.List.{take-append-drop}
 use Rattle.std.proofs.lemmas.List.Elements.{Contains-append_left, Contains-append_right}
 use Rattle.lfs_model.specs.BlockSets.{BlockState, BlockSets}
-use Rattle.lfs_writer.specs.Settled.{KeepsOthers, Puts}
+use Rattle.lfs_writer.specs.SettledMaps.{KeepsOthers, Puts}
 use Rattle.lfs_writer.proofs.Takings.{member}
 
 pub puts_others : {state : BlockState} {old new : BlockSets} {bs : List ℕ} → Puts state old new bs → KeepsOthers old new bs

@@ -6,11 +6,11 @@ use Rattle.lfs_model.specs.Blocks.{Blocks}
 use Rattle.lfs_model.specs.BlockSets.{BlockSets}
 use Rattle.lfs_writer.specs.Hand.{IsListBegun, IsHand, KeepsUsed}
 use Rattle.lfs_device.specs.declared.geometry.Geometry.{Geometry}
-use Rattle.lfs_ctz.specs.Growing.{Growing, kept_of, pending_of}
-use Rattle.lfs_writer.specs.Apart.{Spares}
-use Rattle.lfs_writer.specs.Based.{list_blocks}
-use Rattle.lfs_writer.specs.Owned.{AreOwned, EndsOver, KeepsList, blocks_held, blocks_in}
-use Rattle.lfs_writer.specs.Written.{IsGoing}
+use Rattle.lfs_ctz.specs.Growing.{Growing, kept_blocks, pending_of}
+use Rattle.lfs_writer.specs.BlocksApart.{SparesApart}
+use Rattle.lfs_writer.specs.Bases.{list_blocks}
+use Rattle.lfs_writer.specs.BlockOwners.{AreOwned, EndsOver, KeepsList, blocks_held, blocks_in}
+use Rattle.lfs_writer.specs.HandWrites.{IsHandWithBytes}
 use Rattle.lfs_writer.specs.declared.contents.Contents.TheVariants.{InHand}
 use Rattle.lfs_writer.specs.declared.writes.Hand.{Hand}
 use Rattle.lfs_writer.specs.declared.stored_list.Stored.{Stored}
@@ -41,7 +41,7 @@ pub owned_right : {map : BlockSets} (xs : List ℕ) {ys zs : List ℕ} → AreOw
 owned_right xs {ys} first = record { each = λ b has used. Contains-append_right xs ys b (first.each b has used) }
 
 -- a base stays in its blocks while a list is written over it
-pub base_kept : (map : BlockSets) (d e : Blocks) (geometry now : Geometry) (g : Growing) (base : Stored) (shared : ℕ) → now ≡ geometry → IsListBegun map d geometry.block_size g base shared → Spares map (pending_of g) d e
+pub base_kept : (map : BlockSets) (d e : Blocks) (geometry now : Geometry) (g : Growing) (base : Stored) (shared : ℕ) → now ≡ geometry → IsListBegun map d geometry.block_size g base shared → SparesApart map (pending_of g) d e
     → KeepsList now.block_size d base e base
 base_kept map d e geometry now g base shared same begun spared =
     subst (λ (k : Geometry). KeepsList k.block_size d base e base) (sym same) (record { same = refl; blocks = blocks_stay map (pending_of g) d e geometry.block_size base.head base.size spared begun.apart })
@@ -63,7 +63,7 @@ owned_kept map later geometry now e f t u own same keeps first list =
 
 -- a list that ended over a base
 pub ends_over : (map later : BlockSets) (d e f : Blocks) (geometry now : Geometry) (h : Growing) (base : Stored) (shared : ℕ) (s : Stored) → now ≡ geometry → IsHand map e geometry.block_size h base shared → KeepsUsed map later
-    → list_blocks e geometry.block_size base.head base.size ≡ list_blocks d geometry.block_size base.head base.size → list_blocks f geometry.block_size s.head s.size ≡ kept_of e h → s.in_flight ≡ true
+    → list_blocks e geometry.block_size base.head base.size ≡ list_blocks d geometry.block_size base.head base.size → list_blocks f geometry.block_size s.head s.size ≡ kept_blocks e h → s.in_flight ≡ true
     → EndsOver later now.block_size d base f s
 ends_over map later d e f geometry now h base shared s same hand keeps stay list flying =
     subst (λ (k : Geometry). EndsOver later k.block_size d base f s) (sym same)
@@ -73,7 +73,7 @@ ends_over map later d e f geometry now h base shared s same hand keeps stay list
     })
 
 -- the used blocks of a list in hand are its base's
-pub hand_owned : (map : BlockSets) (d : Blocks) (now : Geometry) (h : Hand) (own : List ℕ) → IsGoing map d now h → AreOwned map own (blocks_in d now.block_size h.base) → AreOwned map own (blocks_held d now.block_size (InHand h))
+pub hand_owned : (map : BlockSets) (d : Blocks) (now : Geometry) (h : Hand) (own : List ℕ) → IsHandWithBytes map d now h → AreOwned map own (blocks_in d now.block_size h.base) → AreOwned map own (blocks_held d now.block_size (InHand h))
 hand_owned map d now h own going base = owned_both
     (record { each = λ b has used. base.each b (subst (λ (k : Geometry). Contains (list_blocks d k.block_size h.base.head h.base.size) b) (sym going.geometry) (going.list.begun.taken b has used)) used })
     base

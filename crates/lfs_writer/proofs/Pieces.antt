@@ -8,8 +8,8 @@ use Rattle.lfs_model.specs.BlockSets.{BlockSets}
 use Rattle.lfs_model.specs.SkipLists.{IsBytePlace, IsList, blocks_for, bytes_of}
 use Rattle.lfs_model.proofs.Files.{length_back}
 use Rattle.lfs_model.proofs.ListSizes.{pointers_of-le}
-use Rattle.lfs_writer.specs.Apart.{IsApart, Spares}
-use Rattle.lfs_writer.specs.Based.{list_blocks}
+use Rattle.lfs_writer.specs.BlocksApart.{IsApart, SparesApart}
+use Rattle.lfs_writer.specs.Bases.{list_blocks}
 use Rattle.lfs_model.proofs.ListParts.{part_of_bytes, place-lt, place-mono}
 use Rattle.lfs_writer.proofs.Releasings.{in_range_at}
 
@@ -40,7 +40,7 @@ module _ (d : Blocks) (block_size count head size : ℕ) (large : 1024 ≤ block
       omega (arith, within, is, shape.count)
 
   -- what was read from a block that stands apart
-  pub piece : (map : BlockSets) (pending : List ℕ) (e : Blocks) (pos n i off block : ℕ) (taken : List ℕ) → Spares map pending d e → All (IsApart map pending) (list_blocks d block_size head size)
+  pub piece : (map : BlockSets) (pending : List ℕ) (e : Blocks) (pos n i off block : ℕ) (taken : List ℕ) → SparesApart map pending d e → All (IsApart map pending) (list_blocks d block_size head size)
       → IsBytePlace block_size pos i off → pos < size → n ≡ min (block_size - off) (size - pos) → block ≡ slice_index (list_blocks d block_size head size) i
       → taken ≡ slice_range (block_in e block) off (off + n) → taken ≡ slice_range (bytes_of d block_size head size) pos (pos + n)
   piece map pending e pos n i off block taken spared apart place lt many is read =

@@ -14,20 +14,20 @@ use Rattle.lfs_model.proofs.Files.{length_back}
 use Rattle.lfs_device.specs.Calls.{ChangesOnly}
 use Rattle.lfs_device.specs.declared.device.BlockDevice.{Ghosts}
 use Rattle.lfs_writer.specs.Calls.{LeavesApart}
-use Rattle.lfs_ctz.specs.Growing.{Growing, kept_of, pending_of}
-use Rattle.lfs_writer.specs.Apart.{Grows, IsApart, IsMarked, Spares, SparesPages}
-use Rattle.lfs_writer.specs.Taken.{Takes}
+use Rattle.lfs_ctz.specs.Growing.{Growing, kept_blocks, pending_of}
+use Rattle.lfs_writer.specs.BlocksApart.{Grows, IsApart, IsTakenInMap, SparesApart, SparesPages}
+use Rattle.lfs_writer.specs.TakenBlocks.{Takes}
 use Rattle.lfs_writer.proofs.Growth.{cases_in_flight}
 use Rattle.lfs_writer.proofs.Takings.{came, others_stay}
 
-pub length-kept : (d : Blocks) (g : Growing) → length (kept_of d g) ≡ g.full + length (pending_of g)
+pub length-kept : (d : Blocks) (g : Growing) → length (kept_blocks d g) ≡ g.full + length (pending_of g)
 length-kept d g = omega (arith, length-append (blocks_back d g.full g.head) (pending_of g), length_back d g.full g.head)
 
 -- what stands apart isn't among the blocks that are written
 apart_these : (map later : BlockSets) (pending blocks : List ℕ) → Takes map later blocks → (b : ℕ) → IsApart map pending b → All (λ x. x ≢ b) (pending ++ blocks)
 apart_these map later pending blocks takes b apart = All-append (λ x. x ≢ b) pending blocks apart.1 (λ k x l e. apart.0 (subst (IsFree map) e (takes.free k x l)))
 
-pub spares_by : (map later : BlockSets) (pending blocks : List ℕ) (d e : Blocks) → Takes map later blocks → SameButThese (pending ++ blocks) d e → Spares map pending d e
+pub spares_by : (map later : BlockSets) (pending blocks : List ℕ) (d e : Blocks) → Takes map later blocks → SameButThese (pending ++ blocks) d e → SparesApart map pending d e
 spares_by map later pending blocks d e takes same = record {
   count = same.count;
   sizes = same.sizes;
@@ -37,32 +37,32 @@ spares_by map later pending blocks d e takes same = record {
 pub pages_by : (map later : BlockSets) (pending blocks : List ℕ) (a b : List Event) → Takes map later blocks → StayUnprogrammed (pending ++ blocks) a b → SparesPages map pending a b
 pages_by map later pending blocks a b takes stay = record { stays = λ k i apart was. stay.stays k i (apart_these map later pending blocks takes k apart) was }
 
-pub stops_by : (map later : BlockSets) (pending blocks : List ℕ) (d : Blocks) (a b : List Event) → Takes map later blocks → LeavesOnly AtWorst a b (SameButThese (pending ++ blocks) d) → LeavesOnly AtWorst a b (Spares map pending d)
+pub stops_by : (map later : BlockSets) (pending blocks : List ℕ) (d : Blocks) (a b : List Event) → Takes map later blocks → LeavesOnly AtWorst a b (SameButThese (pending ++ blocks) d) → LeavesOnly AtWorst a b (SparesApart map pending d)
 stops_by map later pending blocks d a b takes leaves = EachSince-weaker (λ e all left stop. spares_by map later pending blocks d left takes (all left stop)) leaves
 
-module _ (map later : BlockSets) (d e : Blocks) (g h : Growing) (blocks : List ℕ) (takes : Takes map later blocks) (marked : IsMarked map d g)
-    (pending : (other : ℕ) → All (λ b. b ≢ other) (pending_of g ++ blocks) → All (λ b. b ≢ other) (pending_of h)) (kept : kept_of e h ≡ kept_of d g ++ blocks) where
+module _ (map later : BlockSets) (d e : Blocks) (g h : Growing) (blocks : List ℕ) (takes : Takes map later blocks) (marked : IsTakenInMap map d g)
+    (pending : (other : ℕ) → All (λ b. b ≢ other) (pending_of g ++ blocks) → All (λ b. b ≢ other) (pending_of h)) (kept : kept_blocks e h ≡ kept_blocks d g ++ blocks) where
   not_free : (b : ℕ) → ¬ (IsFree map b) → ¬ (IsFree later b)
   not_free b nf free = nf (sym (others_stay map later blocks takes b nf) ∙ free)
 
   pub grows : in_flight_count later ≡ in_flight_count map + length blocks → Grows map d g later e h
   grows flying = record {
     apart = λ b here. (not_free b here.0, pending b (apart_these map later (pending_of g) blocks takes b here));
-    flying = λ b is. ⊎_elim (λ was. inl was) (λ has. inr (subst (λ (l : List ℕ). Contains l b) (sym kept) (Contains-append_right (kept_of d g) blocks b has))) (came map later blocks takes b is);
-    front = ap (take (length (kept_of d g))) kept ∙ take_at (kept_of d g) blocks (length (kept_of d g)) refl;
-    fresh = subst (All (IsFree map)) (sym (ap (drop (length (kept_of d g))) kept ∙ ap (λ n. drop n (kept_of d g ++ blocks)) (let z : length (kept_of d g) ≡ length (kept_of d g) + 0 = omega arith in z) ∙ drop-append-add (kept_of d g) blocks 0)) takes.free;
-    count = omega (arith, flying, ap length kept, length-append (kept_of d g) blocks);
+    flying = λ b is. ⊎_elim (λ was. inl was) (λ has. inr (subst (λ (l : List ℕ). Contains l b) (sym kept) (Contains-append_right (kept_blocks d g) blocks b has))) (came map later blocks takes b is);
+    front = ap (take (length (kept_blocks d g))) kept ∙ take_at (kept_blocks d g) blocks (length (kept_blocks d g)) refl;
+    fresh = subst (All (IsFree map)) (sym (ap (drop (length (kept_blocks d g))) kept ∙ ap (λ n. drop n (kept_blocks d g ++ blocks)) (let z : length (kept_blocks d g) ≡ length (kept_blocks d g) + 0 = omega arith in z) ∙ drop-append-add (kept_blocks d g) blocks 0)) takes.free;
+    count = omega (arith, flying, ap length kept, length-append (kept_blocks d g) blocks);
   }
 
   flies : (b : ℕ) → IsInFlight map b → IsInFlight later b
   flies b is = others_stay map later blocks takes b (λ free. let both : Some Free ≡ Some InFlight = sym free ∙ is in cc) ∙ is
 
-  pub marks : length e ≡ length d → IsMarked later e h
+  pub marks : length e ≡ length d → IsTakenInMap later e h
   marks count = record {
     count = takes.count ∙ marked.count ∙ sym count;
     kept = subst (All (λ b. ¬ (IsFree later b))) (sym kept)
-        (All-append (λ b. ¬ (IsFree later b)) (kept_of d g) blocks
-        (λ k x l. not_free (get_or (kept_of d g) k x) (marked.kept k x l))
+        (All-append (λ b. ¬ (IsFree later b)) (kept_blocks d g) blocks
+        (λ k x l. not_free (get_or (kept_blocks d g) k x) (marked.kept k x l))
         (λ k x l free. let both : Some Free ≡ Some InFlight = sym free ∙ takes.taken k x l in cc));
     pending = λ k x l. ⊎_elim
         (λ is. is)

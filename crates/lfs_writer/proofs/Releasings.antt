@@ -11,7 +11,7 @@ use Rattle.lfs_model.specs.BlockSets.{BlockState, BlockSets, IsInFlight, IsUsed,
 use Rattle.lfs_model.specs.BlockSets.BlockState.{Free, InFlight, Used}
 use Rattle.lfs_model.specs.SkipLists.{AreListBlocks, blocks_back, word_at}
 use Rattle.lfs_model.proofs.BlockSets.{slice_get-set_same, slice_get-set_other}
-use Rattle.lfs_writer.specs.Released.{Releases}
+use Rattle.lfs_writer.specs.Releases.{Releases}
 use Rattle.lfs_model.proofs.Files.{length_back}
 
 pub releases_none : (sets : BlockSets) → Releases sets sets []

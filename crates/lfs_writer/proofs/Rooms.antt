@@ -4,7 +4,7 @@ use Rattle.std.specs.Prelude.{◌==◌}
 use Rattle.std.proofs.lemmas.Bool.{cases_lt}
 use Rattle.lfs_model.specs.Disk.{inline_limit}
 use Rattle.lfs_model.specs.SkipLists.{blocks_for}
-use Rattle.lfs_model.specs.Session.{Writer, held_by}
+use Rattle.lfs_model.specs.Session.{Writer, blocks_held_by}
 use Rattle.lfs_model.specs.Writers.{after_truncate, after_write, write_place}
 use Rattle.lfs_writer.specs.Form.{Form, InMemory, Finished, InHand, form_size, grown, IsWriterForm}
 use Rattle.lfs_writer.specs.Contents.{IsLarge, NeedsRoom, end_room, truncate_room, write_room}
@@ -27,28 +27,28 @@ kept_moved block_size place (InHand stop base flying) w kept = record {
   fits = record { dirty = kept.fits.dirty; large = kept.fits.large; turned = kept.fits.turned; at_end = kept.fits.at_end };
 }
 
-either_room : (t : Bool) (block_size stop end base : ℕ) (flying : Bool) (v : Writer) (used all : ℕ) → IsWriterForm block_size (if t then InHand stop base flying else InHand stop (max end base) true) v → used + held_by block_size v ≤ all
+either_room : (t : Bool) (block_size stop end base : ℕ) (flying : Bool) (v : Writer) (used all : ℕ) → IsWriterForm block_size (if t then InHand stop base flying else InHand stop (max end base) true) v → used + blocks_held_by block_size v ≤ all
     → used + (if t then blocks_for block_size stop + (if flying then blocks_for block_size base else 0) else 2 * blocks_for block_size (max (max end base) stop)) ≤ all
 either_room true block_size stop end base flying v used all kept room = let e = room_grown block_size stop base flying v used all kept room in omega arith
 either_room false block_size stop end base flying v used all kept room = room_turned block_size stop (max end base) v used all kept room
 
-grown_room : (block_size place count : ℕ) (form : Form) (v : Writer) (used all : ℕ) → IsWriterForm block_size (grown (min place (form_size form)) (place + count) form) v → used + held_by block_size v ≤ all → used + write_room block_size place count form ≤ all
+grown_room : (block_size place count : ℕ) (form : Form) (v : Writer) (used all : ℕ) → IsWriterForm block_size (grown (min place (form_size form)) (place + count) form) v → used + blocks_held_by block_size v ≤ all → used + write_room block_size place count form ≤ all
 grown_room block_size place count (InMemory size) v used all kept room = let e = room_grown block_size (place + count) 0 false v used all kept room in omega arith
 grown_room block_size place count (Finished size flying) v used all kept room = let e = room_grown block_size (place + count) size flying v used all kept room in omega arith
 grown_room block_size place count (InHand end base flying) v used all kept room = either_room (end == min place (max end base)) block_size (place + count) end base flying v used all kept room
 
-pub room_to_write : (block_size : ℕ) (form : Form) (w : Writer) (byte : ℕ) (bytes : List ℕ) (used all : ℕ) → IsWriterForm block_size form w → used + held_by block_size (after_write w (byte ∷ bytes)) ≤ all
+pub room_to_write : (block_size : ℕ) (form : Form) (w : Writer) (byte : ℕ) (bytes : List ℕ) (used all : ℕ) → IsWriterForm block_size form w → used + blocks_held_by block_size (after_write w (byte ∷ bytes)) ≤ all
     → inline_limit block_size < max (form_size form) (write_place w + length (byte ∷ bytes)) → used + write_room block_size (write_place w) (length (byte ∷ bytes)) form ≤ all
 room_to_write block_size form w byte bytes used all kept room many =
     grown_room block_size (write_place w) (length (byte ∷ bytes)) form (after_write w (byte ∷ bytes)) used all
     (subst (λ (f : Form). IsWriterForm block_size f (after_write w (byte ∷ bytes))) (written_many (inline_limit block_size) (write_place w) (length (byte ∷ bytes)) form many) (kept_written block_size form w byte bytes kept)) room
 
-pub room_to_end : (block_size : ℕ) (form : Form) (w : Writer) (used all : ℕ) → IsWriterForm block_size form w → used + held_by block_size w ≤ all → used + end_room block_size form ≤ all
+pub room_to_end : (block_size : ℕ) (form : Form) (w : Writer) (used all : ℕ) → IsWriterForm block_size form w → used + blocks_held_by block_size w ≤ all → used + end_room block_size form ≤ all
 room_to_end block_size (InMemory size) w used all kept room = omega arith
 room_to_end block_size (Finished size flying) w used all kept room = omega arith
 room_to_end block_size (InHand end base flying) w used all kept room = let e = room_ended block_size end base flying w used all kept room in omega arith
 
-longer_hand_room : (t : Bool) (block_size size end base : ℕ) (flying : Bool) (v : Writer) (used all : ℕ) → max end base < size → IsWriterForm block_size (if t then InHand size base flying else InHand size (max end base) true) v → used + held_by block_size v ≤ all
+longer_hand_room : (t : Bool) (block_size size end base : ℕ) (flying : Bool) (v : Writer) (used all : ℕ) → max end base < size → IsWriterForm block_size (if t then InHand size base flying else InHand size (max end base) true) v → used + blocks_held_by block_size v ≤ all
     → used + (if t then blocks_for block_size size + (if flying then blocks_for block_size base else 0) else 2 * blocks_for block_size size) ≤ all
 longer_hand_room true block_size size end base flying v used all more kept room = let e = room_grown block_size size base flying v used all kept room in omega arith
 longer_hand_room false block_size size end base flying v used all more kept room =
@@ -57,7 +57,7 @@ longer_hand_room false block_size size end base flying v used all more kept room
     omega arith
 
 -- what a writer holds before and after is room for a truncation
-pub room_to_truncate : (block_size : ℕ) (form : Form) (w : Writer) (size used all : ℕ) → IsWriterForm block_size form w → used + held_by block_size w ≤ all → used + held_by block_size (after_truncate w size) ≤ all
+pub room_to_truncate : (block_size : ℕ) (form : Form) (w : Writer) (size used all : ℕ) → IsWriterForm block_size form w → used + blocks_held_by block_size w ≤ all → used + blocks_held_by block_size (after_truncate w size) ≤ all
     → NeedsRoom (inline_limit block_size) size form → used + truncate_room block_size size form ≤ all
 room_to_truncate block_size (InMemory old) w size used all kept before after needs =
     let few : old ≤ inline_limit block_size = kept.fits in

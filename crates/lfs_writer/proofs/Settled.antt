@@ -9,10 +9,10 @@ use Rattle.lfs_model.specs.BlockSets.{BlockSets}
 use Rattle.lfs_model.proofs.Histories.{unprogrammed-reads}
 use Rattle.lfs_thread.specs.Beside.{LeavesPairs, IsOnDevice}
 use Rattle.lfs_thread.specs.Kept.{Kept}
-use Rattle.lfs_writer.specs.Based.{IsBase, list_blocks}
-use Rattle.lfs_writer.specs.Settled.{IsMapSettled, KeepsOthers, SharesUsed}
+use Rattle.lfs_writer.specs.Bases.{IsBase, list_blocks}
+use Rattle.lfs_writer.specs.SettledMaps.{IsMapSettled, KeepsOthers, SharesUsed}
 use Rattle.lfs_writer.specs.declared.stored_list.Stored.{Stored}
-use Rattle.lfs_writer.specs.Settling.{CanSettle, IsSettledIn, blocks_in_list}
+use Rattle.lfs_writer.specs.SettledFiles.{CanSettle, IsSettledIn, blocks_in_list}
 use Rattle.lfs_writer.proofs.Standing.{blocks_here, size_here}
 
 module _ {D : Type 0} (g : Ghosts D) (t : Kept) (device : D) (map : BlockSets) (shows : IsOnDevice g t device map)

@@ -6,7 +6,7 @@ use Rattle.lfs_model.specs.BlockSets.{AreUsed, BlockSets, IsUsed}
 use Rattle.lfs_model.specs.BlockSets.BlockState.{Free, Used}
 use Rattle.lfs_model.proofs.BlockSets.{Contains-count, count-Contains}
 use Rattle.lfs_model.proofs.Counts.{count}
-use Rattle.lfs_writer.specs.Settled.{IsMapSettled}
+use Rattle.lfs_writer.specs.SettledMaps.{IsMapSettled}
 use Rattle.lfs_writer.proofs.Outside.{none_or_some, not_there}
 
 module _ (sets later : BlockSets) (owned used before now gone come : List ℕ) (are : AreUsed sets owned) (once : (b : ℕ) → count b owned ≤ 1) (counted : (b : ℕ) → count b owned + count b come ≡ count b used + count b gone)

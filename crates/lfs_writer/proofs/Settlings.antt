@@ -12,7 +12,7 @@ use Rattle.lfs_model.specs.BlockSets.BlockState.{Free, InFlight, Used}
 use Rattle.lfs_model.specs.SkipLists.{blocks_back}
 use Rattle.lfs_model.proofs.BlockSets.{slice_get-set_same, slice_get-set_other}
 use Rattle.lfs_model.proofs.ListSizes.{head_of_back}
-use Rattle.lfs_writer.specs.Settled.{IsMapSettled, Puts}
+use Rattle.lfs_writer.specs.SettledMaps.{IsMapSettled, Puts}
 use Rattle.lfs_writer.proofs.Releasings.{drop_here}
 
 -- the head is the last block

@@ -12,8 +12,8 @@ use Rattle.lfs_model.specs.SkipLists.{AreListBlocks, blocks_back, word_at}
 use Rattle.lfs_model.proofs.BlockSets.{count-Contains}
 use Rattle.lfs_model.proofs.Counts.{count, count_append, once_from_distinct}
 use Rattle.lfs_model.proofs.Files.{length_back}
-use Rattle.lfs_writer.specs.Settled.{IsMapSettled, Puts, SharesUsed}
-use Rattle.lfs_writer.specs.Shared.{IsSharedCount, apart_count}
+use Rattle.lfs_writer.specs.SettledMaps.{IsMapSettled, Puts, SharesUsed}
+use Rattle.lfs_writer.specs.SharedBlocks.{IsSharedCount, apart_count}
 use Rattle.lfs_writer.proofs.Others.{Contains-behind}
 use Rattle.lfs_writer.proofs.Releasings.{before_in}
 use Rattle.lfs_writer.proofs.Takings.{member}

@@ -6,36 +6,36 @@ use Rattle.lfs_model.specs.BlockSets.BlockState.{Free, InFlight, Used}
 use Rattle.lfs_model.specs.History.{Event, AtWorst, LeavesOnly, StayUnprogrammed}
 use Rattle.lfs_model.proofs.Histories.{EachSince-weaker, goes_on_by}
 use Rattle.lfs_ctz.specs.Growing.{Growing, pending_of}
-use Rattle.lfs_writer.specs.Apart.{IsApart, IsMarked, Spares, SparesPages}
+use Rattle.lfs_writer.specs.BlocksApart.{IsApart, IsTakenInMap, SparesApart, SparesPages}
 use Rattle.lfs_writer.specs.Hand.{KeepsUsed, SparesUsed, SparesUsedPages}
-use Rattle.lfs_writer.specs.Released.{Releases}
-use Rattle.lfs_writer.specs.Taken.{Keeps}
+use Rattle.lfs_writer.specs.Releases.{Releases}
+use Rattle.lfs_writer.specs.TakenBlocks.{Keeps}
 
-module _ (map : BlockSets) (at : Blocks) (g : Growing) (marked : IsMarked map at g) where
+module _ (map : BlockSets) (at : Blocks) (g : Growing) (marked : IsTakenInMap map at g) where
   used_apart : (b : ℕ) → IsUsed map b → IsApart map (pending_of g) b
   used_apart b used = (
     λ free. let both : Some Free ≡ Some Used = sym free ∙ used in cc,
     λ k x l same. let both : Some InFlight ≡ Some Used = sym (subst (IsInFlight map) same (marked.pending k x l)) ∙ used in cc,
   )
 
-  pub to_used : (d e : Blocks) → Spares map (pending_of g) d e → SparesUsed map d e
+  pub to_used : (d e : Blocks) → SparesApart map (pending_of g) d e → SparesUsed map d e
   to_used d e spares = record { count = spares.count; sizes = spares.sizes; same = λ b used. spares.same b (used_apart b used) }
 
   pub to_used_pages : (a b : List Event) → SparesPages map (pending_of g) a b → SparesUsedPages map a b
   to_used_pages a b spares = record { stays = λ k i used was. spares.stays k i (used_apart k used) was }
 
-  pub to_used_stops : (d : Blocks) (a b : List Event) → LeavesOnly AtWorst a b (Spares map (pending_of g) d) → LeavesOnly AtWorst a b (SparesUsed map d)
+  pub to_used_stops : (d : Blocks) (a b : List Event) → LeavesOnly AtWorst a b (SparesApart map (pending_of g) d) → LeavesOnly AtWorst a b (SparesUsed map d)
   to_used_stops d a b leaves = EachSince-weaker (λ e all left stop. to_used d left (all left stop)) leaves
 
 -- ---- the end writes the block that waited
 
-pub spares_end : (map : BlockSets) (pending : List ℕ) (e f : Blocks) → SameButThese pending e f → Spares map pending e f
+pub spares_end : (map : BlockSets) (pending : List ℕ) (e f : Blocks) → SameButThese pending e f → SparesApart map pending e f
 spares_end map pending e f same = record { count = same.count; sizes = same.sizes; same = λ b apart. same.others b apart.1 }
 
 pub pages_end : (map : BlockSets) (pending : List ℕ) (a b : List Event) → StayUnprogrammed pending a b → SparesPages map pending a b
 pages_end map pending a b stay = record { stays = λ k i apart was. stay.stays k i apart.1 was }
 
-pub stops_end : (map : BlockSets) (pending : List ℕ) (e : Blocks) (a b : List Event) → LeavesOnly AtWorst a b (SameButThese pending e) → LeavesOnly AtWorst a b (Spares map pending e)
+pub stops_end : (map : BlockSets) (pending : List ℕ) (e : Blocks) (a b : List Event) → LeavesOnly AtWorst a b (SameButThese pending e) → LeavesOnly AtWorst a b (SparesApart map pending e)
 stops_end map pending e a b leaves = EachSince-weaker (λ v all left stop. spares_end map pending e left (all left stop)) leaves
 
 -- ---- one stretch after another

@@ -9,11 +9,11 @@ use Rattle.lfs_model.specs.BlockSets.{BlockSets, used_count}
 use Rattle.lfs_model.specs.Disk.{Disk}
 use Rattle.lfs_thread.specs.Beside.{IsDividedAs, IsOnDevice}
 use Rattle.lfs_thread.specs.Kept.{Kept}
-use Rattle.lfs_writer.specs.Contents.{CanFinishContents, CanTruncateContents, CanWriteContents, FitsTruncation, FitsWrite, HasContents, Stands, end_room, form_of}
+use Rattle.lfs_writer.specs.Contents.{CanFinishContents, CanTruncateContents, CanWriteContents, FitsTruncation, FitsWrite, HasContents, AreOnDisk, end_room, form_of}
 use Rattle.lfs_writer.specs.Form.{Form}
-use Rattle.lfs_writer.specs.Owned.{AreOwned, blocks_held}
+use Rattle.lfs_writer.specs.BlockOwners.{AreOwned, blocks_held}
 use Rattle.lfs_writer.specs.declared.contents.Contents.{Contents}
-use Rattle.lfs_writer.specs.Standing.{CanFinish, CanTruncate, CanWrite, HoldsContents, StandsIn, held_in}
+use Rattle.lfs_writer.specs.ThreadContents.{CanFinish, CanTruncate, CanWrite, HoldsContents, AreOnDiskOf, list_blocks_of}
 use Rattle.lfs_writer.proofs.Geometries.{geometry_is}
 
 module _ {D : Type 0} (g : Ghosts D) (t : Kept) (device : D) (map : BlockSets) (shows : IsOnDevice g t device map)
@@ -30,11 +30,11 @@ module _ {D : Type 0} (g : Ghosts D) (t : Kept) (device : D) (map : BlockSets) (
   pub geometry_here : (x : Geometry) → IsDividedAs x t.disk → g.geometry device ≡ x
   geometry_here x of_disk = geometry_is (g.geometry device) x (size_here ∙ sym of_disk.block_size) (divided_here.page ∙ sym of_disk.page) (divided_here.order ∙ sym of_disk.order) (divided_here.count ∙ sym of_disk.count)
 
-  pub stands_here : (contents : Contents) → StandsIn t contents → Stands map (g.blocks device) (g.geometry device) contents
+  pub stands_here : (contents : Contents) → AreOnDiskOf t contents → AreOnDisk map (g.blocks device) (g.geometry device) contents
   stands_here contents is =
-      subst (λ (m : BlockSets). Stands m (g.blocks device) (g.geometry device) contents) (sym shows.map)
-      (subst (λ (d : Blocks). Stands t.map d (g.geometry device) contents) (sym blocks_here)
-      (subst (λ (x : Geometry). Stands t.map t.disk.blocks x contents) (sym (geometry_here is.geometry is.divided)) is.stands))
+      subst (λ (m : BlockSets). AreOnDisk m (g.blocks device) (g.geometry device) contents) (sym shows.map)
+      (subst (λ (d : Blocks). AreOnDisk t.map d (g.geometry device) contents) (sym blocks_here)
+      (subst (λ (x : Geometry). AreOnDisk t.map t.disk.blocks x contents) (sym (geometry_here is.geometry is.divided)) is.stands))
 
   -- contents that a call left there
   pub holds_here : (x : Geometry) (contents : Contents) (bytes : List ℕ) (form : Form) → x ≡ g.geometry device → HasContents map (g.blocks device) x contents bytes form → HoldsContents t contents bytes form
@@ -81,11 +81,11 @@ holds_after g old new d e m n before after shape later geometry bytes form (Err 
 -- no used block comes into the lists
 pub owned_after : {D : Type 0} (g : Ghosts D) (old new : Kept) (d e : D) (m n : BlockSets) → IsOnDevice g old d m → IsOnDevice g new e n → IsDivided (g.geometry d).block_size (g.geometry d).block_count (g.blocks d)
     → IsDivided (g.geometry e).block_size (g.geometry e).block_count (g.blocks e) → g.geometry e ≡ g.geometry d → (contents : Contents) (r : Result Contents Error)
-    → IfOk r (λ c. AreOwned n (blocks_held (g.blocks d) (g.geometry d).block_size contents) (blocks_held (g.blocks e) (g.geometry d).block_size c)) → IfOk r (λ c. AreOwned new.map (held_in old contents) (held_in new c))
+    → IfOk r (λ c. AreOwned n (blocks_held (g.blocks d) (g.geometry d).block_size contents) (blocks_held (g.blocks e) (g.geometry d).block_size c)) → IfOk r (λ c. AreOwned new.map (list_blocks_of old contents) (list_blocks_of new c))
 owned_after g old new d e m n before after shape later geometry contents (Ok c) owned =
-    subst (λ (s : BlockSets). AreOwned s (held_in old contents) (held_in new c)) after.map
-    (subst (λ (k : ℕ). AreOwned n (held_in old contents) (blocks_held new.disk.blocks k c)) (ap (λ (x : Geometry). x.block_size) (sym geometry) ∙ size_here g new e n after later)
-    (subst (λ (x : Blocks). AreOwned n (held_in old contents) (blocks_held x (g.geometry d).block_size c)) (blocks_here g new e n after later)
+    subst (λ (s : BlockSets). AreOwned s (list_blocks_of old contents) (list_blocks_of new c)) after.map
+    (subst (λ (k : ℕ). AreOwned n (list_blocks_of old contents) (blocks_held new.disk.blocks k c)) (ap (λ (x : Geometry). x.block_size) (sym geometry) ∙ size_here g new e n after later)
+    (subst (λ (x : Blocks). AreOwned n (list_blocks_of old contents) (blocks_held x (g.geometry d).block_size c)) (blocks_here g new e n after later)
     (subst (λ (k : ℕ). AreOwned n (blocks_held old.disk.blocks k contents) (blocks_held (g.blocks e) (g.geometry d).block_size c)) (size_here g old d m before shape)
     (subst (λ (x : Blocks). AreOwned n (blocks_held x (g.geometry d).block_size contents) (blocks_held (g.blocks e) (g.geometry d).block_size c)) (blocks_here g old d m before shape) owned))))
 owned_after g old new d e m n before after shape later geometry contents (Err x) owned = tt

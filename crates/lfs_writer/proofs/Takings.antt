@@ -10,7 +10,7 @@ use Rattle.std.proofs.lemmas.Option.{slice_get_within}
 use Rattle.lfs_model.specs.BlockSets.{BlockSets, IsFree, IsInFlight, in_flight_count, used_count}
 use Rattle.lfs_model.specs.BlockSets.BlockState.{Free, InFlight}
 use Rattle.lfs_model.proofs.BlockSets.{Contains-head, Contains-tail, slice_get-set_same, slice_get-set_other, counts_from_none_free}
-use Rattle.lfs_writer.specs.Taken.{Keeps, Takes}
+use Rattle.lfs_writer.specs.TakenBlocks.{Keeps, Takes}
 
 -- a block is one of them, or apart from each
 pub member : (bs : List ℕ) (b : ℕ) → Contains bs b ⊎ All (λ x. x ≢ b) bs

@@ -4,11 +4,11 @@ use Rattle.lfs_model.specs.Blocks.{Blocks}
 use Rattle.lfs_model.specs.BlockSets.{BlockSets, IsInFlight, used_count}
 use Rattle.lfs_model.specs.SkipLists.{blocks_for}
 use Rattle.lfs_device.specs.declared.geometry.Geometry.{Geometry}
-use Rattle.lfs_ctz.specs.Growing.{IsHeld, Growing, end_of}
+use Rattle.lfs_ctz.specs.Growing.{IsInBufferAlone, Growing, end_of}
 use Rattle.lfs_writer.specs.Form as form
 use Rattle.lfs_writer.specs.Form.{Form, form_size}
 use Rattle.lfs_writer.specs.Hand.{IsListStored, stored_bytes}
-use Rattle.lfs_writer.specs.Written.{IsGoing, bytes_over}
+use Rattle.lfs_writer.specs.HandWrites.{IsHandWithBytes, bytes_over}
 use Rattle.lfs_writer.specs.declared.contents.Contents.{Contents}
 use Rattle.lfs_writer.specs.declared.contents.Contents.TheVariants.{InMemory, Finished, InHand}
 
@@ -32,23 +32,23 @@ pub record IsIdle (map : BlockSets) (disk : Blocks) : Type 0 where
   pub none : (b : ℕ) → ¬ (IsInFlight map b)
 
 -- an extender of this device has all bytes in its buffer
-pub record IsResting (now : Geometry) (list : Growing) : Type 0 where
+pub record IsInBufferOf (now : Geometry) (list : Growing) : Type 0 where
   pub geometry : now ≡ list.geometry
-  pub held : IsHeld list
+  pub held : IsInBufferAlone list
 
 -- all bytes are in memory, and no block is in flight
-pub record IsQuiet (map : BlockSets) (disk : Blocks) (now : Geometry) (list : Growing) : Type 0 where
+pub record IsInMemoryAlone (map : BlockSets) (disk : Blocks) (now : Geometry) (list : Growing) : Type 0 where
   pub idle : IsIdle map disk
-  pub resting : IsResting now list
+  pub resting : IsInBufferOf now list
 
-abbrev pub Stands : BlockSets → Blocks → Geometry → Contents → Type 0
-Stands map disk now (InMemory list) = IsQuiet map disk now list
-Stands map disk now (Finished stored) = IsListStored map disk now.block_size stored
-Stands map disk now (InHand hand) = IsGoing map disk now hand
+abbrev pub AreOnDisk : BlockSets → Blocks → Geometry → Contents → Type 0
+AreOnDisk map disk now (InMemory list) = IsInMemoryAlone map disk now list
+AreOnDisk map disk now (Finished stored) = IsListStored map disk now.block_size stored
+AreOnDisk map disk now (InHand hand) = IsHandWithBytes map disk now hand
 
 -- the contents are in that form, with these bytes
 pub record HasContents (map : BlockSets) (disk : Blocks) (now : Geometry) (contents : Contents) (bytes : List ℕ) (shape : Form) : Type 0 where
-  pub stands : Stands map disk now contents
+  pub stands : AreOnDisk map disk now contents
   pub has : bytes_in disk now.block_size contents ≡ bytes
   pub form : form_of contents ≡ shape
 
@@ -110,13 +110,13 @@ pub record FitsTruncation (map : BlockSets) (block_size : ℕ) (shape : Form) (l
 
 -- contents are on a device of this geometry, and may be written there; may be truncated; or may be finished
 pub record CanWriteContents (map : BlockSets) (disk : Blocks) (now : Geometry) (contents : Contents) (limit place count : ℕ) : Type 0 where
-  pub stands : Stands map disk now contents
+  pub stands : AreOnDisk map disk now contents
   pub fits : FitsWrite map now.block_size (form_of contents) limit place count
 
 pub record CanTruncateContents (map : BlockSets) (disk : Blocks) (now : Geometry) (contents : Contents) (limit size : ℕ) : Type 0 where
-  pub stands : Stands map disk now contents
+  pub stands : AreOnDisk map disk now contents
   pub fits : FitsTruncation map now.block_size (form_of contents) limit size
 
 pub record CanFinishContents (map : BlockSets) (disk : Blocks) (now : Geometry) (contents : Contents) : Type 0 where
-  pub stands : Stands map disk now contents
+  pub stands : AreOnDisk map disk now contents
   pub room : used_count map + end_room now.block_size (form_of contents) ≤ length map

@@ -7,12 +7,12 @@ ghost use Rattle.lfs_model.specs.BlockSets.{in_flight_count, used_count};
 ghost use Rattle.lfs_model.specs.History.{reads};
 ghost use Rattle.lfs_model.specs.SkipLists.{AreListBlocks, blocks_back, blocks_for, bytes_of};
 ghost use Rattle.lfs_ctz.specs.Calls.{ReportsIo, ReportsMemory};
-ghost use Rattle.lfs_ctz.specs.Growing.{IsGrowing, kept_of, pending_of, content_of, end_of};
-ghost use Rattle.lfs_writer.specs.Apart.{IsMarked};
-ghost use Rattle.lfs_writer.specs.Based.{IsBeside};
+ghost use Rattle.lfs_ctz.specs.Growing.{IsGrowing, kept_blocks, pending_of, content_of, end_of};
+ghost use Rattle.lfs_writer.specs.BlocksApart.{IsTakenInMap};
+ghost use Rattle.lfs_writer.specs.Bases.{IsBaseApart};
 ghost use Rattle.lfs_writer.specs.Calls.{LeavesApart};
-ghost use Rattle.lfs_writer.specs.Extended.{IsExtended, IsOwn};
-ghost use Rattle.lfs_writer.specs.Taken.{Keeps};
+ghost use Rattle.lfs_writer.specs.Extensions.{IsExtended, IsOwn};
+ghost use Rattle.lfs_writer.specs.TakenBlocks.{Keeps};
 
 use crate::extensions::extend;
 use lfs_alloc::BlockMap;
@@ -36,10 +36,10 @@ pub(crate) fn copy_rest<D: BlockDevice>(
 ) -> Result<(), Error>
     requires growing { IsGrowing (D.blocks dev.old) list.old }
     requires geometry { D.geometry dev.old ≡ list.old.geometry }
-    requires marked { IsMarked map.old (D.blocks dev.old) list.old }
+    requires marked { IsTakenInMap map.old (D.blocks dev.old) list.old }
     requires own { IsOwn (D.blocks dev.old) list.old }
-    requires base { IsBeside map.old (pending_of list.old) (D.blocks dev.old) list.old.geometry.block_size head size }
-    requires room { used_count map.old + in_flight_count map.old + blocks_for list.old.geometry.block_size size ≤ length map.old + length (kept_of (D.blocks dev.old) list.old) }
+    requires base { IsBaseApart map.old (pending_of list.old) (D.blocks dev.old) list.old.geometry.block_size head size }
+    requires room { used_count map.old + in_flight_count map.old + blocks_for list.old.geometry.block_size size ≤ length map.old + length (kept_blocks (D.blocks dev.old) list.old) }
     ensures extended { OnOk result (IsExtended map.old (D.blocks dev.old) list.old
         (content_of (D.blocks dev.old) list.old ++ drop (end_of list.old) (bytes_of (D.blocks dev.old) list.old.geometry.block_size head size))
         (max (end_of list.old) size) map.new (D.blocks dev.new) list.new) }
@@ -70,10 +70,10 @@ fn copy_pieces<D: BlockDevice>(
     requires behind { end_of list.old < size }
     requires growing { IsGrowing (D.blocks dev.old) list.old }
     requires geometry { D.geometry dev.old ≡ list.old.geometry }
-    requires marked { IsMarked map.old (D.blocks dev.old) list.old }
+    requires marked { IsTakenInMap map.old (D.blocks dev.old) list.old }
     requires own { IsOwn (D.blocks dev.old) list.old }
-    requires base { IsBeside map.old (pending_of list.old) (D.blocks dev.old) list.old.geometry.block_size head size }
-    requires room { used_count map.old + in_flight_count map.old + blocks_for list.old.geometry.block_size size ≤ length map.old + length (kept_of (D.blocks dev.old) list.old) }
+    requires base { IsBaseApart map.old (pending_of list.old) (D.blocks dev.old) list.old.geometry.block_size head size }
+    requires room { used_count map.old + in_flight_count map.old + blocks_for list.old.geometry.block_size size ≤ length map.old + length (kept_blocks (D.blocks dev.old) list.old) }
     ensures extended { OnOk result (IsExtended map.old (D.blocks dev.old) list.old
         (content_of (D.blocks dev.old) list.old ++ drop (end_of list.old) (bytes_of (D.blocks dev.old) list.old.geometry.block_size head size))
         (max (end_of list.old) size) map.new (D.blocks dev.new) list.new) }

@@ -6,7 +6,7 @@ ghost use Rattle.lfs_ctz.specs.Calls.{ReportsMemory};
 ghost use Rattle.lfs_writer.specs.Calls.{LeavesUsed};
 ghost use Rattle.lfs_writer.specs.Contents.{CanFinishContents, HasContents, bytes_in, finished, form_of};
 ghost use Rattle.lfs_writer.specs.Hand.{KeepsUsed};
-ghost use Rattle.lfs_writer.specs.Owned.{AreOwned, blocks_held};
+ghost use Rattle.lfs_writer.specs.BlockOwners.{AreOwned, blocks_held};
 
 use crate::contents::Contents;
 use crate::list_ends::end_hand;

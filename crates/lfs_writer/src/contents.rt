@@ -7,13 +7,13 @@ ghost use Rattle.lfs_model.specs.SkipLists.{blocks_for};
 ghost use Rattle.lfs_model.specs.Writers.{written_into};
 ghost use Rattle.lfs_ctz.specs.Calls.{ReportsMemory};
 ghost use Rattle.lfs_writer.specs.Calls.{LeavesUsed};
-ghost use Rattle.lfs_writer.specs.Contents.{CanWriteContents, HasContents, IsIdle, IsQuiet, bytes_in, form_of, held_bytes, write_room};
+ghost use Rattle.lfs_writer.specs.Contents.{CanWriteContents, HasContents, IsIdle, IsInMemoryAlone, bytes_in, form_of, held_bytes, write_room};
 ghost use Rattle.lfs_writer.specs.Form as form;
 ghost use Rattle.lfs_writer.specs.Form.{written};
 ghost use Rattle.lfs_writer.specs.Hand.{IsListStored, KeepsUsed, stored_bytes};
-ghost use Rattle.lfs_writer.specs.Roomy.{base_blocks};
-ghost use Rattle.lfs_writer.specs.Written.{HasWritten, IsGoing, bytes_over, length_in};
-ghost use Rattle.lfs_writer.specs.Owned.{AreOwned, KeepsList, blocks_held};
+ghost use Rattle.lfs_writer.specs.BaseRoom.{base_blocks};
+ghost use Rattle.lfs_writer.specs.HandWrites.{HasWritten, IsHandWithBytes, bytes_over, length_in};
+ghost use Rattle.lfs_writer.specs.BlockOwners.{AreOwned, KeepsList, blocks_held};
 
 use crate::list_starts::begin_over;
 use crate::memory::{load, write_out};
@@ -62,7 +62,7 @@ fn write_in_memory<D: BlockDevice>(
     place: u32,
     bytes: &[u8],
 ) -> Result<Contents, Error>
-    requires quiet { IsQuiet map.old (D.blocks dev.old) (D.geometry dev.old) list }
+    requires quiet { IsInMemoryAlone map.old (D.blocks dev.old) (D.geometry dev.old) list }
     requires few { length (held_bytes list) ≤ limit }
     requires short { limit < (D.geometry dev.old).block_size }
     requires some { 1 ≤ length bytes.now }
@@ -154,7 +154,7 @@ fn write_hand<D: BlockDevice>(
     place: u32,
     bytes: &[u8],
 ) -> Result<Contents, Error>
-    requires going { IsGoing map.old (D.blocks dev.old) (D.geometry dev.old) hand }
+    requires going { IsHandWithBytes map.old (D.blocks dev.old) (D.geometry dev.old) hand }
     requires large { limit < length_in hand }
     requires some { 1 ≤ length bytes.now }
     requires small { place + length bytes.now < 2 ^ 31 }

@@ -4,11 +4,11 @@ ghost use Rattle.std.specs.Prelude.{◌≡◌, ◌≤◌, ◌<◌, ◌+◌, ◌+
 ghost use Rattle.lfs_model.specs.BlockSets.{in_flight_count, used_count};
 ghost use Rattle.lfs_model.specs.SkipLists.{blocks_for};
 ghost use Rattle.lfs_ctz.specs.Calls.{ReportsMemory};
-ghost use Rattle.lfs_ctz.specs.Growing.{IsGrowing, kept_of, pending_of, content_of, end_of};
-ghost use Rattle.lfs_writer.specs.Apart.{IsMarked};
+ghost use Rattle.lfs_ctz.specs.Growing.{IsGrowing, kept_blocks, pending_of, content_of, end_of};
+ghost use Rattle.lfs_writer.specs.BlocksApart.{IsTakenInMap};
 ghost use Rattle.lfs_writer.specs.Calls.{LeavesApart};
-ghost use Rattle.lfs_writer.specs.Extended.{IsExtended};
-ghost use Rattle.lfs_writer.specs.Taken.{Keeps};
+ghost use Rattle.lfs_writer.specs.Extensions.{IsExtended};
+ghost use Rattle.lfs_writer.specs.TakenBlocks.{Keeps};
 
 use crate::taken_blocks::take_blocks;
 use lfs_alloc::BlockMap;
@@ -34,9 +34,9 @@ pub(crate) fn extend<D: BlockDevice>(
     requires geometry { D.geometry dev.old ≡ list.old.geometry }
     requires some { 1 ≤ length bytes.now }
     requires small { end_of list.old + length bytes.now < 2 ^ 31 }
-    requires marked { IsMarked map.old (D.blocks dev.old) list.old }
+    requires marked { IsTakenInMap map.old (D.blocks dev.old) list.old }
     requires room { used_count map.old + in_flight_count map.old + blocks_for list.old.geometry.block_size (end_of list.old + length bytes.now)
-        ≤ length map.old + length (kept_of (D.blocks dev.old) list.old) }
+        ≤ length map.old + length (kept_blocks (D.blocks dev.old) list.old) }
     ensures extended { OnOk result (IsExtended map.old (D.blocks dev.old) list.old
         (content_of (D.blocks dev.old) list.old ++ bytes.now) (end_of list.old + length bytes.now) map.new (D.blocks dev.new) list.new) }
     // No block that was used or in flight changes, except the list's pending one.

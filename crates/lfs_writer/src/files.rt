@@ -2,11 +2,11 @@
 
 ghost use Rattle.std.specs.Prelude.{◌≡◌, false, is_err, length, take, IfErr, IfOk, OnOk};
 ghost use Rattle.lfs_model.specs.Writers.{written_into, zeros_to};
-ghost use Rattle.lfs_writer.specs.Settling.{CanSettle, IsReadBesideMap, IsSettledIn};
-ghost use Rattle.lfs_writer.specs.Standing.{CanFinish, CanTruncate, CanWrite, HoldsContents, LeavesPairsAndUsed, ReportsWork, held_in};
+ghost use Rattle.lfs_writer.specs.SettledFiles.{CanSettle, IsReadBesideMap, IsSettledIn};
+ghost use Rattle.lfs_writer.specs.ThreadContents.{CanFinish, CanTruncate, CanWrite, HoldsContents, LeavesPairsAndUsed, ReportsWork, list_blocks_of};
 ghost use Rattle.lfs_writer.specs.Contents.{bytes_in, finished, form_of};
 ghost use Rattle.lfs_writer.specs.Form.{truncated, written};
-ghost use Rattle.lfs_writer.specs.Owned.{AreOwned};
+ghost use Rattle.lfs_writer.specs.BlockOwners.{AreOwned};
 
 use crate::{Contents, Stored, finish, settle_list, truncate_contents, write_contents};
 use lfs_device::{BlockDevice, Error};
@@ -32,7 +32,7 @@ pub fn write_file<D: BlockDevice>(
     requires can { CanWrite thread.old.kept contents limit place (length bytes.now) }
     ensures written { IfOk result (λ c. HoldsContents thread.new.kept c (written_into (bytes_in thread.old.kept.disk.blocks thread.old.kept.disk.block_size contents) place bytes.now)
         (written limit place (length bytes.now) (form_of contents))) }
-    ensures owned { IfOk result (λ c. AreOwned thread.new.kept.map (held_in thread.old.kept contents) (held_in thread.new.kept c)) }
+    ensures owned { IfOk result (λ c. AreOwned thread.new.kept.map (list_blocks_of thread.old.kept contents) (list_blocks_of thread.new.kept c)) }
     ensures works { thread.new.failed ≡ false }
     ensures leaves { LeavesPairsAndUsed thread.old.kept thread.new.kept }
     ensures reports { ReportsWork thread.old.kept thread.new.kept result }
@@ -60,7 +60,7 @@ pub fn truncate_file<D: BlockDevice>(
     requires can { CanTruncate thread.old.kept contents limit size }
     ensures truncated { IfOk result (λ c. HoldsContents thread.new.kept c (take size (zeros_to size (bytes_in thread.old.kept.disk.blocks thread.old.kept.disk.block_size contents)))
         (truncated limit size (form_of contents))) }
-    ensures owned { IfOk result (λ c. AreOwned thread.new.kept.map (held_in thread.old.kept contents) (held_in thread.new.kept c)) }
+    ensures owned { IfOk result (λ c. AreOwned thread.new.kept.map (list_blocks_of thread.old.kept contents) (list_blocks_of thread.new.kept c)) }
     ensures works { thread.new.failed ≡ false }
     ensures leaves { LeavesPairsAndUsed thread.old.kept thread.new.kept }
     ensures reports { ReportsWork thread.old.kept thread.new.kept result }
@@ -81,7 +81,7 @@ pub fn finish_file<D: BlockDevice>(
     requires works { thread.old.failed ≡ false }
     requires can { CanFinish thread.old.kept contents }
     ensures finished { IfOk result (λ c. HoldsContents thread.new.kept c (bytes_in thread.old.kept.disk.blocks thread.old.kept.disk.block_size contents) (finished (form_of contents))) }
-    ensures owned { IfOk result (λ c. AreOwned thread.new.kept.map (held_in thread.old.kept contents) (held_in thread.new.kept c)) }
+    ensures owned { IfOk result (λ c. AreOwned thread.new.kept.map (list_blocks_of thread.old.kept contents) (list_blocks_of thread.new.kept c)) }
     ensures works { thread.new.failed ≡ false }
     ensures leaves { LeavesPairsAndUsed thread.old.kept thread.new.kept }
     ensures reports { ReportsWork thread.old.kept thread.new.kept result }

@@ -28,7 +28,7 @@ mod zeros;
 pub use completion::{abandon, finish};
 pub use contents::{Contents, in_memory, write_contents};
 pub use files::{finish_file, settle_file, truncate_file, write_file};
-pub use laws::{forms_keep_step, held_blocks_are_room, settled_map_is_exact};
+pub use laws::{forms_fit_writer, held_blocks_are_room, settled_map_is_exact};
 pub use memory::load;
 pub use named_lists::settle_list;
 pub use new_sizes::truncate_contents;

@@ -4,8 +4,8 @@ ghost use Rattle.std.specs.Prelude.{◌≡◌, ◌≤◌, take, OnOk, IfOk};
 ghost use Rattle.lfs_device.specs.Calls.{ReadsOnly};
 ghost use Rattle.lfs_ctz.specs.Calls.{ReportsIo};
 ghost use Rattle.lfs_writer.specs.Hand.{IsListStored, KeepsUsed, stored_bytes};
-ghost use Rattle.lfs_writer.specs.Written.{HasEnded};
-ghost use Rattle.lfs_writer.specs.Owned.{IsFrontOf};
+ghost use Rattle.lfs_writer.specs.HandWrites.{IsFinishedList};
+ghost use Rattle.lfs_writer.specs.BlockOwners.{IsFrontOf};
 
 use crate::list_ends::release_base;
 use crate::stored_list::Stored;
@@ -29,7 +29,7 @@ pub(crate) fn cut_list<D: BlockDevice>(
     requires stored { IsListStored map.old (D.blocks dev.old) (D.geometry dev.old).block_size stored }
     requires some { 1 ≤ keep }
     requires within { keep ≤ stored.size }
-    ensures cut { IfOk result (λ s. HasEnded map.new (D.blocks dev.new) (D.geometry dev.old) s keep (take keep (stored_bytes (D.blocks dev.old) (D.geometry dev.old).block_size stored))) }
+    ensures cut { IfOk result (λ s. IsFinishedList map.new (D.blocks dev.new) (D.geometry dev.old) s keep (take keep (stored_bytes (D.blocks dev.old) (D.geometry dev.old).block_size stored))) }
     ensures front { IfOk result (IsFrontOf (D.geometry dev.old).block_size (D.blocks dev.old) stored (D.blocks dev.new)) }
     ensures map { KeepsUsed map.old map.new }
     ensures device { ReadsOnly D.BlockDevice dev.old dev.new }

@@ -5,13 +5,13 @@ ghost use Rattle.lfs_device.specs.Calls.{ReadsOnly};
 ghost use Rattle.lfs_model.specs.BlockSets.{used_count};
 ghost use Rattle.lfs_model.specs.SkipLists.{blocks_for};
 ghost use Rattle.lfs_ctz.specs.Calls.{ReportsIo, ReportsMemory};
-ghost use Rattle.lfs_writer.specs.Based.{IsBase, list_blocks};
+ghost use Rattle.lfs_writer.specs.Bases.{IsBase, list_blocks};
 ghost use Rattle.lfs_writer.specs.Calls.{LeavesUsed};
 ghost use Rattle.lfs_writer.specs.Hand.{KeepsUsed};
-ghost use Rattle.lfs_writer.specs.Released.{Releases};
-ghost use Rattle.lfs_writer.specs.Roomy.{base_blocks};
-ghost use Rattle.lfs_writer.specs.Written.{HasEnded, IsGoing, bytes_over, length_in};
-ghost use Rattle.lfs_writer.specs.Owned.{EndsOver};
+ghost use Rattle.lfs_writer.specs.Releases.{Releases};
+ghost use Rattle.lfs_writer.specs.BaseRoom.{base_blocks};
+ghost use Rattle.lfs_writer.specs.HandWrites.{IsFinishedList, IsHandWithBytes, bytes_over, length_in};
+ghost use Rattle.lfs_writer.specs.BlockOwners.{EndsOver};
 
 use crate::block_copies::copy_rest;
 use crate::releases::release_from;
@@ -59,9 +59,9 @@ pub(crate) fn end_hand<D: BlockDevice>(
     map: &mut BlockMap,
     hand: Hand,
 ) -> Result<Stored, Error>
-    requires going { IsGoing map.old (D.blocks dev.old) (D.geometry dev.old) hand }
+    requires going { IsHandWithBytes map.old (D.blocks dev.old) (D.geometry dev.old) hand }
     requires room { used_count map.old + base_blocks (D.geometry dev.old).block_size hand.base + blocks_for (D.geometry dev.old).block_size hand.base.size ≤ length map.old }
-    ensures ended { IfOk result (λ s. HasEnded map.new (D.blocks dev.new) (D.geometry dev.old) s (length_in hand) (bytes_over (D.blocks dev.old) hand)) }
+    ensures ended { IfOk result (λ s. IsFinishedList map.new (D.blocks dev.new) (D.geometry dev.old) s (length_in hand) (bytes_over (D.blocks dev.old) hand)) }
     ensures own { IfOk result (EndsOver map.new (D.geometry dev.old).block_size (D.blocks dev.old) hand.base (D.blocks dev.new)) }
     ensures map { KeepsUsed map.old map.new }
     ensures device { LeavesUsed D.BlockDevice map.old dev.old dev.new }

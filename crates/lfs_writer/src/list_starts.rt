@@ -4,9 +4,9 @@ ghost use Rattle.std.specs.Prelude.{◌≡◌, ◌≤◌, IfOk};
 ghost use Rattle.lfs_device.specs.Calls.{ReadsOnly};
 ghost use Rattle.lfs_model.specs.BlockSets.{BlockSets};
 ghost use Rattle.lfs_ctz.specs.Calls.{ReportsMemory};
-ghost use Rattle.lfs_writer.specs.Based.{IsBase};
+ghost use Rattle.lfs_writer.specs.Bases.{IsBase};
 ghost use Rattle.lfs_writer.specs.Hand.{IsListStored, stored_bytes};
-ghost use Rattle.lfs_writer.specs.Written.{IsAt};
+ghost use Rattle.lfs_writer.specs.HandWrites.{EndsAt};
 
 use crate::stored_list::Stored;
 use crate::writes::Hand;
@@ -28,7 +28,7 @@ pub(crate) fn begin_over<D: BlockDevice>(
     requires base { IsBase (D.blocks dev.old) (D.geometry dev.old).block_size base.head base.size }
     requires within { keep ≤ base.size }
     ensures begun { IfOk result (λ h. (map : BlockSets) → IsListStored map (D.blocks dev.old) (D.geometry dev.old).block_size base
-        → IsAt map (D.blocks dev.old) (D.geometry dev.old) h keep (stored_bytes (D.blocks dev.old) (D.geometry dev.old).block_size base)) }
+        → EndsAt map (D.blocks dev.old) (D.geometry dev.old) h keep (stored_bytes (D.blocks dev.old) (D.geometry dev.old).block_size base)) }
     ensures base { IfOk result (λ h. h.base ≡ base) }
     ensures device { ReadsOnly D.BlockDevice dev.old dev.new }
     ensures reports { ReportsMemory D.BlockDevice dev.old dev.new result }

@@ -8,12 +8,12 @@ ghost use Rattle.lfs_model.specs.SkipLists.{blocks_for};
 ghost use Rattle.lfs_model.specs.Writers.{written_into};
 ghost use Rattle.lfs_device.specs.declared.geometry.Geometry.{Geometry};
 ghost use Rattle.lfs_ctz.specs.Calls.{ReportsMemory};
-ghost use Rattle.lfs_ctz.specs.Growing.{IsHeld, end_of};
-ghost use Rattle.lfs_writer.specs.Based.{IsBase};
+ghost use Rattle.lfs_ctz.specs.Growing.{IsInBufferAlone, end_of};
+ghost use Rattle.lfs_writer.specs.Bases.{IsBase};
 ghost use Rattle.lfs_writer.specs.Calls.{LeavesUsed};
-ghost use Rattle.lfs_writer.specs.Contents.{IsQuiet, IsResting, held_bytes};
+ghost use Rattle.lfs_writer.specs.Contents.{IsInMemoryAlone, IsInBufferOf, held_bytes};
 ghost use Rattle.lfs_writer.specs.Hand.{KeepsUsed, stored_bytes};
-ghost use Rattle.lfs_writer.specs.Written.{HasWritten, IsAt};
+ghost use Rattle.lfs_writer.specs.HandWrites.{HasWritten, EndsAt};
 
 use crate::stored_list::Stored;
 use crate::writes::{Hand, write_from};
@@ -37,7 +37,7 @@ pub fn load<D: BlockDevice>(
     requires base { IsBase (D.blocks dev.old) (D.geometry dev.old).block_size stored.head stored.size }
     requires within { keep ≤ stored.size }
     requires short { keep < (D.geometry dev.old).block_size }
-    ensures resting { IfOk result (IsResting (D.geometry dev.old)) }
+    ensures resting { IfOk result (IsInBufferOf (D.geometry dev.old)) }
     ensures bytes { IfOk result (λ list. held_bytes list ≡ take keep (stored_bytes (D.blocks dev.old) (D.geometry dev.old).block_size stored)) }
     ensures device { ReadsOnly D.BlockDevice dev.old dev.new }
     ensures reports { ReportsMemory D.BlockDevice dev.old dev.new result }
@@ -56,7 +56,7 @@ pub fn load<D: BlockDevice>(
 
 /// Makes bytes in memory alone the beginning of a list, over no base.
 pub(crate) fn over_none(list: Extender) -> Hand
-    ensures begun { (map : BlockSets) (disk : Blocks) (now : Geometry) → IsQuiet map disk now list → IsAt map disk now result (length (held_bytes list)) (held_bytes list) }
+    ensures begun { (map : BlockSets) (disk : Blocks) (now : Geometry) → IsInMemoryAlone map disk now list → EndsAt map disk now result (length (held_bytes list)) (held_bytes list) }
     ensures base { (result.base.size ≡ 0) × (result.base.in_flight ≡ false) }
 {
     let base = Stored {
@@ -85,7 +85,7 @@ pub(crate) fn write_out<D: BlockDevice>(
     place: u32,
     bytes: &[u8],
 ) -> Result<Hand, Error>
-    requires quiet { IsQuiet map.old (D.blocks dev.old) (D.geometry dev.old) list }
+    requires quiet { IsInMemoryAlone map.old (D.blocks dev.old) (D.geometry dev.old) list }
     requires some { 1 ≤ length bytes.now }
     requires behind { length (held_bytes list) ≤ place + length bytes.now }
     requires small { place + length bytes.now < 2 ^ 31 }

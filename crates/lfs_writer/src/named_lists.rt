@@ -6,9 +6,9 @@ ghost use Rattle.lfs_model.specs.BlockSets.{Used};
 ghost use Rattle.lfs_model.specs.History.{reads};
 ghost use Rattle.lfs_model.specs.SkipLists.{AreListBlocks, blocks_back};
 ghost use Rattle.lfs_ctz.specs.Calls.{ReportsIo};
-ghost use Rattle.lfs_writer.specs.Based.{IsBase, list_blocks};
-ghost use Rattle.lfs_writer.specs.Settled.{IsMapSettled, KeepsOthers, Puts, SharesUsed, settled_as};
-ghost use Rattle.lfs_writer.specs.Shared.{IsSharedCount, apart_count};
+ghost use Rattle.lfs_writer.specs.Bases.{IsBase, list_blocks};
+ghost use Rattle.lfs_writer.specs.SettledMaps.{IsMapSettled, KeepsOthers, Puts, SharesUsed, state_after_settle};
+ghost use Rattle.lfs_writer.specs.SharedBlocks.{IsSharedCount, apart_count};
 
 use crate::shared_blocks::shared_count;
 use crate::stored_list::Stored;
@@ -31,7 +31,7 @@ fn use_one(map: &mut BlockMap, block: u32)
 // Makes a block used, or free.
 fn put_one(map: &mut BlockMap, block: u32, used: bool)
     requires { block < length map.old }
-    ensures { Puts (settled_as used) map.old map.new (block ∷ []) }
+    ensures { Puts (state_after_settle used) map.old map.new (block ∷ []) }
 {
     if used {
         use_one(map, block);
@@ -52,7 +52,7 @@ fn put_blocks<D: BlockDevice>(
     requires chain { AreListBlocks (D.blocks dev.old) count head }
     requires map { length map.old ≡ length (D.blocks dev.old) }
     requires within { from ≤ count }
-    ensures put { OnOk result (Puts (settled_as used) map.old map.new (drop from (blocks_back (D.blocks dev.old) count head))) }
+    ensures put { OnOk result (Puts (state_after_settle used) map.old map.new (drop from (blocks_back (D.blocks dev.old) count head))) }
     ensures others { KeepsOthers map.old map.new (blocks_back (D.blocks dev.old) count head) }
     ensures device { ReadsOnly D.BlockDevice dev.old dev.new }
     ensures reports { ReportsIo D.BlockDevice dev.old dev.new result }

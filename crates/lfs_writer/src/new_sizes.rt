@@ -8,13 +8,13 @@ ghost use Rattle.lfs_model.specs.Writers.{zeros_to};
 ghost use Rattle.lfs_ctz.specs.Calls.{ReportsMemory};
 ghost use Rattle.lfs_ctz.specs.Growing.{end_of};
 ghost use Rattle.lfs_writer.specs.Calls.{LeavesUsed};
-ghost use Rattle.lfs_writer.specs.Contents.{CanTruncateContents, HasContents, IsQuiet, bytes_in, form_of, held_bytes, truncate_room};
+ghost use Rattle.lfs_writer.specs.Contents.{CanTruncateContents, HasContents, IsInMemoryAlone, bytes_in, form_of, held_bytes, truncate_room};
 ghost use Rattle.lfs_writer.specs.Form as form;
 ghost use Rattle.lfs_writer.specs.Form.{form_size, truncated};
 ghost use Rattle.lfs_writer.specs.Hand.{IsListStored, KeepsUsed, stored_bytes};
-ghost use Rattle.lfs_writer.specs.Roomy.{base_blocks};
-ghost use Rattle.lfs_writer.specs.Written.{HasWritten, IsGoing, TurnsOver, bytes_over, length_in};
-ghost use Rattle.lfs_writer.specs.Owned.{AreOwned, KeepsList, blocks_held};
+ghost use Rattle.lfs_writer.specs.BaseRoom.{base_blocks};
+ghost use Rattle.lfs_writer.specs.HandWrites.{HasWritten, IsHandWithBytes, TurnsOver, bytes_over, length_in};
+ghost use Rattle.lfs_writer.specs.BlockOwners.{AreOwned, KeepsList, blocks_held};
 
 use crate::completion::abandon;
 use crate::contents::Contents;
@@ -39,7 +39,7 @@ fn fill_out<D: BlockDevice>(
     list: Extender,
     size: u32,
 ) -> Result<Hand, Error>
-    requires quiet { IsQuiet map.old (D.blocks dev.old) (D.geometry dev.old) list }
+    requires quiet { IsInMemoryAlone map.old (D.blocks dev.old) (D.geometry dev.old) list }
     requires longer { length (held_bytes list) < size }
     requires small { size < 2 ^ 31 }
     requires room { used_count map.old + blocks_for (D.geometry dev.old).block_size size ≤ length map.old }
@@ -64,7 +64,7 @@ fn truncate_in_memory<D: BlockDevice>(
     limit: u32,
     size: u32,
 ) -> Result<Contents, Error>
-    requires quiet { IsQuiet map.old (D.blocks dev.old) (D.geometry dev.old) list }
+    requires quiet { IsInMemoryAlone map.old (D.blocks dev.old) (D.geometry dev.old) list }
     requires few { length (held_bytes list) ≤ limit }
     requires short { limit < (D.geometry dev.old).block_size }
     requires small { size < 2 ^ 31 }
@@ -97,7 +97,7 @@ fn take_back<D: BlockDevice>(
 ) -> Result<Extender, Error>
     requires stored { IsListStored map.old (D.blocks dev.old) (D.geometry dev.old).block_size stored }
     requires short { size < (D.geometry dev.old).block_size }
-    ensures quiet { IfOk result (IsQuiet map.new (D.blocks dev.new) (D.geometry dev.old)) }
+    ensures quiet { IfOk result (IsInMemoryAlone map.new (D.blocks dev.new) (D.geometry dev.old)) }
     ensures bytes { IfOk result (λ list. held_bytes list ≡ take size (zeros_to size (stored_bytes (D.blocks dev.old) (D.geometry dev.old).block_size stored))) }
     ensures map { KeepsUsed map.old map.new }
     ensures device { ReadsOnly D.BlockDevice dev.old dev.new }
@@ -177,7 +177,7 @@ fn lengthen_hand<D: BlockDevice>(
     hand: Hand,
     size: u32,
 ) -> Result<Hand, Error>
-    requires going { IsGoing map.old (D.blocks dev.old) (D.geometry dev.old) hand }
+    requires going { IsHandWithBytes map.old (D.blocks dev.old) (D.geometry dev.old) hand }
     requires longer { length_in hand < size }
     requires small { size < 2 ^ 31 }
     requires on { end_of hand.list ≡ length_in hand →
@@ -207,7 +207,7 @@ fn shorten_hand<D: BlockDevice>(
     limit: u32,
     size: u32,
 ) -> Result<Contents, Error>
-    requires going { IsGoing map.old (D.blocks dev.old) (D.geometry dev.old) hand }
+    requires going { IsHandWithBytes map.old (D.blocks dev.old) (D.geometry dev.old) hand }
     requires shorter { size < length_in hand }
     requires short { limit < (D.geometry dev.old).block_size }
     requires small { size < 2 ^ 31 }
@@ -233,7 +233,7 @@ fn truncate_hand<D: BlockDevice>(
     limit: u32,
     size: u32,
 ) -> Result<Contents, Error>
-    requires going { IsGoing map.old (D.blocks dev.old) (D.geometry dev.old) hand }
+    requires going { IsHandWithBytes map.old (D.blocks dev.old) (D.geometry dev.old) hand }
     requires large { limit < length_in hand }
     requires short { limit < (D.geometry dev.old).block_size }
     requires small { size < 2 ^ 31 }

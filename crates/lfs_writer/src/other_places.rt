@@ -8,8 +8,8 @@ ghost use Rattle.lfs_ctz.specs.Calls.{ReportsMemory};
 ghost use Rattle.lfs_ctz.specs.Growing.{end_of};
 ghost use Rattle.lfs_writer.specs.Calls.{LeavesUsed};
 ghost use Rattle.lfs_writer.specs.Hand.{KeepsUsed};
-ghost use Rattle.lfs_writer.specs.Roomy.{base_blocks};
-ghost use Rattle.lfs_writer.specs.Written.{HasWritten, IsAt, IsGoing, TurnsOver, bytes_over, length_in};
+ghost use Rattle.lfs_writer.specs.BaseRoom.{base_blocks};
+ghost use Rattle.lfs_writer.specs.HandWrites.{HasWritten, EndsAt, IsHandWithBytes, TurnsOver, bytes_over, length_in};
 
 use crate::list_ends::end_hand;
 use crate::list_starts::begin_over;
@@ -32,11 +32,11 @@ pub(crate) fn turn_to<D: BlockDevice>(
     hand: Hand,
     place: u32,
 ) -> Result<Hand, Error>
-    requires going { IsGoing map.old (D.blocks dev.old) (D.geometry dev.old) hand }
+    requires going { IsHandWithBytes map.old (D.blocks dev.old) (D.geometry dev.old) hand }
     requires within { place ≤ length_in hand }
     requires room { end_of hand.list ≢ place →
         used_count map.old + base_blocks (D.geometry dev.old).block_size hand.base + blocks_for (D.geometry dev.old).block_size hand.base.size ≤ length map.old }
-    ensures turned { IfOk result (λ h. IsAt map.new (D.blocks dev.new) (D.geometry dev.old) h place (bytes_over (D.blocks dev.old) hand)) }
+    ensures turned { IfOk result (λ h. EndsAt map.new (D.blocks dev.new) (D.geometry dev.old) h place (bytes_over (D.blocks dev.old) hand)) }
     ensures over { IfOk result (TurnsOver map.new (D.geometry dev.old).block_size (D.blocks dev.old) hand place (D.blocks dev.new)) }
     ensures map { KeepsUsed map.old map.new }
     ensures device { LeavesUsed D.BlockDevice map.old dev.old dev.new }
@@ -65,7 +65,7 @@ pub(crate) fn write_elsewhere<D: BlockDevice>(
     place: u32,
     bytes: &[u8],
 ) -> Result<Hand, Error>
-    requires going { IsGoing map.old (D.blocks dev.old) (D.geometry dev.old) hand }
+    requires going { IsHandWithBytes map.old (D.blocks dev.old) (D.geometry dev.old) hand }
     requires some { 1 ≤ length bytes.now }
     requires small { place + length bytes.now < 2 ^ 31 }
     requires on { end_of hand.list ≡ min place (length_in hand) →

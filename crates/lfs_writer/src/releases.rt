@@ -5,7 +5,7 @@ ghost use Rattle.lfs_device.specs.Calls.{ReadsOnly};
 ghost use Rattle.lfs_model.specs.SkipLists.{AreListBlocks, blocks_back};
 ghost use Rattle.lfs_ctz.specs.Calls.{ReportsIo};
 ghost use Rattle.lfs_writer.specs.Hand.{KeepsUsed};
-ghost use Rattle.lfs_writer.specs.Released.{Releases};
+ghost use Rattle.lfs_writer.specs.Releases.{Releases};
 
 use lfs_alloc::BlockMap;
 use lfs_ctz::head_before;

@@ -5,7 +5,7 @@ ghost use Rattle.lfs_device.specs.Calls.{ReadsOnly};
 ghost use Rattle.lfs_model.specs.History.{reads};
 ghost use Rattle.lfs_model.specs.SkipLists.{AreListBlocks, blocks_back};
 ghost use Rattle.lfs_ctz.specs.Calls.{ReportsIo};
-ghost use Rattle.lfs_writer.specs.Shared.{IsSharedCount, apart_count};
+ghost use Rattle.lfs_writer.specs.SharedBlocks.{IsSharedCount, apart_count};
 
 use lfs_ctz::head_before;
 use lfs_device::{BlockDevice, Error};

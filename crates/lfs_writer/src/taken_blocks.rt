@@ -2,7 +2,7 @@
 
 ghost use Rattle.std.specs.Prelude.{◌≡◌, ◌≤◌, ◌+◌, ℕ, length, slice_get, IfOk, IfErr};
 ghost use Rattle.lfs_model.specs.BlockSets.{in_flight_count, used_count};
-ghost use Rattle.lfs_writer.specs.Taken.{Keeps, Takes};
+ghost use Rattle.lfs_writer.specs.TakenBlocks.{Keeps, Takes};
 
 use lfs_alloc::BlockMap;
 use lfs_device::Error;

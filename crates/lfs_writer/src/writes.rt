@@ -8,9 +8,9 @@ ghost use Rattle.lfs_ctz.specs.Calls.{ReportsMemory};
 ghost use Rattle.lfs_ctz.specs.Growing.{end_of};
 ghost use Rattle.lfs_writer.specs.Calls.{LeavesUsed};
 ghost use Rattle.lfs_writer.specs.Hand.{KeepsUsed};
-ghost use Rattle.lfs_writer.specs.Roomy.{base_blocks};
-ghost use Rattle.lfs_writer.specs.Written.{HasBegun, HasWritten, bytes_over, length_in};
-ghost use Rattle.lfs_writer.specs.Owned.{KeepsList};
+ghost use Rattle.lfs_writer.specs.BaseRoom.{base_blocks};
+ghost use Rattle.lfs_writer.specs.HandWrites.{IsHandBegun, HasWritten, bytes_over, length_in};
+ghost use Rattle.lfs_writer.specs.BlockOwners.{KeepsList};
 
 use crate::extensions::extend;
 use crate::stored_list::Stored;
@@ -43,7 +43,7 @@ pub(crate) fn write_on<D: BlockDevice>(
     hand: &mut Hand,
     bytes: &[u8],
 ) -> Result<(), Error>
-    requires begun { HasBegun map.old (D.blocks dev.old) (D.geometry dev.old) hand.old }
+    requires begun { IsHandBegun map.old (D.blocks dev.old) (D.geometry dev.old) hand.old }
     requires some { 1 ≤ length bytes.now }
     requires small { end_of hand.old.list + length bytes.now < 2 ^ 31 }
     requires room { used_count map.old + blocks_for (D.geometry dev.old).block_size (end_of hand.old.list + length bytes.now)
@@ -74,7 +74,7 @@ pub(crate) fn write_from<D: BlockDevice>(
     place: u32,
     bytes: &[u8],
 ) -> Result<(), Error>
-    requires begun { HasBegun map.old (D.blocks dev.old) (D.geometry dev.old) hand.old }
+    requires begun { IsHandBegun map.old (D.blocks dev.old) (D.geometry dev.old) hand.old }
     requires at { end_of hand.old.list ≡ min place (length_in hand.old) }
     requires some { 1 ≤ length bytes.now }
     requires small { place + length bytes.now < 2 ^ 31 }

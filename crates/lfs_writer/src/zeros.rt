@@ -8,9 +8,9 @@ ghost use Rattle.lfs_ctz.specs.Calls.{ReportsMemory};
 ghost use Rattle.lfs_ctz.specs.Growing.{end_of};
 ghost use Rattle.lfs_writer.specs.Calls.{LeavesUsed};
 ghost use Rattle.lfs_writer.specs.Hand.{KeepsUsed};
-ghost use Rattle.lfs_writer.specs.Roomy.{base_blocks};
-ghost use Rattle.lfs_writer.specs.Written.{HasBegun, IsZeroed, bytes_over};
-ghost use Rattle.lfs_writer.specs.Owned.{KeepsList};
+ghost use Rattle.lfs_writer.specs.BaseRoom.{base_blocks};
+ghost use Rattle.lfs_writer.specs.HandWrites.{IsHandBegun, HasZerosWritten, bytes_over};
+ghost use Rattle.lfs_writer.specs.BlockOwners.{KeepsList};
 
 use crate::writes::{Hand, write_on};
 use lfs_alloc::BlockMap;
@@ -30,11 +30,11 @@ pub(crate) fn write_zeros<D: BlockDevice>(
     hand: &mut Hand,
     count: u32,
 ) -> Result<(), Error>
-    requires begun { HasBegun map.old (D.blocks dev.old) (D.geometry dev.old) hand.old }
+    requires begun { IsHandBegun map.old (D.blocks dev.old) (D.geometry dev.old) hand.old }
     requires small { end_of hand.old.list + count < 2 ^ 31 }
     requires room { used_count map.old + blocks_for (D.geometry dev.old).block_size (end_of hand.old.list + count)
         + base_blocks (D.geometry dev.old).block_size hand.old.base ≤ length map.old }
-    ensures zeroed { OnOk result (IsZeroed map.new (D.blocks dev.new) (D.geometry dev.old) hand.new count (end_of hand.old.list + count)
+    ensures zeroed { OnOk result (HasZerosWritten map.new (D.blocks dev.new) (D.geometry dev.old) hand.new count (end_of hand.old.list + count)
         (written_into (bytes_over (D.blocks dev.old) hand.old) (end_of hand.old.list) (replicate count 0))) }
     ensures base { KeepsList (D.geometry dev.old).block_size (D.blocks dev.old) hand.old.base (D.blocks dev.new) hand.new.base }
     ensures map { KeepsUsed map.old map.new }

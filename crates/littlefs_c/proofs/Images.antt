@@ -23,9 +23,9 @@ use Rattle.lfs_model.specs.View.{IsAccepted}
 use Rattle.lfs_model.specs.declared.order.NameOrder.{NameOrder}
 use Rattle.lfs_model.specs.declared.order.NameOrder.TheVariants.{LongerFirst, ShorterFirst}
 use Rattle.lfs_model.proofs.Cuts.{length-cut}
-use Rattle.lfs_fs.specs.Held.{Held, IsFreshSession, system_state_of, session_of}
-use Rattle.littlefs_c.specs.Calls.{IsMounted, IsOf, Leaves, Prevents, RunsThese}
-use Rattle.littlefs_c.specs.Starts.{IsFormatted}
+use Rattle.lfs_fs.specs.SessionView.{SessionView, IsFreshSession, system_state_of, session_of}
+use Rattle.littlefs_c.specs.Calls.{IsSessionOn, IsDeviceOf, LeavesImage, Prevents, RunsOperations}
+use Rattle.littlefs_c.specs.Starts.{IsFormattedImage}
 
 -- ---- sizes
 
@@ -53,7 +53,7 @@ is_image block_size page image g size its_page len =
 
 -- a device that was made of an image's bytes
 pub holds : (block_size page : ℕ) (image items : List ℕ) (g : Geometry) (r : Result RamDevice Error) → (g.block_size ≡ block_size) × (g.page ≡ page) × (g.block_size * g.block_count ≡ length image) → items ≡ image
-    → IfOk r (λ d. (geometry_of d ≡ g) × (bytes_of d ≡ items)) → IfOk r (λ d. history_of d ≡ []) → IfOk r (IsOf block_size page image)
+    → IfOk r (λ d. (geometry_of d ≡ g) × (bytes_of d ≡ items)) → IfOk r (λ d. history_of d ≡ []) → IfOk r (IsDeviceOf block_size page image)
 holds block_size page image items g (Err e) sizes same made none = tt
 holds block_size page image items g (Ok d) sizes same made none = record {
   whole = is_image block_size page image g sizes.0 sizes.1 sizes.2;
@@ -68,7 +68,7 @@ pub made_so : (items : List ℕ) (g : Geometry) (erased : RamDevice → Type 0) 
 made_so items g erased bad (Err e) h = tt
 made_so items g erased bad (Ok d) h = (h.0, h.1)
 
-pub disk_shown : (block_size page : ℕ) (image : List ℕ) (d : RamDevice) (order : NameOrder) → IsOf block_size page image d → device.ordered order (device.disk_of (geometry_of d) (ram_blocks d)) ≡ disk_of block_size page order image
+pub disk_shown : (block_size page : ℕ) (image : List ℕ) (d : RamDevice) (order : NameOrder) → IsDeviceOf block_size page image d → device.ordered order (device.disk_of (geometry_of d) (ram_blocks d)) ≡ disk_of block_size page order image
 disk_shown block_size page image d order is =
     let least : 1024 ≤ (geometry_of d).block_size = (geometry_of d).valid.no_smaller in
     let count : (geometry_of d).block_count ≡ length image / block_size =
@@ -97,27 +97,27 @@ session_steps_geometry (op ∷ operations) (reply ∷ replies) a b (next, (turn,
     let t = turn.geometry in
     record { block_size = s.block_size ∙ t.block_size; page = s.page ∙ t.page; order = s.order ∙ t.order; count = s.count ∙ t.count }
 
-pub run_kept : (block_size page : ℕ) (old : List ℕ) (operations : List Operation) (to : SystemState) (d : RamDevice) → RunsThese block_size page old operations to
+pub run_kept : (block_size page : ℕ) (old : List ℕ) (operations : List Operation) (to : SystemState) (d : RamDevice) → RunsOperations block_size page old operations to
     → device.ordered to.disk.order (device.disk_of (geometry_of d) (ram_blocks d)) ≡ to.disk
     → (length old ≡ length (bytes_of d)) × (to.disk ≡ disk_of block_size page to.disk.order (bytes_of d))
 run_kept block_size page old operations to d (replies, r) shown =
     kept block_size page r.from.disk.order old to.disk d r.mounts.whole (subst (λ k. SameGeometry k to.disk) r.mounts.disk (session_steps_geometry operations replies r.from to r.session_steps)) shown
 
-pub leaves : (block_size page : ℕ) (old : List ℕ) (operations : List Operation) (to : SystemState) (d : RamDevice) (new : List ℕ) → RunsThese block_size page old operations to
-    → device.ordered to.disk.order (device.disk_of (geometry_of d) (ram_blocks d)) ≡ to.disk → new ≡ bytes_of d → Leaves block_size page old operations new
+pub leaves : (block_size page : ℕ) (old : List ℕ) (operations : List Operation) (to : SystemState) (d : RamDevice) (new : List ℕ) → RunsOperations block_size page old operations to
+    → device.ordered to.disk.order (device.disk_of (geometry_of d) (ram_blocks d)) ≡ to.disk → new ≡ bytes_of d → LeavesImage block_size page old operations new
 leaves block_size page old operations to d new r shown is =
     let k = run_kept block_size page old operations to d r shown in
     record { to = to; runs = r; len = ap length is ∙ sym k.0; disk = k.1 ∙ ap (disk_of block_size page to.disk.order) (sym is) }
 
 -- ---- a mount
 
-healthy : (h : Held) → h.tree.failed ≡ false → h.files ≡ [] → (system_state_of h).state ≡ Healthy (mounted (tree_in h.tree.disk h.tree.pairs))
+healthy : (h : SessionView) → h.tree.failed ≡ false → h.files ≡ [] → (system_state_of h).state ≡ Healthy (mounted (tree_in h.tree.disk h.tree.pairs))
 healthy h works none = ap (λ b. cond b HasFailed (Healthy (session_of h))) works ∙ ap (λ (files : Files). Healthy (record { tree = tree_in h.tree.disk h.tree.pairs; files = files })) none
 
-pub mounts : (block_size page : ℕ) (image : List ℕ) (d : RamDevice) (history : List Event) (h : Held) → IsOf block_size page image d
+pub mounts : (block_size page : ℕ) (image : List ℕ) (d : RamDevice) (history : List Event) (h : SessionView) → IsDeviceOf block_size page image d
     → IsFreshSession (device.ordered h.tree.disk.order (device.disk_of (geometry_of d) (ram_blocks d))) history h
     → (h.tree.disk.order ≡ ShorterFirst → (ps : List Pair) → ¬ IsAccepted (device.ordered LongerFirst (device.disk_of (geometry_of d) (ram_blocks d))) ps)
-    → IsMounted block_size page image (system_state_of h)
+    → IsSessionOn block_size page image (system_state_of h)
 mounts block_size page image d history h is b longer = record {
   whole = is.whole;
   disk = b.disk_is ∙ disk_shown block_size page image d h.tree.disk.order is;
@@ -127,7 +127,7 @@ mounts block_size page image d history h is b longer = record {
   mounts = healthy h b.works b.no_files;
 }
 
-pub prevented : (block_size page : ℕ) (image : List ℕ) (d : RamDevice) (e : Error) → IsOf block_size page image d → (e ≡ Io) ⊎ ((e ≡ Corrupt) ⊎ (e ≡ NoMemory)) → (e ≡ Io → ⊥)
+pub prevented : (block_size page : ℕ) (image : List ℕ) (d : RamDevice) (e : Error) → IsDeviceOf block_size page image d → (e ≡ Io) ⊎ ((e ≡ Corrupt) ⊎ (e ≡ NoMemory)) → (e ≡ Io → ⊥)
     → (e ≡ Corrupt → (order : NameOrder) (ps : List Pair) → ¬ IsAccepted (device.ordered order (device.disk_of (geometry_of d) (ram_blocks d))) ps)
     → Prevents block_size page image e
 prevented block_size page image d e is (inl io) no_fault corrupt = absurd (no_fault io)
@@ -140,13 +140,13 @@ none_below n m l none = omega (arith, l, none)
 
 -- ---- a fresh one
 
-pub fits : (block_size page : ℕ) (order : NameOrder) (old : List ℕ) (d e : RamDevice) (to : Disk) → IsOf block_size page old d
+pub fits : (block_size page : ℕ) (order : NameOrder) (old : List ℕ) (d e : RamDevice) (to : Disk) → IsDeviceOf block_size page old d
     → SameGeometry (device.ordered order (device.disk_of (geometry_of d) (ram_blocks d))) to → device.ordered to.order (device.disk_of (geometry_of e) (ram_blocks e)) ≡ to → length old ≡ length (bytes_of e)
 fits block_size page order old d e to is same shown = (kept block_size page order old to e is.whole (subst (λ z. SameGeometry z to) (disk_shown block_size page old d order is) same) shown).0
 
-pub formatted : (block_size page : ℕ) (order : NameOrder) (old : List ℕ) (d e : RamDevice) (to : Disk) (new : List ℕ) → IsOf block_size page old d → IsFresh to
+pub formatted : (block_size page : ℕ) (order : NameOrder) (old : List ℕ) (d e : RamDevice) (to : Disk) (new : List ℕ) → IsDeviceOf block_size page old d → IsFresh to
     → SameGeometry (device.ordered order (device.disk_of (geometry_of d) (ram_blocks d))) to → SameButThese (0 ∷ 1 ∷ []) (ram_blocks d) to.blocks
-    → device.ordered to.order (device.disk_of (geometry_of e) (ram_blocks e)) ≡ to → new ≡ bytes_of e → IsFormatted block_size page order old new
+    → device.ordered to.order (device.disk_of (geometry_of e) (ram_blocks e)) ≡ to → new ≡ bytes_of e → IsFormattedImage block_size page order old new
 formatted block_size page order old d e to new is fresh same others shown are =
     let begun = disk_shown block_size page old d order is in
     let k = kept block_size page order old to e is.whole (subst (λ z. SameGeometry z to) begun same) shown in

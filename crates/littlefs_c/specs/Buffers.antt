@@ -8,7 +8,7 @@ use Rattle.lfs_model.specs.Operations as ops
 use Rattle.lfs_model.specs.Operations.{Item, Operation, Reply}
 use Rattle.lfs_model.specs.Run.{SystemState}
 use Rattle.lfs_device.specs.declared.error.Error.{Error}
-use Rattle.littlefs_c.specs.Calls.{Refuses, Runs}
+use Rattle.littlefs_c.specs.Calls.{Refuses, RunsWithReplies}
 
 -- the part of a line before its name: of a file of that size, or of a directory
 abbrev pub head_of : Option ℕ → List ℕ
@@ -36,7 +36,7 @@ pub record IsInBuffer (block_size page : ℕ) (image : List ℕ) (operations : L
   pub replies : List Reply
   pub last : Reply
   pub to : SystemState
-  pub runs : Runs block_size page image operations (replies ++ last ∷ []) to
+  pub runs : RunsWithReplies block_size page image operations (replies ++ last ∷ []) to
   pub room : answer ≡ length (buffer_bytes last)
   pub buffer : new ≡ put_in (buffer_bytes last) old
 

@@ -20,7 +20,7 @@ use Rattle.lfs_lookup.specs.Refusals.{is_refusal, refusal_in}
 -- ---- a session over an image
 
 -- A device that has the image, and has had no call.
-pub record IsOf (block_size page : ℕ) (image : List ℕ) (d : RamDevice) : Type 0 where
+pub record IsDeviceOf (block_size page : ℕ) (image : List ℕ) (d : RamDevice) : Type 0 where
   pub whole : IsImage block_size page image
   pub size : (geometry_of d).block_size ≡ block_size
   pub its_page : (geometry_of d).page ≡ page
@@ -29,7 +29,7 @@ pub record IsOf (block_size page : ℕ) (image : List ℕ) (d : RamDevice) : Typ
 
 -- A session as a mount of the image begins it. The image is accepted, in the order with the longer names first where both orders
 -- fit.
-pub record IsMounted (block_size page : ℕ) (image : List ℕ) (from : SystemState) : Type 0 where
+pub record IsSessionOn (block_size page : ℕ) (image : List ℕ) (from : SystemState) : Type 0 where
   pub whole : IsImage block_size page image
   pub disk : from.disk ≡ disk_of block_size page from.disk.order image
   pub longer : from.disk.order ≡ ShorterFirst → (ps : List Pair) → ¬ IsAccepted (disk_of block_size page LongerFirst image) ps
@@ -39,7 +39,7 @@ pub record IsMounted (block_size page : ℕ) (image : List ℕ) (from : SystemSt
 
 -- the image is accepted, and a session begins with it
 abbrev pub IsImageBegun : ℕ → ℕ → List ℕ → Type 0
-IsImageBegun block_size page image = (from : SystemState) × IsMounted block_size page image from
+IsImageBegun block_size page image = (from : SystemState) × IsSessionOn block_size page image from
 
 -- What keeps a call from running an operation: the bytes are no image of that geometry, the image isn't accepted, or memory
 -- wasn't granted.
@@ -50,21 +50,21 @@ Prevents block_size page image NoMemory = Unit {0}
 Prevents block_size page image other = ⊥
 
 -- the image is accepted, or the error has its cause
-abbrev pub Checks : {X : Type 0} → ℕ → ℕ → List ℕ → Result X Error → Type 0
-Checks block_size page image (Ok x) = IsImageBegun block_size page image
-Checks block_size page image (Err e) = Prevents block_size page image e
+abbrev pub ChecksImage : {X : Type 0} → ℕ → ℕ → List ℕ → Result X Error → Type 0
+ChecksImage block_size page image (Ok x) = IsImageBegun block_size page image
+ChecksImage block_size page image (Err e) = Prevents block_size page image e
 
 -- ---- operations
 
 -- Operations of a session that begins with a mount of the image, and their replies. None of them refuses.
-pub record Runs (block_size page : ℕ) (image : List ℕ) (operations : List Operation) (replies : List Reply) (to : SystemState) : Type 0 where
+pub record RunsWithReplies (block_size page : ℕ) (image : List ℕ) (operations : List Operation) (replies : List Reply) (to : SystemState) : Type 0 where
   pub from : SystemState
-  pub mounts : IsMounted block_size page image from
+  pub mounts : IsSessionOn block_size page image from
   pub session_steps : AreSessionSteps from operations replies to
   pub accepted : All (λ r. run.is_refusal r ≡ false) replies
 
-abbrev pub RunsThese : ℕ → ℕ → List ℕ → List Operation → SystemState → Type 0
-RunsThese block_size page image operations to = (replies : List Reply) × Runs block_size page image operations replies to
+abbrev pub RunsOperations : ℕ → ℕ → List ℕ → List Operation → SystemState → Type 0
+RunsOperations block_size page image operations to = (replies : List Reply) × RunsWithReplies block_size page image operations replies to
 
 -- One of the operations is refused by that error, after others that were accepted.
 pub record HasRefusal (block_size page : ℕ) (image : List ℕ) (operations : List Operation) (e : Error) : Type 0 where
@@ -74,7 +74,7 @@ pub record HasRefusal (block_size page : ℕ) (image : List ℕ) (operations : L
   pub are : operations ≡ done ++ next ∷ others
   pub replies : List Reply
   pub at : SystemState
-  pub runs : Runs block_size page image done replies at
+  pub runs : RunsWithReplies block_size page image done replies at
   pub to : SystemState
   pub refused : IsSessionStep at next (ops.Refused (refusal_in e)) to
   pub refusal : is_refusal e ≡ true
@@ -85,19 +85,19 @@ Refuses block_size page image operations e = Prevents block_size page image e �
 -- ---- results
 
 -- the reply to the last operation, or the error with the cause for which there is none
-abbrev pub Asks : {X : Type 0} → ℕ → ℕ → List ℕ → List Operation → (X → Reply) → Result X Error → Type 0
-Asks block_size page image operations reply (Ok x) =
-    (replies : List Reply) × ((to : SystemState) × Runs block_size page image operations (replies ++ reply x ∷ []) to)
-Asks block_size page image operations reply (Err e) = Refuses block_size page image operations e
+abbrev pub GivesReply : {X : Type 0} → ℕ → ℕ → List ℕ → List Operation → (X → Reply) → Result X Error → Type 0
+GivesReply block_size page image operations reply (Ok x) =
+    (replies : List Reply) × ((to : SystemState) × RunsWithReplies block_size page image operations (replies ++ reply x ∷ []) to)
+GivesReply block_size page image operations reply (Err e) = Refuses block_size page image operations e
 
 -- The new image is the disk that the operations leave.
-pub record Leaves (block_size page : ℕ) (old : List ℕ) (operations : List Operation) (new : List ℕ) : Type 0 where
+pub record LeavesImage (block_size page : ℕ) (old : List ℕ) (operations : List Operation) (new : List ℕ) : Type 0 where
   pub to : SystemState
-  pub runs : RunsThese block_size page old operations to
+  pub runs : RunsOperations block_size page old operations to
   pub len : length new ≡ length old
   pub disk : to.disk ≡ disk_of block_size page to.disk.order new
 
 -- the image is what the operations leave, or it is as it was, and the error has its cause
-abbrev pub Changes : {X : Type 0} → ℕ → ℕ → List ℕ → List Operation → Result X Error → List ℕ → Type 0
-Changes block_size page old operations (Ok x) new = Leaves block_size page old operations new
-Changes block_size page old operations (Err e) new = (new ≡ old) × Refuses block_size page old operations e
+abbrev pub ChangesImage : {X : Type 0} → ℕ → ℕ → List ℕ → List Operation → Result X Error → List ℕ → Type 0
+ChangesImage block_size page old operations (Ok x) new = LeavesImage block_size page old operations new
+ChangesImage block_size page old operations (Err e) new = (new ≡ old) × Refuses block_size page old operations e

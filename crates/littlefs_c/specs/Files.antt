@@ -5,7 +5,7 @@ use Rattle.lfs_model.specs.Operations as ops
 use Rattle.lfs_model.specs.Operations.{Flags, Operation, Reply}
 use Rattle.lfs_model.specs.Run.{AreSessionSteps, IsSessionStep, SystemState}
 use Rattle.lfs_model.specs.Run as run
-use Rattle.lfs_fs.specs.Held.{FailsBy}
+use Rattle.lfs_fs.specs.SessionView.{FailsBy}
 use Rattle.lfs_lookup.specs.Refusals.{is_refusal, refusal_in}
 
 abbrev pub reading_flags : Flags

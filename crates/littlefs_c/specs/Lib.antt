@@ -2,5 +2,5 @@ pub mod Calls
 pub mod Buffers
 pub mod Codes
 pub mod Starts
-pub mod FirstRefused
+pub mod FirstRefusals
 pub mod Files

@@ -9,7 +9,7 @@ use Rattle.littlefs_c.specs.Calls.{Prevents}
 use Rattle.littlefs_c.specs.Codes.{order_of}
 
 -- The new image is one of the geometry, whose disk is a fresh one. All blocks but the first two have the bytes that they had.
-pub record IsFormatted (block_size page : ℕ) (order : NameOrder) (old new : List ℕ) : Type 0 where
+pub record IsFormattedImage (block_size page : ℕ) (order : NameOrder) (old new : List ℕ) : Type 0 where
   pub whole : IsImage block_size page old
   pub len : length new ≡ length old
   pub fresh : IsFresh (disk_of block_size page order new)
@@ -17,5 +17,5 @@ pub record IsFormatted (block_size page : ℕ) (order : NameOrder) (old new : Li
 
 -- the image is formatted, or it is as it was, and the error has its cause
 abbrev pub FormatsIn : {X : Type 0} → ℕ → ℕ → ℕ → List ℕ → Result X Error → List ℕ → Type 0
-FormatsIn block_size page number old (Ok x) new = (order : NameOrder) × ((order_of number ≡ Ok order) × IsFormatted block_size page order old new)
+FormatsIn block_size page number old (Ok x) new = (order : NameOrder) × ((order_of number ≡ Ok order) × IsFormattedImage block_size page order old new)
 FormatsIn block_size page number old (Err e) new = (new ≡ old) × ((order_of number ≡ Err e) ⊎ Prevents block_size page old e)

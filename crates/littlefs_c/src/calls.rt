@@ -5,14 +5,14 @@ ghost use Rattle.lfs_model.specs.Operations as ops;
 ghost use Rattle.lfs_fs.specs.FlagsView.{flags_view};
 ghost use Rattle.littlefs_c.specs.Buffers.{FillsBuffer, put_in};
 ghost use Rattle.littlefs_c.specs.Codes.{order_of};
-ghost use Rattle.littlefs_c.specs.Calls.{Changes, Checks};
+ghost use Rattle.littlefs_c.specs.Calls.{ChangesImage, ChecksImage};
 ghost use Rattle.littlefs_c.specs.Files.{reading, replacing_flags, writing};
 ghost use Rattle.littlefs_c.specs.Starts.{FormatsIn};
 
 use crate::image::{begin, device};
 use crate::lines::lines_of;
-use crate::reading::{attribute_at, bytes_at, items_at};
-use crate::running::change;
+use crate::operation_runs::change;
+use crate::reads::{attribute_at, bytes_at, items_at};
 use bitflags::Flags;
 use lfs_device::{Error, NameOrder};
 use lfs_fs::{Op, OpenFlags, format_ordered};
@@ -54,7 +54,7 @@ pub(crate) fn format(
 
 // Checks that an image is accepted.
 pub(crate) fn check(alloc: Global, image: &[u8], block_size: u32, page: u32) -> Result<(), Error>
-    ensures { Checks block_size page image.now result }
+    ensures { ChecksImage block_size page image.now result }
 {
     begin(alloc, image, block_size, page)?;
     Ok(())
@@ -143,7 +143,7 @@ pub(crate) fn write<'a>(
     path: &'a [u8],
     bytes: &'a [u8],
 ) -> Result<(), Error>
-    ensures { Changes block_size page image.old (writing path.now bytes.now) result image.new }
+    ensures { ChangesImage block_size page image.old (writing path.now bytes.now) result image.new }
 {
     let ops = [
         Op::Open(path, replacing()),
@@ -161,7 +161,7 @@ pub(crate) fn mkdir(
     page: u32,
     path: &[u8],
 ) -> Result<(), Error>
-    ensures { Changes block_size page image.old (ops.Mkdir path.now ∷ []) result image.new }
+    ensures { ChangesImage block_size page image.old (ops.Mkdir path.now ∷ []) result image.new }
 {
     change(alloc, image, block_size, page, &[Op::Mkdir(path)])
 }
@@ -174,7 +174,7 @@ pub(crate) fn remove(
     page: u32,
     path: &[u8],
 ) -> Result<(), Error>
-    ensures { Changes block_size page image.old (ops.Remove path.now ∷ []) result image.new }
+    ensures { ChangesImage block_size page image.old (ops.Remove path.now ∷ []) result image.new }
 {
     change(alloc, image, block_size, page, &[Op::Remove(path)])
 }
@@ -188,7 +188,7 @@ pub(crate) fn rename<'a>(
     from: &'a [u8],
     to: &'a [u8],
 ) -> Result<(), Error>
-    ensures { Changes block_size page image.old (ops.Rename from.now to.now ∷ []) result image.new }
+    ensures { ChangesImage block_size page image.old (ops.Rename from.now to.now ∷ []) result image.new }
 {
     change(alloc, image, block_size, page, &[Op::Rename(from, to)])
 }
@@ -203,7 +203,7 @@ pub(crate) fn set_attr<'a>(
     kind: u8,
     bytes: &'a [u8],
 ) -> Result<(), Error>
-    ensures { Changes block_size page image.old (ops.SetAttr path.now kind bytes.now ∷ []) result image.new }
+    ensures { ChangesImage block_size page image.old (ops.SetAttr path.now kind bytes.now ∷ []) result image.new }
 {
     change(
         alloc,
@@ -223,7 +223,7 @@ pub(crate) fn remove_attr(
     path: &[u8],
     kind: u8,
 ) -> Result<(), Error>
-    ensures { Changes block_size page image.old (ops.RemoveAttr path.now kind ∷ []) result image.new }
+    ensures { ChangesImage block_size page image.old (ops.RemoveAttr path.now kind ∷ []) result image.new }
 {
     change(
         alloc,

@@ -2,8 +2,8 @@
 
 ghost use Rattle.std.specs.Prelude.{◌≡◌, ◌*◌, length, IfErr, IfOk};
 ghost use Rattle.lfs_model.specs.Disk.{IsImage};
-ghost use Rattle.lfs_fs.specs.Held.{system_state_of};
-ghost use Rattle.littlefs_c.specs.Calls.{IsMounted, IsOf, Prevents};
+ghost use Rattle.lfs_fs.specs.SessionView.{system_state_of};
+ghost use Rattle.littlefs_c.specs.Calls.{IsSessionOn, IsDeviceOf, Prevents};
 
 use lfs_device::{Error, Geometry, RamDevice};
 use lfs_fs::{Session, mount};
@@ -28,7 +28,7 @@ pub(crate) fn device(
     block_size: u32,
     page: u32,
 ) -> Result<RamDevice, Error>
-    ensures ok { IfOk result (IsOf block_size page image.now) }
+    ensures ok { IfOk result (IsDeviceOf block_size page image.now) }
     ensures err { IfErr result (λ e. Prevents block_size page image.now e) }
 {
     let geometry = geometry(image, block_size, page)?;
@@ -42,7 +42,7 @@ pub(crate) fn begin(
     block_size: u32,
     page: u32,
 ) -> Result<Session<RamDevice>, Error>
-    ensures ok { IfOk result (λ s. IsMounted block_size page image.now (system_state_of s)) }
+    ensures ok { IfOk result (λ s. IsSessionOn block_size page image.now (system_state_of s)) }
     ensures err { IfErr result (λ e. Prevents block_size page image.now e) }
 {
     let device = device(alloc, image, block_size, page)?;

@@ -7,5 +7,5 @@ mod codes;
 mod exports;
 mod image;
 mod lines;
-mod reading;
-mod running;
+mod operation_runs;
+mod reads;

@@ -19,7 +19,7 @@ use Rattle.lfs_model.specs.WrittenContent.{entry_with}
 use Rattle.lfs_model.specs.Changes.{Change, Create, Delete, PutStruct, PutAttribute}
 use Rattle.lfs_model.specs.Names.{Name}
 use Rattle.lfs_model.specs.Fresh.{superblock_bytes}
-use Rattle.lfs_model.specs.BlockBytes.{unwritten, filled, superblock_entries, checksum_entry, metadata_block}
+use Rattle.lfs_model.specs.BlockBytes.{unwritten, block_of_bytes, superblock_entries, checksum_entry, metadata_block}
 
 -- the tree with these nodes and no others
 abbrev pub tree_with : List (Path × Node) → Tree
@@ -67,7 +67,7 @@ abbrev pub small_disk : List ℕ → Disk
 small_disk block = record { block_size = 1024; page = 128; order = ShorterFirst; blocks = block ∷ unwritten 1024 ∷ [] }
 
 abbrev pub small_block : List ℕ
-small_block = filled 1024 small_commit
+small_block = block_of_bytes 1024 small_commit
 
 abbrev pub small_image : Disk
 small_image = small_disk small_block
@@ -93,7 +93,7 @@ abbrev pub large_disk : Blocks → Disk
 large_disk blocks = record { block_size = 4096; page = 256; order = ShorterFirst; blocks = blocks ++ replicate (16 - length blocks) (unwritten 4096) }
 
 abbrev pub large_image : Disk
-large_image = large_disk (filled 4096 large_commit ∷ [])
+large_image = large_disk (block_of_bytes 4096 large_commit ∷ [])
 
 -- a file "b" has been appended to the small image
 abbrev pub appended_commit : List ℕ
@@ -105,7 +105,7 @@ appended_commit =
     0x6a ∷ 0xa8 ∷ 0x34 ∷ 0x70 ∷ unwritten 107
 
 abbrev pub appended_image : Disk
-appended_image = small_disk (filled 1024 (small_commit ++ appended_commit))
+appended_image = small_disk (block_of_bytes 1024 (small_commit ++ appended_commit))
 
 -- bit k of the checksum is inverted
 abbrev pub turned_block : ℕ → List ℕ
@@ -133,7 +133,7 @@ shifting_commits =
     0x9a ∷ 0x37 ∷ 0xc9 ∷ 0x3a ∷ unwritten 243
 
 abbrev pub shifting_block : List ℕ
-shifting_block = filled 4096 (large_commit ++ shifting_commits)
+shifting_block = block_of_bytes 4096 (large_commit ++ shifting_commits)
 
 abbrev pub shifting_image : Disk
 shifting_image = large_disk (shifting_block ∷ [])
@@ -189,7 +189,7 @@ image_with root blocks = large_disk (root ∷ unwritten 4096 ∷ blocks)
 
 -- the fresh image cut or lengthened to so many blocks
 abbrev pub resized : ℕ → Disk
-resized count = record { block_size = 4096; page = 256; order = ShorterFirst; blocks = filled 4096 large_commit ∷ replicate (count - 1) (unwritten 4096) }
+resized count = record { block_size = 4096; page = 256; order = ShorterFirst; blocks = block_of_bytes 4096 large_commit ∷ replicate (count - 1) (unwritten 4096) }
 
 -- a superblock's struct with another version, block size or limit of names, and a fresh root with it
 abbrev pub superblock_with : ℕ → ℕ → ℕ → List ℕ

@@ -3,7 +3,7 @@ use Rattle.std.specs.Prelude.{ℕ, true, false, List, [], ◌∷◌, map, replic
 use Rattle.lfs_model.specs.Slots.{no_gstate}
 use Rattle.lfs_model.specs.Operations.{Operation, Reply, Flags}
 use Rattle.lfs_model.specs.Session.{Session, Surroundings}
-use Rattle.lfs_model.specs.Effects.{applied}
+use Rattle.lfs_model.specs.Effects.{refusal_or_effect}
 use Rattle.lfs_model.specs.State.{mounted}
 use Rattle.lfs_model.specs.Fresh.{empty_tree}
 
@@ -14,7 +14,7 @@ around block_size page block_count used = record { writable = true; block_size =
 -- the replies to operations, each with the number of blocks in use before it
 abbrev pub replies : (ℕ → Surroundings) → Session → List (ℕ × Operation) → List Reply
 replies disk s [] = []
-replies disk s (step ∷ steps) = (applied (disk step.0) s step.1).0 ∷ replies disk (applied (disk step.0) s step.1).1 steps
+replies disk s (step ∷ steps) = (refusal_or_effect (disk step.0) s step.1).0 ∷ replies disk (refusal_or_effect (disk step.0) s step.1).1 steps
 
 -- the same from a fresh disk
 abbrev pub fresh_replies : ℕ → ℕ → ℕ → List (ℕ × Operation) → List Reply

@@ -7,5 +7,5 @@ abbrev pub one_file : Source
 one_file = record { names = λ folder. (codes "a", false) ∷ []; bytes = λ path. codes "hello" }
 
 -- in each folder a folder `d` and a file `a`, whose bytes are its path
-abbrev pub endless : Source
-endless = record { names = λ folder. (codes "d", true) ∷ (codes "a", false) ∷ []; bytes = λ path. path }
+abbrev pub endless_source : Source
+endless_source = record { names = λ folder. (codes "d", true) ∷ (codes "a", false) ∷ []; bytes = λ path. path }

@@ -6,7 +6,7 @@ use Rattle.lfs_ctz.specs.Way.{HasPointers, on_way}
 use Rattle.lfs_ctz.proofs.Ways.{none_off, one_on}
 use Rattle.std.specs.List.{FoldsTo}
 use Rattle.lfs_device.specs.declared.error.Error.{Error}
-use Rattle.lfs_ctz.specs.Right.{IsNamed, IsNoted}
+use Rattle.lfs_ctz.specs.Right.{IsNamedByPointers, WordsAreNoted}
 use Rattle.std.proofs.lemmas.Result.{err_from_is_err_and}
 use Rattle.std.proofs.lemmas.List.{drop_all}
 use Rattle.lfs_device.specs.declared.geometry.Geometry.{Geometry}
@@ -76,7 +76,7 @@ few_blocks made last fits = let many = made.valid.no_more in omega arith
 -- and where all of it is checked it is a list
 list_of_walk : (d : Blocks) (head size n first : ℕ) (geometry made : Geometry) → made ≡ geometry → n ≡ blocks_for made.block_size size → IsDivided geometry.block_size geometry.block_count d
     → 1 ≤ size → size < 2 ^ 31 → n - 1 < made.block_count → (words : List ℕ) → IsChecked d (n - 1) head first geometry.block_count 0 words → slice_index (blocks_back d (n - 1 + 1) head) 0 ≡ first
-    → first < geometry.block_count → IsNamed words first 0 (n - 1) → IsList d geometry.block_size head size
+    → first < geometry.block_count → IsNamedByPointers words first 0 (n - 1) → IsList d geometry.block_size head size
 list_of_walk d head size n first geometry made e n_is shape low high fits words checked is lt named =
     let many = made.valid.no_more in
     let walked = chain_of_walk d (n - 1) head first words (omega arith) (subst (λ k. IsChecked d (n - 1) head first k 0 words) (sym shape.count) checked) is (omega (arith, lt, shape.count)) named in
@@ -131,7 +131,7 @@ loop-index-preserved g c =
           ∙ back-pointer0 old (last + 1) c.args.head (index - 1) (let l = inv.low in omega arith);
       checked = more_checked old last c.args.head c.in_ok-first.first _ index c.loop-index.block _ _ (few_blocks c.geometry-geometry.result last c.if-last-geometry.false) (omega arith) inv.checked inv.at
           c.in_ok-before.ensures.right.1
-          (subst (λ d. IsNoted d c.loop-index.block index c.loop-index.words c.checked_before.new.words) inv.device.same c.in_ok-before.ensures.noted)
+          (subst (λ d. WordsAreNoted d c.loop-index.block index c.loop-index.words c.checked_before.new.words) inv.device.same c.in_ok-before.ensures.noted)
           inv.low
           (omega (arith, c.in_ok-before.ensures.right.0, ap (λ (k : Geometry). k.block_count) inv.device.geometry))
           c.if-block-first.false;
@@ -176,7 +176,7 @@ returns-clause-well_formed g c =
     let is : slice_index (blocks_back old (last + 1) c.args.head) 0 ≡ c.in_ok-first.first = ap (slice_index (blocks_back old (last + 1) c.args.head)) (sym none) ∙ sym inv.at ∙ c.if-block-first-2.false in
     list_of_walk old c.args.head c.args.size c.blocks_for-last.result c.in_ok-first.first _ _ c.geometry-geometry.ensures c.blocks_for-last.ensures shape (omega arith) (omega arith) (omega arith)
     _ (subst (λ k. IsChecked old last c.args.head c.in_ok-first.first (g.D.BlockDevice.geometry c.args.dev.now).block_count k c.loop-index.words) none inv.checked) is first
-    (subst (λ b. IsNamed c.loop-index.words b 0 last) c.if-block-first-2.false (c.if-not-is_named.ensures.yes refl))
+    (subst (λ b. IsNamedByPointers c.loop-index.words b 0 last) c.if-block-first-2.false (c.if-not-is_named.ensures.yes refl))
 
 pub returns-clause-few : goal.returns-clause-few
 returns-clause-few g c =
@@ -203,5 +203,5 @@ returns-then-not-is_named-clause-corrupt g c is listed =
     let inv = c.loop-index.invariant in
     let ok = chain _ _ _ _ _ c.geometry-geometry.result.valid.no_smaller c.blocks_for-last.ensures (sized _ _ _ _ _ c.geometry-geometry.ensures listed) in
     let none : c.loop-index.index ≡ 0 = omega arith in
-    c.if-not-is_named.ensures.no refl (subst (λ k. IsNamed c.loop-index.words c.loop-index.block k (c.blocks_for-last.result - 1)) none
+    c.if-not-is_named.ensures.no refl (subst (λ k. IsNamedByPointers c.loop-index.words c.loop-index.block k (c.blocks_for-last.result - 1)) none
     (named_of_chain _ _ c.args.head _ _ c.loop-index.index _ (few_blocks c.geometry-geometry.result _ c.if-last-geometry.false) inv.checked ok inv.low c.loop-index.block inv.at))

@@ -4,13 +4,13 @@ use Rattle.std.proofs.lemmas.Slice.{drop-append-drop}
 use Rattle.std.specs.Int.{w32, from_le_bytes}
 use Rattle.lfs_model.specs.Blocks.{Blocks, block_in}
 use Rattle.lfs_model.specs.SkipLists.{pointers_of, word_at}
-use Rattle.lfs_ctz.specs.Right.{IsNoted}
+use Rattle.lfs_ctz.specs.Right.{WordsAreNoted}
 use Rattle.lfs_ctz.proofs.Sizes.{pointers_of-le}
 use Rattle.lfs_ctz.proofs.Words.{word_at-written}
 use Rattle.lfs_ctz.proofs.way.note.Goals as goal
 
 noted : (d : Blocks) (block index n : ℕ) (old new : List ℕ) → n ≡ pointers_of index → 4 * n ≤ length (block_in d block) → new ≡ take 0 old ++ (take (4 * n) (drop 0 (block_in d block)) ++ drop (0 + 4 * n) old)
-    → IsNoted d block index old new
+    → WordsAreNoted d block index old new
 noted d block index n old new is room read = record {
   own = λ k less. ap (λ (l : List ℕ). word_at l (4 * k)) read ∙ word_at-written (block_in d block) (drop (0 + 4 * n) old) (4 * n) (4 * k) room (omega arith);
   others = λ k more less. ap (λ (l : List ℕ). word_at l (4 * k)) read

@@ -3,9 +3,9 @@ use Rattle.lfs_model.specs.TreeEdits.{attributes_of}
 use Rattle.lfs_model.specs.Operations as ops
 use Rattle.lfs_model.specs.Session.{lacks}
 use Rattle.lfs_lookup.specs.AttributeAt.{IsAttributesSize}
-use Rattle.lfs_tree.specs.TreeState.{TreeState, around_of, tree_view}
+use Rattle.lfs_tree.specs.TreeState.{TreeState, surroundings_of, tree_view}
 use Rattle.lfs_fs.specs.FileView.{files_view}
-use Rattle.lfs_fs.specs.Held.{held_of}
+use Rattle.lfs_fs.specs.SessionView.{session_view_of}
 use Rattle.lfs_fs.proofs.Answered.{ready_later}
 use Rattle.lfs_fs.proofs.Checked.{lookup_failed}
 use Rattle.lfs_fs.proofs.Errors.{given_on}
@@ -23,22 +23,22 @@ size_with-size-requires g c =
 pub returns : goal.returns
 returns g c =
     let asked = asked_twice _ _ _ c.in_ok-found.ensures.asks.asked c.in_ok-taken.ensures.asks.asked in
-    set_attr_checked (held_of c.args.tree.now c.args.files.now) c.args.bytes.now c.args.kind c.args.value.now c.in-Some.path c.in_ok-found.found.finding c.get_attr.new.self c.attributes_size.new.self
+    set_attr_checked (session_view_of c.args.tree.now c.args.files.now) c.args.bytes.now c.args.kind c.args.value.now c.in-Some.path c.in_ok-found.found.finding c.get_attr.new.self c.attributes_size.new.self
     c.in_ok-found.found.bytes c.in_ok-taken.taken c.size_with-size.result c.name_len.result c.is_nothing.result c.is_overcharged_with.result c.lacks.result
-    c.refuse_if.result c.refuse_if-2.result c.refuse_if-3.result c.refuse_if-4.result c.passed.result
+    c.refuse_if.result c.refuse_if-2.result c.refuse_if-3.result c.refuse_if-4.result c.unless_refused.result
     c.if-has_failed.ensures c.if-not-is_writable.ensures c.in-Some.ensures c.in_ok-found.ensures.asks.asked asked c.in_ok-found.ensures.found
     c.in_ok-found.ensures.bytes.0 c.in_ok-taken.ensures.size c.size_with-size.ensures
     c.is_nothing.ensures c.refuse_if.ensures c.refuse_if-2.ensures c.name_len.ensures.len c.is_overcharged_with.ensures c.refuse_if-3.ensures
-    (c.lacks.ensures ∙ lacks_is c.attributes_size.new.self c.args.files.now 2 (ready_later _ _ c.args.files.now (c.requires (sym c.if-has_failed.ensures)) asked) ∙ ap (λ z. lacks (around_of c.attributes_size.new.self) (files_view z c.args.files.now) 2) asked.same) c.refuse_if-4.ensures c.passed.ensures
+    (c.lacks.ensures ∙ lacks_is c.attributes_size.new.self c.args.files.now 2 (ready_later _ _ c.args.files.now (c.requires (sym c.if-has_failed.ensures)) asked) ∙ ap (λ z. lacks (surroundings_of c.attributes_size.new.self) (files_view z c.args.files.now) 2) asked.same) c.refuse_if-4.ensures c.unless_refused.ensures
 
 pub returns-in_err-found : goal.returns-in_err-found
 returns-in_err-found g c =
-    lookup_failed (held_of c.args.tree.now c.args.files.now) (ops.SetAttr c.args.bytes.now c.args.kind c.args.value.now) _ c.in_err-found.field-0.0 _ c.from_residual.result c.if-has_failed.ensures c.in_err-found.ensures.asks.broken c.in_err-found.ensures.asks.errors (set_late (held_of c.args.tree.now c.args.files.now) c.args.bytes.now c.args.kind c.args.value.now c.in-Some.path c.if-has_failed.ensures c.if-not-is_writable.ensures c.in-Some.ensures)
+    lookup_failed (session_view_of c.args.tree.now c.args.files.now) (ops.SetAttr c.args.bytes.now c.args.kind c.args.value.now) _ c.in_err-found.field-0.0 _ c.from_residual.result c.if-has_failed.ensures c.in_err-found.ensures.asks.broken c.in_err-found.ensures.asks.errors (set_late (session_view_of c.args.tree.now c.args.files.now) c.args.bytes.now c.args.kind c.args.value.now c.in-Some.path c.if-has_failed.ensures c.if-not-is_writable.ensures c.in-Some.ensures)
     (given_on _ c.from_residual.result c.from_residual.ensures.1)
 
 pub returns-in_err-taken : goal.returns-in_err-taken
 returns-in_err-taken g c =
     let asked = c.in_ok-found.ensures.asks.asked in
-    lookup_failed (held_of c.args.tree.now c.args.files.now) (ops.SetAttr c.args.bytes.now c.args.kind c.args.value.now) _ c.in_err-taken.field-0.0 _ c.from_residual-in_err-taken.result c.if-has_failed.ensures
-    (broken_twice _ _ _ asked c.in_err-taken.ensures.asks.broken) (error_twice _ _ _ _ asked c.in_err-taken.ensures.asks.errors) (set_late (held_of c.args.tree.now c.args.files.now) c.args.bytes.now c.args.kind c.args.value.now c.in-Some.path c.if-has_failed.ensures c.if-not-is_writable.ensures c.in-Some.ensures)
+    lookup_failed (session_view_of c.args.tree.now c.args.files.now) (ops.SetAttr c.args.bytes.now c.args.kind c.args.value.now) _ c.in_err-taken.field-0.0 _ c.from_residual-in_err-taken.result c.if-has_failed.ensures
+    (broken_twice _ _ _ asked c.in_err-taken.ensures.asks.broken) (error_twice _ _ _ _ asked c.in_err-taken.ensures.asks.errors) (set_late (session_view_of c.args.tree.now c.args.files.now) c.args.bytes.now c.args.kind c.args.value.now c.in-Some.path c.if-has_failed.ensures c.if-not-is_writable.ensures c.in-Some.ensures)
     (given_on _ c.from_residual-in_err-taken.result c.from_residual-in_err-taken.ensures.1)

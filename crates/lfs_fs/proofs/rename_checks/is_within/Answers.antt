@@ -3,4 +3,4 @@ use Rattle.lfs_fs.proofs.PathsBeneath.{is_beneath_bytes}
 use Rattle.lfs_fs.proofs.rename_checks.is_within.Goals as goal
 
 pub returns : goal.returns
-returns c = c.goes_on.ensures ∙ is_beneath_bytes c.args.bytes.now c.args.other.now c.requires.entry c.requires.given
+returns c = c.is_path_prefix.ensures ∙ is_beneath_bytes c.args.bytes.now c.args.other.now c.requires.entry c.requires.given

@@ -3,7 +3,7 @@ use Rattle.lfs_model.specs.Disk.{Disk}
 use Rattle.lfs_fs.proofs.FreshBegun.{mount_state}
 use Rattle.lfs_model.specs.View.{IsAccepted}
 use Rattle.lfs_fs.specs.FileView.{files_view}
-use Rattle.lfs_fs.specs.Held.{IsReady}
+use Rattle.lfs_fs.specs.SessionView.{IsReady}
 use Rattle.lfs_fs.proofs.Remounting.{mounted_ready}
 use Rattle.lfs_fs.proofs.session.mount.Goals as goal
 

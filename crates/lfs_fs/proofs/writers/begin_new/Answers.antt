@@ -1,6 +1,6 @@
 use Rattle.std.proofs.Common.{◌∙◌, [], sym, subst, true, refl}
 use Rattle.lfs_model.specs.Operations as ops
-use Rattle.lfs_model.specs.TreeEdits.{added}
+use Rattle.lfs_model.specs.TreeEdits.{tree_with_node}
 use Rattle.lfs_model.specs.Tree.{FileNode}
 use Rattle.lfs_tree.specs.TreeState.{SurvivesAs, tree_view}
 use Rattle.lfs_fs.specs.FlagsView.{flags_view}
@@ -16,7 +16,7 @@ returns-clause-begun g c =
     (c.in_ok-create.ensures.does.done (ops.Open c.path.inside.bytes.items (record (flags_view c.args.flags) { write = true })) (c.path.inside.bytes.items, (record (flags_view c.args.flags) { write = true }, (refl, c.path.view_is ∙ sym c.lend.ensures)))) (c.contains.ensures tt)
 
 pub returns-in_err-create-clause-survives : goal.returns-in_err-create-clause-survives
-returns-in_err-create-clause-survives g c = subst (λ p. SurvivesAs c.args.tree.now c.create.new.self (added p (FileNode [] []) (tree_view c.args.tree.now))) c.lend.ensures c.create.ensures.does.survives
+returns-in_err-create-clause-survives g c = subst (λ p. SurvivesAs c.args.tree.now c.create.new.self (tree_with_node p (FileNode [] []) (tree_view c.args.tree.now))) c.lend.ensures c.create.ensures.does.survives
 
 pub returns-clause-survives : goal.returns-clause-survives
-returns-clause-survives g c = subst (λ p. SurvivesAs c.args.tree.now c.create.new.self (added p (FileNode [] []) (tree_view c.args.tree.now))) c.lend.ensures c.create.ensures.does.survives
+returns-clause-survives g c = subst (λ p. SurvivesAs c.args.tree.now c.create.new.self (tree_with_node p (FileNode [] []) (tree_view c.args.tree.now))) c.lend.ensures c.create.ensures.does.survives

@@ -29,7 +29,7 @@ returns-clause-written g c =
     let k = c.in_ok-contents.ensures in
     let l = c.in_ok-contents-2.ensures in
     has_truncated c.args.tree.now c.contents_of.new.tree c.truncate.new.self c.args.writer c.args.new_size c.has_turned_by_size-has_turned.result c.end_by_size-last_end.result c.in_ok-contents.contents c.in_ok-contents-2.contents _
-    c.requires k.asked k.over refl k.form k.bytes c.forms_keep_step.ensures.truncated l.writes.beside l.over l.truncated.bytes l.truncated.form c.has_turned_by_size-has_turned.ensures c.end_by_size-last_end.ensures
+    c.requires k.asked k.over refl k.form k.bytes c.forms_fit_writer.ensures.truncated l.writes.beside l.over l.truncated.bytes l.truncated.form c.has_turned_by_size-has_turned.ensures c.end_by_size-last_end.ensures
 
 pub returns-clause-beside : goal.returns-clause-beside
 returns-clause-beside g c = beside_later c.args.tree.now c.contents_of.new.tree c.truncate.new.self c.in_ok-contents.ensures.asked c.in_ok-contents-2.ensures.writes.beside

@@ -29,7 +29,7 @@ returns-clause-written g c =
     let k = c.in_ok-contents.ensures in
     let l = c.in_ok-contents-2.ensures in
     has_written c.args.tree.now c.contents_of.new.tree c.write.new.self c.args.writer c.args.bytes.now c.place-place.result c.min.result _ c.has_turned_at-has_turned.result c.in_ok-contents.contents c.in_ok-contents-2.contents _
-    c.requires k.asked c.place-place.ensures k.over refl k.form k.bytes c.forms_keep_step.ensures.written l.writes.beside l.over l.written.bytes l.written.form c.min.ensures c.has_turned_at-has_turned.ensures c.max.ensures
+    c.requires k.asked c.place-place.ensures k.over refl k.form k.bytes c.forms_fit_writer.ensures.written l.writes.beside l.over l.written.bytes l.written.form c.min.ensures c.has_turned_at-has_turned.ensures c.max.ensures
 
 pub returns-clause-beside : goal.returns-clause-beside
 returns-clause-beside g c = beside_later c.args.tree.now c.contents_of.new.tree c.write.new.self c.in_ok-contents.ensures.asked c.in_ok-contents-2.ensures.writes.beside

@@ -1,5 +1,5 @@
 use Rattle.std.proofs.Common.{rules}
-use Rattle.lfs_fs.specs.Held.{system_state_of}
+use Rattle.lfs_fs.specs.SessionView.{system_state_of}
 use Rattle.lfs_fs_tests.proofs.Recoveries.{not_corrupt, shown_after}
 use Rattle.lfs_fs_tests.proofs.recovery.recover_session.Goals as goal
 

@@ -10,36 +10,36 @@ use Rattle.lfs_lookup.proofs.Reading.{answered, answers, both, further, passed}
 use Rattle.lfs_lookup.proofs.ShownFindings.{found_shown, in_entry}
 use Rattle.lfs_lookup.proofs.attributes.attribute_at.Goals as goal
 
-pub attribute_held-requires-clause-below : goal.attribute_held-requires-clause-below
-attribute_held-requires-clause-below g c =
+pub attribute_if_slot-requires-clause-below : goal.attribute_if_slot-requires-clause-below
+attribute_if_slot-requires-clause-below g c =
     slot_within c.args.thread.now.kept c.args.path.now c.in_ok-shown.shown c.slot_of.result c.shown_at.new.thread.kept.pairs c.in_ok-shown.ensures.shown c.slot_of.ensures c.shown_at.ensures.reading.only.pairs
 
-pub attribute_held-requires-clause-cached_log : goal.attribute_held-requires-clause-cached_log
-attribute_held-requires-clause-cached_log g c = slot_is_cached c.shown_at.new.thread c.in_ok-shown.shown c.slot_of.result c.in_ok-shown.ensures.cached_log c.slot_of.ensures
+pub attribute_if_slot-requires-clause-cached_log : goal.attribute_if_slot-requires-clause-cached_log
+attribute_if_slot-requires-clause-cached_log g c = slot_is_cached c.shown_at.new.thread c.in_ok-shown.shown c.slot_of.result c.in_ok-shown.ensures.cached_log c.slot_of.ensures
 
 pub returns-in_err-bytes-clause-reading : goal.returns-in_err-bytes-clause-reading
 returns-in_err-bytes-clause-reading g c =
     let p = err_from_is_err_and c.from_residual-in_err-bytes.result c.from_residual-in_err-bytes.ensures.1 in
-    passed _ _ c.attribute_held.result c.from_residual-in_err-bytes.result _ p.0 c.in_err-bytes.was p.1 p.2
-    (further _ _ _ c.attribute_held.result (answered _ _ c.shown_at.result c.in_ok-shown.shown c.in_ok-shown.was c.shown_at.ensures.reading) c.attribute_held.ensures.reading)
+    passed _ _ c.attribute_if_slot.result c.from_residual-in_err-bytes.result _ p.0 c.in_err-bytes.was p.1 p.2
+    (further _ _ _ c.attribute_if_slot.result (answered _ _ c.shown_at.result c.in_ok-shown.shown c.in_ok-shown.was c.shown_at.ensures.reading) c.attribute_if_slot.ensures.reading)
 
 pub returns-in_err-bytes-clause-few : goal.returns-in_err-bytes-clause-few
 returns-in_err-bytes-clause-few g c =
     let f = c.shown_at.ensures.few in
-    let e = ap (λ (t : Kept). reads t.history) c.attribute_held.ensures.no_call in
+    let e = ap (λ (t : Kept). reads t.history) c.attribute_if_slot.ensures.no_call in
     omega (arith, f, e)
 
-pub finding_of-requires : goal.finding_of-requires
-finding_of-requires g c = in_entry c.args.thread.now.kept c.args.path.now c.in_ok-shown.shown c.in_ok-shown.ensures.shown
+pub found_node_of-requires : goal.found_node_of-requires
+found_node_of-requires g c = in_entry c.args.thread.now.kept c.args.path.now c.in_ok-shown.shown c.in_ok-shown.ensures.shown
 
 pub returns-clause-found : goal.returns-clause-found
 returns-clause-found g c =
     let t = c.args.thread.now.kept in
     let device = c.device-device.result.now in
-    found_shown t c.args.path.now c.requires.accepted c.args.root c.in_ok-shown.shown c.finding_of.result c.requires.root
-    (sized_on g.D.BlockDevice device t.disk (g.D.BlockDevice.geometry device).block_count (c.device-device.ensures.disk ∙ c.attribute_held.ensures.reading.only.disk ∙ c.shown_at.ensures.reading.only.disk)
+    found_shown t c.args.path.now c.requires.accepted c.args.root c.in_ok-shown.shown c.found_node_of.result c.requires.root
+    (sized_on g.D.BlockDevice device t.disk (g.D.BlockDevice.geometry device).block_count (c.device-device.ensures.disk ∙ c.attribute_if_slot.ensures.reading.only.disk ∙ c.shown_at.ensures.reading.only.disk)
     (g.D.BlockDevice.geometry device).valid.no_smaller (g.met.D.BlockDevice.shape device))
-    c.in_ok-shown.ensures.shown c.finding_of.ensures
+    c.in_ok-shown.ensures.shown c.found_node_of.ensures
 
 pub returns-clause-is : goal.returns-clause-is
 returns-clause-is g c =
@@ -50,31 +50,31 @@ returns-clause-is g c =
 pub returns-clause-few : goal.returns-clause-few
 returns-clause-few g c =
     let f = c.shown_at.ensures.few in
-    let e = ap (λ (t : Kept). reads t.history) c.attribute_held.ensures.no_call in
+    let e = ap (λ (t : Kept). reads t.history) c.attribute_if_slot.ensures.no_call in
     omega (arith, f, e)
 
 pub returns-clause-reading : goal.returns-clause-reading
 returns-clause-reading g c =
     answers _ _ _ _ refl (both _ _ _ (answered _ _ c.shown_at.result c.in_ok-shown.shown c.in_ok-shown.was c.shown_at.ensures.reading)
-    (answered _ _ c.attribute_held.result c.in_ok-bytes.bytes c.in_ok-bytes.was c.attribute_held.ensures.reading))
+    (answered _ _ c.attribute_if_slot.result c.in_ok-bytes.bytes c.in_ok-bytes.was c.attribute_if_slot.ensures.reading))
 
 pub returns-in_err-shown-clause-kept : goal.returns-in_err-shown-clause-kept
 returns-in_err-shown-clause-kept g c = c.shown_at.ensures.loads.none
 
 pub returns-in_err-bytes-clause-kept : goal.returns-in_err-bytes-clause-kept
-returns-in_err-bytes-clause-kept g c = λ there. ap (λ (t : Kept). reads t.history) c.attribute_held.ensures.no_call ∙ c.shown_at.ensures.loads.none there
+returns-in_err-bytes-clause-kept g c = λ there. ap (λ (t : Kept). reads t.history) c.attribute_if_slot.ensures.no_call ∙ c.shown_at.ensures.loads.none there
 
 pub returns-clause-kept : goal.returns-clause-kept
-returns-clause-kept g c = λ there. ap (λ (t : Kept). reads t.history) c.attribute_held.ensures.no_call ∙ c.shown_at.ensures.loads.none there
+returns-clause-kept g c = λ there. ap (λ (t : Kept). reads t.history) c.attribute_if_slot.ensures.no_call ∙ c.shown_at.ensures.loads.none there
 
 pub returns-clause-halves : goal.returns-clause-halves
 returns-clause-halves g c settled slots =
     let k = c.shown_at.ensures.halves settled slots in
-    let e = ap (λ (t : Kept). reads t.history) c.attribute_held.ensures.no_call in
+    let e = ap (λ (t : Kept). reads t.history) c.attribute_if_slot.ensures.no_call in
     omega (arith, k, e)
 
 pub returns-in_err-bytes-clause-halves : goal.returns-in_err-bytes-clause-halves
 returns-in_err-bytes-clause-halves g c settled slots =
     let k = c.shown_at.ensures.halves settled slots in
-    let e = ap (λ (t : Kept). reads t.history) c.attribute_held.ensures.no_call in
+    let e = ap (λ (t : Kept). reads t.history) c.attribute_if_slot.ensures.no_call in
     omega (arith, k, e)

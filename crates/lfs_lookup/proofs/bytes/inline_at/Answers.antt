@@ -7,7 +7,7 @@ use Rattle.lfs_lookup.proofs.bytes.inline_at.Goals as goal
 
 pub returns-clause-bytes : goal.returns-clause-bytes
 returns-clause-bytes g c held bytes there e =
-    c.copied_in_log.ensures.bytes (pair_in c.load_pair.new.self.kept c.args.slot.pair).content held bytes
+    c.copy_inline_in_log.ensures.bytes (pair_in c.load_pair.new.self.kept c.args.slot.pair).content held bytes
     (subst (λ o. IfSome o (λ log. IsBlockOf log (pair_in c.load_pair.new.self.kept c.args.slot.pair).content)) c.unwrap.ensures c.lend.ensures.holds)
     (subst (λ (ps : List Pair). slice_get (slice_index_or ps c.args.slot.pair no_pair).content.slots c.args.slot.id ≡ Some held) (sym c.load_pair.ensures.only.pairs) there) e
 

@@ -2,7 +2,7 @@ use Rattle.std.proofs.Common.{◌≡◌, ◌<◌, ◌≤◌, ◌+◌, ◌-◌, �
 use Rattle.std.specs.Option.{option_map_or}
 use Rattle.lfs_model.specs.History.{reads}
 use Rattle.lfs_lookup.specs.Items.{items_view}
-use Rattle.lfs_lookup.specs.Listed.{joined_run, length_from, run_from, shapes_from}
+use Rattle.lfs_lookup.specs.Listed.{hard_tail_run, hard_tail_run_length, hard_tail_run_from, shapes_from}
 use Rattle.lfs_lookup.proofs.Reading.{HasRead}
 use Rattle.lfs_lookup.proofs.RecentBlocks.{HasKept}
 use Rattle.lfs_lookup.proofs.directory.entries_under.Given as goal
@@ -10,8 +10,8 @@ use Rattle.lfs_lookup.proofs.directory.entries_under.Given as goal
 abbrev pub invariant-loop-pair : goal.invariant-loop-pair
 invariant-loop-pair g l = record {
   read : HasRead l.fn.thread l.thread;
-  few : reads l.thread.kept.history + length_from l.fn.thread.kept.pairs l.pair ≤ reads l.fn.thread.kept.history + length_from l.fn.thread.kept.pairs (Some l.first);
-  along : HasKept (joined_run (drop l.first l.fn.thread.kept.pairs)) (run_from l.fn.thread.kept.pairs l.pair) l.fn.thread l.thread;
+  few : reads l.thread.kept.history + hard_tail_run_length l.fn.thread.kept.pairs l.pair ≤ reads l.fn.thread.kept.history + hard_tail_run_length l.fn.thread.kept.pairs (Some l.first);
+  along : HasKept (hard_tail_run (drop l.first l.fn.thread.kept.pairs)) (hard_tail_run_from l.fn.thread.kept.pairs l.pair) l.fn.thread l.thread;
   below : IfSome l.pair (λ pair. pair < length l.fn.thread.kept.pairs);
   items : items_view l.items.items ++ shapes_from l.fn.thread.kept.pairs l.pair ≡ shapes_from l.fn.thread.kept.pairs (Some l.first);
 }

@@ -1,6 +1,6 @@
 use Rattle.std.proofs.Common.{ℕ, ◌≡◌, ◌<◌, ◌≤◌, ◌+◌, ◌∙◌, IfSome, List, [], ◌∷◌, ◌++◌, Option, None, Some, ap, cond, get_or, map, length, refl, slice_index_or, subst, sym, arith}
 use Rattle.std.proofs.lemmas.Result.{err_from_is_err_and}
-use Rattle.lfs_model.specs.Thread.{Pair, gstate_of, is_hard, visible}
+use Rattle.lfs_model.specs.Thread.{Pair, gstate_of, is_hard, entries_not_moved}
 use Rattle.lfs_thread.specs.Steps.{no_pair}
 use Rattle.lfs_lookup.specs.Items.{Shape, items_view, shape_of}
 use Rattle.lfs_lookup.specs.declared.items.Item.{Item}
@@ -15,10 +15,10 @@ none_seen (i ∷ items) l = absurd (omega arith)
 
 -- nothing stands in one of the pairs
 none_on : (ps qs : List Pair) (index : ℕ) (d : Pair) (from next start : Option ℕ) (more : List Shape) → qs ≡ ps → from ≡ Some index → index < length ps →
-    more ≡ map shape_of (visible (gstate_of qs) (get_or qs index d)) → next ≡ cond (is_hard (get_or qs index d).content.tail) (Some (index + 1)) None → shapes_from ps from ≡ shapes_from ps start → more ≡ [] →
+    more ≡ map shape_of (entries_not_moved (gstate_of qs) (get_or qs index d)) → next ≡ cond (is_hard (get_or qs index d).content.tail) (Some (index + 1)) None → shapes_from ps from ≡ shapes_from ps start → more ≡ [] →
     shapes_from ps next ≡ shapes_from ps start
 none_on ps qs index d from next start more same at l m n before empty =
-    let shown = m ∙ ap (λ rs. map shape_of (visible (gstate_of rs) (get_or rs index d))) same in
+    let shown = m ∙ ap (λ rs. map shape_of (entries_not_moved (gstate_of rs) (get_or rs index d))) same in
     let goes = n ∙ ap (λ rs. cond (is_hard (get_or rs index d).content.tail) (Some (index + 1)) None) same in
     ap (λ z. z ++ shapes_from ps next) (sym empty ∙ shown) ∙ sym (shapes_on ps index d next l goes) ∙ ap (shapes_from ps) (sym at) ∙ before
 

@@ -6,7 +6,7 @@ use Rattle.lfs_model.specs.LoggedContent.{HaveParts}
 use Rattle.lfs_model.proofs.Logged.{logged}
 use Rattle.lfs_model.proofs.Completed.{completed_parts}
 use Rattle.lfs_tag.specs.ContentView.{content_view, slot_view}
-use Rattle.lfs_lookup.specs.Items.{shown_among, without}
+use Rattle.lfs_lookup.specs.Items.{shapes_among, without_id}
 use Rattle.lfs_lookup.proofs.ItemsShown.{parts_without, shown_shapes}
 use Rattle.lfs_lookup.proofs.items.items_in.Goals as goal
 
@@ -24,5 +24,5 @@ returns-clause-items c content is =
     let same = same_Some (content_view c.in_ok-content.content) is.raw (sym read ∙ is.log) in
     let slots = ap (λ (r : RawContent). r.slots) same in
     let are = ap (map slot_view) c.deref.ensures.value ∙ c.remove_moved_slot.ensures in
-    c.in_ok-items.ensures ∙ ap shown_among (are ∙ ap (without c.args.moved) slots)
+    c.in_ok-items.ensures ∙ ap shapes_among (are ∙ ap (without_id c.args.moved) slots)
     ∙ shown_shapes c.args.moved is.raw.slots content.slots (completed_parts is.raw content is.complete).slots

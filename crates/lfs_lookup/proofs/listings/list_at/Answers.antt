@@ -63,17 +63,17 @@ returns-in_err-listed-clause-few g c =
     let s = few_own (pairs_of_path t.pairs) c.args.path.now in
     omega (arith, f, n, k, s)
 
-pub finding_of-requires : goal.finding_of-requires
-finding_of-requires g c = in_entry c.args.thread.now.kept c.args.path.now c.in_ok-shown.shown c.in_ok-shown.ensures.shown
+pub found_node_of-requires : goal.found_node_of-requires
+found_node_of-requires g c = in_entry c.args.thread.now.kept c.args.path.now c.in_ok-shown.shown c.in_ok-shown.ensures.shown
 
 pub returns-clause-found : goal.returns-clause-found
 returns-clause-found g c =
     let t = c.args.thread.now.kept in
     let device = c.device-device.result.now in
-    found_shown t c.args.path.now c.requires.accepted c.args.root c.in_ok-shown.shown c.finding_of.result c.requires.root
+    found_shown t c.args.path.now c.requires.accepted c.args.root c.in_ok-shown.shown c.found_node_of.result c.requires.root
     (sized_on g.D.BlockDevice device t.disk (g.D.BlockDevice.geometry device).block_count (c.device-device.ensures.disk ∙ c.entries_from.ensures.reading.only.disk ∙ c.shown_at.ensures.reading.only.disk)
     (g.D.BlockDevice.geometry device).valid.no_smaller (g.met.D.BlockDevice.shape device))
-    c.in_ok-shown.ensures.shown c.finding_of.ensures
+    c.in_ok-shown.ensures.shown c.found_node_of.ensures
 
 pub returns-clause-items : goal.returns-clause-items
 returns-clause-items g c =

@@ -2,7 +2,7 @@ use Rattle.std.proofs.Common.{◌≡◌, ◌++◌, map}
 use Rattle.std.specs.Vec.Iter.{into_iter_items}
 use Rattle.lfs_lookup.specs.Finds.{list_item_view}
 use Rattle.lfs_lookup.specs.Items.{items_view}
-use Rattle.lfs_lookup.specs.ListAt.{AreShort, item_listed}
+use Rattle.lfs_lookup.specs.ListAt.{AreShortEntries, item_listed}
 use Rattle.lfs_lookup.proofs.listings.listed_items.Given as goal
 
 abbrev pub invariant-loop-item : goal.invariant-loop-item
@@ -10,4 +10,4 @@ invariant-loop-item l =
     (goal.iterator-loop-item).can_next l.item-iterator ×
     (goal.iterator-loop-item).is_finite l.item-iterator ×
     (map list_item_view l.listed.items ++ map item_listed (items_view (into_iter_items l.item-iterator)) ≡ map item_listed (items_view l.fn.items.items)) ×
-    AreShort (items_view (into_iter_items l.item-iterator))
+    AreShortEntries (items_view (into_iter_items l.item-iterator))

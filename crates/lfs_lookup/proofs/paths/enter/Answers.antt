@@ -4,7 +4,7 @@ use Rattle.std.specs.List.{AllByRecursion}
 use Rattle.lfs_model.specs.InDirectory.{BeginsAt}
 use Rattle.lfs_model.specs.Slots.{address_of, same_pair}
 use Rattle.lfs_lookup.specs.Entry.{EntryShows}
-use Rattle.lfs_lookup.specs.Search.{AnswersShown}
+use Rattle.lfs_lookup.specs.Search.{SearchShows}
 use Rattle.lfs_lookup.proofs.Entered.{leads_by, file_by, nothing_by, shown_slot, no_slot, is_somewhere, some_there}
 use Rattle.std.proofs.lemmas.Result.{err_from_is_err_and}
 use Rattle.lfs_lookup.proofs.RecentBlocks.{along_as, on_ok, passes_none}
@@ -14,7 +14,7 @@ use Rattle.lfs_lookup.proofs.paths.enter.Goals as goal
 pub unwrap-next-requires : goal.unwrap-next-requires
 unwrap-next-requires g c =
     let t = c.args.thread.now.kept in
-    let a = subst (AnswersShown t.pairs c.args.moved c.args.first c.args.name.now) c.in-Some-default-Directory.is c.in_ok-at.ensures.answer in
+    let a = subst (SearchShows t.pairs c.args.moved c.args.first c.args.name.now) c.in-Some-default-Directory.is c.in_ok-at.ensures.answer in
     let shows = subst (λ e. EntryShows e a.stands.stands.slot.struct) c.in-Some-default-Directory.field-0-1-is a.shows in
     let path = c.requires.reached.0 in
     let slot = shown_slot t c.args.moved c.requires.hiding path c.args.first c.requires.reached.1 c.args.name.now _ _ a in
@@ -26,7 +26,7 @@ unwrap-next-requires g c =
 pub returns-in-Some-default-Directory-clause-answer : goal.returns-in-Some-default-Directory-clause-answer
 returns-in-Some-default-Directory-clause-answer g c path on =
     let t = c.args.thread.now.kept in
-    let a = subst (AnswersShown t.pairs c.args.moved c.args.first c.args.name.now) c.in-Some-default-Directory.is c.in_ok-at.ensures.answer in
+    let a = subst (SearchShows t.pairs c.args.moved c.args.first c.args.name.now) c.in-Some-default-Directory.is c.in_ok-at.ensures.answer in
     let shows = subst (λ e. EntryShows e a.stands.stands.slot.struct) c.in-Some-default-Directory.field-0-1-is a.shows in
     let slot = shown_slot t c.args.moved c.requires.hiding path c.args.first on c.args.name.now _ _ a in
     record {
@@ -39,7 +39,7 @@ returns-in-Some-default-Directory-clause-answer g c path on =
 pub returns-in-Some-default-File-clause-answer : goal.returns-in-Some-default-File-clause-answer
 returns-in-Some-default-File-clause-answer g c path on =
     let t = c.args.thread.now.kept in
-    let a = subst (AnswersShown t.pairs c.args.moved c.args.first c.args.name.now) c.in-Some-default-File.is c.in_ok-at.ensures.answer in
+    let a = subst (SearchShows t.pairs c.args.moved c.args.first c.args.name.now) c.in-Some-default-File.is c.in_ok-at.ensures.answer in
     let shows = subst (λ e. EntryShows e a.stands.stands.slot.struct) c.in-Some-default-File.field-0-1-is a.shows in
     let slot = shown_slot t c.args.moved c.requires.hiding path c.args.first on c.args.name.now _ _ a in
     file_by t (path ++ c.args.name.now ∷ []) a.stands.stands.slot slot _ shows
@@ -47,7 +47,7 @@ returns-in-Some-default-File-clause-answer g c path on =
 pub returns-in-None-clause-answer : goal.returns-in-None-clause-answer
 returns-in-None-clause-answer g c path on =
     let t = c.args.thread.now.kept in
-    let absent = subst (AnswersShown t.pairs c.args.moved c.args.first c.args.name.now) c.in-None.is c.in_ok-at.ensures.answer in
+    let absent = subst (SearchShows t.pairs c.args.moved c.args.first c.args.name.now) c.in-None.is c.in_ok-at.ensures.answer in
     nothing_by t (path ++ c.args.name.now ∷ []) (no_slot t c.args.moved c.requires.hiding path c.args.first on c.args.name.now absent)
 
 pub returns-in_err-at-clause-loads : goal.returns-in_err-at-clause-loads

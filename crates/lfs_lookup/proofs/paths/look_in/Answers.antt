@@ -1,7 +1,7 @@
 use Rattle.std.proofs.Common.{ℕ, ◌≡◌, ◌++◌, ◌∷◌, [], Option, subst, false}
 use Rattle.std.specs.Prelude.{IfSome}
 use Rattle.std.specs.List.{AllByRecursion}
-use Rattle.lfs_model.specs.InDirectory.{BeginsAt, Stands}
+use Rattle.lfs_model.specs.InDirectory.{BeginsAt, HasNameAtPlace}
 use Rattle.lfs_model.specs.Slots.{address_of, same_pair}
 use Rattle.lfs_lookup.specs.Entry.{EntryShows}
 use Rattle.lfs_lookup.specs.Search.{SearchFinds}
@@ -16,7 +16,7 @@ unwrap-first-requires g c =
     let t = c.args.thread.now.kept in
     let spot = c.in-Found-default-Directory.slot in
     let a = subst (SearchFinds t.disk.order t.pairs c.args.parent c.args.name.now) c.in-Found-default-Directory.is c.in_ok-slot.ensures.answer in
-    let (s, shows) = subst (λ e. (s : Stands t.pairs c.args.parent c.args.name.now spot.pair spot.id) × EntryShows e s.stands.slot.struct) c.in-Found-default-Directory.field-1-is a in
+    let (s, shows) = subst (λ e. (s : HasNameAtPlace t.pairs c.args.parent c.args.name.now spot.pair spot.id) × EntryShows e s.stands.slot.struct) c.in-Found-default-Directory.field-1-is a in
     let leads = leads_to t c.requires.settled c.requires.reached.0 c.args.parent c.requires.reached.1 c.args.name.now spot.pair spot.id s (address_of c.in-Found-default-Directory.at) shows in
     some_there c.number_of.result _ (c.number_of.ensures.nowhere)
     (λ none. is_somewhere t c.requires.settled.accepted (c.requires.reached.0 ++ c.args.name.now ∷ []) (address_of c.in-Found-default-Directory.at) leads
@@ -27,7 +27,7 @@ returns-in-Found-default-Directory-clause-answer g c above on =
     let t = c.args.thread.now.kept in
     let spot = c.in-Found-default-Directory.slot in
     let a = subst (SearchFinds t.disk.order t.pairs c.args.parent c.args.name.now) c.in-Found-default-Directory.is c.in_ok-slot.ensures.answer in
-    let (s, shows) = subst (λ e. (s : Stands t.pairs c.args.parent c.args.name.now spot.pair spot.id) × EntryShows e s.stands.slot.struct) c.in-Found-default-Directory.field-1-is a in (
+    let (s, shows) = subst (λ e. (s : HasNameAtPlace t.pairs c.args.parent c.args.name.now spot.pair spot.id) × EntryShows e s.stands.slot.struct) c.in-Found-default-Directory.field-1-is a in (
       record { on = on; stands = s; slot = slot_is t c.requires.settled above c.args.parent on c.args.name.now spot.pair spot.id s },
       record {
         at = address_of c.in-Found-default-Directory.at;
@@ -42,7 +42,7 @@ returns-in-Found-default-File-clause-answer g c above on =
     let t = c.args.thread.now.kept in
     let spot = c.in-Found-default-File.slot in
     let a = subst (SearchFinds t.disk.order t.pairs c.args.parent c.args.name.now) c.in-Found-default-File.is c.in_ok-slot.ensures.answer in
-    let (s, shows) = subst (λ e. (s : Stands t.pairs c.args.parent c.args.name.now spot.pair spot.id) × EntryShows e s.stands.slot.struct) c.in-Found-default-File.field-1-is a in
+    let (s, shows) = subst (λ e. (s : HasNameAtPlace t.pairs c.args.parent c.args.name.now spot.pair spot.id) × EntryShows e s.stands.slot.struct) c.in-Found-default-File.field-1-is a in
     (record { on = on; stands = s; slot = slot_is t c.requires.settled above c.args.parent on c.args.name.now spot.pair spot.id s }, shows)
 
 pub returns-in-Place-clause-answer : goal.returns-in-Place-clause-answer

@@ -1,6 +1,6 @@
 use Rattle.std.proofs.Common.{◌≡◌, None, ap, subst, ◌∙◌, [], arith}
 use Rattle.lfs_model.specs.Frame.{pairs_of_path}
-use Rattle.lfs_lookup.specs.AtPath.{IsThrough}
+use Rattle.lfs_lookup.specs.AtPath.{PassesParents}
 use Rattle.lfs_lookup.specs.Paths.{Descends, fault_of}
 use Rattle.lfs_lookup.proofs.ReadOnly.{only_read, reported_behind}
 use Rattle.std.proofs.lemmas.Result.{err_from_is_err_and}
@@ -42,7 +42,7 @@ returns-in-Directory-clause-loads g c =
     let t = c.args.thread.now.kept in
     let is = names_are (λ name. name.now) c.args.path.now _ _ c.in-Some.ensures.cases.0 in
     let d = subst (Descends t _) c.in-Directory.is c.in_ok-parent.ensures.answer in
-    down_last (λ q. fault_of q ≡ None) IsThrough c.args.thread.now c.find_directory.new.thread c.show_in.new.thread _ _ _ c.in_ok-parent.field-0 c.show_in.result _ is c.in_ok-parent.ensures.loads
+    down_last (λ q. fault_of q ≡ None) PassesParents c.args.thread.now c.find_directory.new.thread c.show_in.new.thread _ _ _ c.in_ok-parent.field-0 c.show_in.result _ is c.in_ok-parent.ensures.loads
     (ap fault_of c.in-Directory.is) c.find_directory.ensures.reading.only.disk
     (run_same t c.find_directory.new.thread.kept _ c.in-Directory.parent c.requires.hiding.accepted c.find_directory.ensures.reading.only d.begins) c.show_in.ensures.loads
 
@@ -90,19 +90,19 @@ pub returns-in_err-parent-clause-loads : goal.returns-in_err-parent-clause-loads
 returns-in_err-parent-clause-loads g c =
     let is = names_are (λ name. name.now) c.args.path.now _ _ c.in-Some.ensures.cases.0 in
     let p = err_from_is_err_and c.from_residual.result c.from_residual.ensures.1 in
-    down_short (λ q. fault_of q ≡ None) IsThrough c.args.thread.now c.find_directory.new.thread _ _ _ c.find_directory.result c.from_residual.result is
-    (passes_none c.find_directory.result c.from_residual.result p.0 p.1) (stops_none IsThrough c.from_residual.result p.0 p.1) c.find_directory.ensures.loads
+    down_short (λ q. fault_of q ≡ None) PassesParents c.args.thread.now c.find_directory.new.thread _ _ _ c.find_directory.result c.from_residual.result is
+    (passes_none c.find_directory.result c.from_residual.result p.0 p.1) (stops_none PassesParents c.from_residual.result p.0 p.1) c.find_directory.ensures.loads
 
 pub returns-in-File-clause-loads : goal.returns-in-File-clause-loads
 returns-in-File-clause-loads g c =
     let is = names_are (λ name. name.now) c.args.path.now _ _ c.in-Some.ensures.cases.0 in
-    down_short (λ q. fault_of q ≡ None) IsThrough c.args.thread.now c.find_directory.new.thread _ _ _ c.find_directory.result _ is
+    down_short (λ q. fault_of q ≡ None) PassesParents c.args.thread.now c.find_directory.new.thread _ _ _ c.find_directory.result _ is
     (λ P h. on_ok c.find_directory.result c.in_ok-parent.field-0 P c.in_ok-parent.was h) (λ Q e. absurd (let k : _ = e in cc)) c.find_directory.ensures.loads
 
 pub returns-in-Nothing-clause-loads : goal.returns-in-Nothing-clause-loads
 returns-in-Nothing-clause-loads g c =
     let is = names_are (λ name. name.now) c.args.path.now _ _ c.in-Some.ensures.cases.0 in
-    down_short (λ q. fault_of q ≡ None) IsThrough c.args.thread.now c.find_directory.new.thread _ _ _ c.find_directory.result _ is
+    down_short (λ q. fault_of q ≡ None) PassesParents c.args.thread.now c.find_directory.new.thread _ _ _ c.find_directory.result _ is
     (λ P h. on_ok c.find_directory.result c.in_ok-parent.field-0 P c.in_ok-parent.was h) (λ Q e. absurd (let k : _ = e in cc)) c.find_directory.ensures.loads
 
 pub returns-in_err-parent-clause-halves : goal.returns-in_err-parent-clause-halves

@@ -19,8 +19,8 @@ fit_all-fit-requires c =
     let slots = ap (map slot_view) c.deref-2.ensures.value ∙ ap (λ (r : RawContent). r.slots) same in
     (c.requires.0.slots, (ap complete_all slots ∙ (completed_parts is.raw c.requires.0 is.complete).slots, c.requires.1.1))
 
-pub returns-then-not-is_filled-clause-is : goal.returns-then-not-is_filled-clause-is
-returns-then-not-is_filled-clause-is c content is shaped =
+pub returns-then-not-has_needed_slot-clause-is : goal.returns-then-not-has_needed_slot-clause-is
+returns-then-not-has_needed_slot-clause-is c content is shaped =
     let read = c.in_ok-content.ensures.content in
     let same = same_Some (content_view c.in_ok-content.content) is.raw (sym read ∙ is.log) in
     let slots = ap (map slot_view) c.deref.ensures.value ∙ ap (λ (r : RawContent). r.slots) same in
@@ -28,8 +28,8 @@ returns-then-not-is_filled-clause-is c content is shaped =
     let long = sym (length-map c.deref.result.now slot_view) ∙ ap length slots in (
       λ e. absurd (cc),
       λ w.
-          let filled = c.is_filled.ensures.1 (λ f none. w.filled f (empty content.slots (count ∙ sym long ∙ none))) in
-          absurd (cc (filled, c.if-not-is_filled.true)),
+          let filled = c.has_needed_slot.ensures.1 (λ f none. w.filled f (empty content.slots (count ∙ sym long ∙ none))) in
+          absurd (cc (filled, c.if-not-has_needed_slot.true)),
     )
   where
     empty : (xs : List Slot) → length xs ≡ 0 → xs ≡ []
@@ -63,7 +63,7 @@ returns-clause-is c content is shaped =
         pair = fits_pair c.args.geometry.now.block_size c.args.geometry.now.page is.raw content (subst IsLogged same sound) is.complete
             (subst (FitsRaw c.args.geometry.now.block_size c.args.geometry.now.page) same (c.fits.ensures.0 c.if-not-fits.false));
         slots = each.0 e;
-        filled = λ f none. c.is_filled.ensures.0 c.if-not-is_filled.false f (long ∙ sym count ∙ ap length none);
+        filled = λ f none. c.has_needed_slot.ensures.0 c.if-not-has_needed_slot.false f (long ∙ sym count ∙ ap length none);
       },
       λ w. each.1 w.slots,
     )

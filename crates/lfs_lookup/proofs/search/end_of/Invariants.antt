@@ -1,7 +1,7 @@
 use Rattle.std.proofs.Common.{◌≡◌, ◌<◌, ◌+◌, ◌-◌, length, drop}
 use Rattle.lfs_model.specs.InDirectory.{run_length}
 use Rattle.lfs_lookup.specs.Halves.{EndsSoft}
-use Rattle.lfs_lookup.specs.Listed.{joined_run}
+use Rattle.lfs_lookup.specs.Listed.{hard_tail_run}
 use Rattle.lfs_lookup.proofs.search.end_of.Given as goal
 
 abbrev pub invariant-loop-next : goal.invariant-loop-next
@@ -9,7 +9,7 @@ invariant-loop-next g l = record {
   below : l.pair < length l.fn.thread.kept.pairs;
   count : l.count ≡ length l.fn.thread.kept.pairs;
   run : l.pair + run_length (drop l.pair l.fn.thread.kept.pairs) ≡ l.fn.first + run_length (drop l.fn.first l.fn.thread.kept.pairs);
-  soft : EndsSoft (joined_run (drop l.pair l.fn.thread.kept.pairs)) → EndsSoft (joined_run (drop l.fn.first l.fn.thread.kept.pairs));
+  soft : EndsSoft (hard_tail_run (drop l.pair l.fn.thread.kept.pairs)) → EndsSoft (hard_tail_run (drop l.fn.first l.fn.thread.kept.pairs));
 }
 
 abbrev pub decreases-loop-next : goal.decreases-loop-next

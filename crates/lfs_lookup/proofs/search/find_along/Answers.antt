@@ -3,9 +3,9 @@ use Rattle.std.proofs.lemmas.Result.{err_from_is_err_and}
 use Rattle.lfs_model.specs.InDirectory.{run_length}
 use Rattle.lfs_model.specs.Thread.{Pair, is_hard}
 use Rattle.lfs_thread.specs.Steps.{pair_in, no_pair}
-use Rattle.lfs_lookup.specs.CachedPairs.{LoadsAlong}
-use Rattle.lfs_lookup.specs.Listed.{joined_run}
-use Rattle.lfs_lookup.specs.Search.{AnswersIn, IsAbsentAlong, IsAbsentBut, StandsShown}
+use Rattle.lfs_lookup.specs.CachedPairs.{LoadsPairs}
+use Rattle.lfs_lookup.specs.Listed.{hard_tail_run}
+use Rattle.lfs_lookup.specs.Search.{SearchFindsInPair, IsAbsentAlong, IsAbsentBut, HasNameShown}
 use Rattle.lfs_lookup.proofs.Directories.{run_hard_on, run_on as run_here_on, run_some_on}
 use Rattle.lfs_lookup.proofs.Reading.{answered, answers, both}
 use Rattle.lfs_lookup.proofs.ReadOnly.{only_read, only_itself, reported_on}
@@ -20,7 +20,7 @@ loop-id-init g c = record {
   no_fault = refl;
   works = c.requires.works;
   few = omega arith;
-  along = loaded_none (joined_run (drop c.args.first c.args.thread.now.kept.pairs)) c.args.thread.now;
+  along = loaded_none (hard_tail_run (drop c.args.first c.args.thread.now.kept.pairs)) c.args.thread.now;
   from = omega arith;
   below = c.requires.below;
   reached = reached_first c.args.thread.now.kept.pairs c.args.first no_pair c.requires.below;
@@ -41,7 +41,7 @@ returns-in_err-id-clause-loads g c =
     let p = err_from_is_err_and c.from_residual.result c.from_residual.ensures.1 in
     let ps = c.args.thread.now.kept.pairs in
     loads_to_here _ _ _ (slice_index_or ps c.loop-id.pair no_pair) c.args.thread.now c.loop-id.thread c.find_in_pair.new.thread c.find_in_pair.result inv.along (run_here_on ps c.loop-id.pair no_pair inv.below)
-    (subst (λ (qs : List Pair). LoadsAlong (slice_index_or qs c.loop-id.pair no_pair ∷ []) c.loop-id.thread c.find_in_pair.new.thread c.find_in_pair.result) inv.only.pairs c.find_in_pair.ensures.loads)
+    (subst (λ (qs : List Pair). LoadsPairs (slice_index_or qs c.loop-id.pair no_pair ∷ []) c.loop-id.thread c.find_in_pair.new.thread c.find_in_pair.result) inv.only.pairs c.find_in_pair.ensures.loads)
     c.from_residual.result (passes_none c.find_in_pair.result c.from_residual.result p.0 p.1)
 
 pub returns-in_err-id-clause-reading : goal.returns-in_err-id-clause-reading
@@ -58,17 +58,17 @@ pub returns-in-Found-clause-answer : goal.returns-in-Found-clause-answer
 returns-in-Found-clause-answer g c =
     let inv = c.loop-id.invariant in
     let ps = c.args.thread.now.kept.pairs in
-    let a = subst (λ o. AnswersIn c.loop-id.thread.kept.disk.order c.passed_in-skip.result (pair_in c.loop-id.thread.kept c.loop-id.pair).content.slots c.args.name.now o) c.in-Found.is c.in_ok-id.ensures.answer in
-    let b = subst (λ qs. StandsShown c.passed_in-skip.result (slice_index_or qs c.loop-id.pair no_pair).content.slots c.args.name.now c.in-Found.id c.in-Found.entry) inv.only.pairs a in
+    let a = subst (λ o. SearchFindsInPair c.loop-id.thread.kept.disk.order c.skipped_id_in-skip.result (pair_in c.loop-id.thread.kept c.loop-id.pair).content.slots c.args.name.now o) c.in-Found.is c.in_ok-id.ensures.answer in
+    let b = subst (λ qs. HasNameShown c.skipped_id_in-skip.result (slice_index_or qs c.loop-id.pair no_pair).content.slots c.args.name.now c.in-Found.id c.in-Found.entry) inv.only.pairs a in
     shown_here ps c.args.moved c.args.first c.args.name.now _ (slice_index_or ps c.loop-id.pair no_pair) c.in-Found.entry inv.reached
-    (subst (λ k. StandsShown k (slice_index_or ps c.loop-id.pair no_pair).content.slots c.args.name.now c.in-Found.id c.in-Found.entry) c.passed_in-skip.ensures b)
+    (subst (λ k. HasNameShown k (slice_index_or ps c.loop-id.pair no_pair).content.slots c.args.name.now c.in-Found.id c.in-Found.entry) c.skipped_id_in-skip.ensures b)
 
 pub returns-in-Found-clause-loads : goal.returns-in-Found-clause-loads
 returns-in-Found-clause-loads g c =
     let inv = c.loop-id.invariant in
     let ps = c.args.thread.now.kept.pairs in
     loads_to_here _ _ _ (slice_index_or ps c.loop-id.pair no_pair) c.args.thread.now c.loop-id.thread c.find_in_pair.new.thread c.find_in_pair.result inv.along (run_here_on ps c.loop-id.pair no_pair inv.below)
-    (subst (λ (qs : List Pair). LoadsAlong (slice_index_or qs c.loop-id.pair no_pair ∷ []) c.loop-id.thread c.find_in_pair.new.thread c.find_in_pair.result) inv.only.pairs c.find_in_pair.ensures.loads)
+    (subst (λ (qs : List Pair). LoadsPairs (slice_index_or qs c.loop-id.pair no_pair ∷ []) c.loop-id.thread c.find_in_pair.new.thread c.find_in_pair.result) inv.only.pairs c.find_in_pair.ensures.loads)
     _ (λ P h. on_ok c.find_in_pair.result c.in_ok-id.field-0 P c.in_ok-id.was h)
 
 pub returns-in-Found-clause-reading : goal.returns-in-Found-clause-reading
@@ -81,7 +81,7 @@ returns-in-None-clause-loads g c =
     let inv = c.loop-id.invariant in
     let ps = c.args.thread.now.kept.pairs in
     loads_to_here _ _ _ (slice_index_or ps c.loop-id.pair no_pair) c.args.thread.now c.loop-id.thread c.find_in_pair.new.thread c.find_in_pair.result inv.along (run_here_on ps c.loop-id.pair no_pair inv.below)
-    (subst (λ (qs : List Pair). LoadsAlong (slice_index_or qs c.loop-id.pair no_pair ∷ []) c.loop-id.thread c.find_in_pair.new.thread c.find_in_pair.result) inv.only.pairs c.find_in_pair.ensures.loads)
+    (subst (λ (qs : List Pair). LoadsPairs (slice_index_or qs c.loop-id.pair no_pair ∷ []) c.loop-id.thread c.find_in_pair.new.thread c.find_in_pair.result) inv.only.pairs c.find_in_pair.ensures.loads)
     _ (λ P h. on_ok c.find_in_pair.result c.in_ok-id.field-0 P c.in_ok-id.was h)
 
 pub returns-in-None-clause-reading : goal.returns-in-None-clause-reading
@@ -93,9 +93,9 @@ pub returns-in-None-clause-answer : goal.returns-in-None-clause-answer
 returns-in-None-clause-answer g c =
     let inv = c.loop-id.invariant in
     let ps = c.args.thread.now.kept.pairs in
-    let a = subst (λ o. AnswersIn c.loop-id.thread.kept.disk.order c.passed_in-skip.result (pair_in c.loop-id.thread.kept c.loop-id.pair).content.slots c.args.name.now o) c.in-Place.is c.in_ok-id.ensures.answer in
-    let b = subst (λ k. IsAbsentBut k (slice_index_or ps c.loop-id.pair no_pair).content.slots c.args.name.now) c.passed_in-skip.ensures
-    (subst (λ qs. IsAbsentBut c.passed_in-skip.result (slice_index_or qs c.loop-id.pair no_pair).content.slots c.args.name.now) inv.only.pairs a.absent) in
+    let a = subst (λ o. SearchFindsInPair c.loop-id.thread.kept.disk.order c.skipped_id_in-skip.result (pair_in c.loop-id.thread.kept c.loop-id.pair).content.slots c.args.name.now o) c.in-Place.is c.in_ok-id.ensures.answer in
+    let b = subst (λ k. IsAbsentBut k (slice_index_or ps c.loop-id.pair no_pair).content.slots c.args.name.now) c.skipped_id_in-skip.ensures
+    (subst (λ qs. IsAbsentBut c.skipped_id_in-skip.result (slice_index_or qs c.loop-id.pair no_pair).content.slots c.args.name.now) inv.only.pairs a.absent) in
     let pairs = c.in_ok-id.ensures.reading.only.pairs ∙ inv.only.pairs in
     let soft = leads_nowhere (is_hard (pair_in c.find_in_pair.new.thread.kept c.loop-id.pair).content.tail) (c.loop-id.pair + 1) (sym c.next.ensures.next ∙ c.in-None.is) in
     absent_end ps c.args.moved c.loop-id.pair c.args.name.now no_pair (IsAbsentAlong c.args.moved c.args.first (drop c.args.first ps) c.args.name.now) inv.below inv.absent b
@@ -105,9 +105,9 @@ pub loop-id-preserved : goal.loop-id-preserved
 loop-id-preserved g c =
     let inv = c.loop-id.invariant in
     let ps = c.args.thread.now.kept.pairs in
-    let a = subst (λ o. AnswersIn c.loop-id.thread.kept.disk.order c.passed_in-skip.result (pair_in c.loop-id.thread.kept c.loop-id.pair).content.slots c.args.name.now o) c.in-Place.is c.in_ok-id.ensures.answer in
-    let b = subst (λ k. IsAbsentBut k (slice_index_or ps c.loop-id.pair no_pair).content.slots c.args.name.now) c.passed_in-skip.ensures
-    (subst (λ qs. IsAbsentBut c.passed_in-skip.result (slice_index_or qs c.loop-id.pair no_pair).content.slots c.args.name.now) inv.only.pairs a.absent) in
+    let a = subst (λ o. SearchFindsInPair c.loop-id.thread.kept.disk.order c.skipped_id_in-skip.result (pair_in c.loop-id.thread.kept c.loop-id.pair).content.slots c.args.name.now o) c.in-Place.is c.in_ok-id.ensures.answer in
+    let b = subst (λ k. IsAbsentBut k (slice_index_or ps c.loop-id.pair no_pair).content.slots c.args.name.now) c.skipped_id_in-skip.ensures
+    (subst (λ qs. IsAbsentBut c.skipped_id_in-skip.result (slice_index_or qs c.loop-id.pair no_pair).content.slots c.args.name.now) inv.only.pairs a.absent) in
     let pairs = c.in_ok-id.ensures.reading.only.pairs ∙ inv.only.pairs in
     let on = leads_on (is_hard (pair_in c.find_in_pair.new.thread.kept c.loop-id.pair).content.tail) (c.loop-id.pair + 1) c.in-Some.next (sym c.next.ensures.next ∙ c.in-Some.is) in
     let hard : is_hard (slice_index_or ps c.loop-id.pair no_pair).content.tail ≡ true = ap (λ (qs : List Pair). is_hard (slice_index_or qs c.loop-id.pair no_pair).content.tail) (sym pairs) ∙ on.0 in
@@ -124,7 +124,7 @@ loop-id-preserved g c =
       few = omega (arith, few, once, run);
       along = loads_on _ _ _ (slice_index_or ps c.loop-id.pair no_pair) c.args.thread.now c.loop-id.thread c.find_in_pair.new.thread c.find_in_pair.result inv.along
           (run_hard_on ps c.loop-id.pair c.in-Some.next no_pair inv.below hard next)
-          (subst (λ (qs : List Pair). LoadsAlong (slice_index_or qs c.loop-id.pair no_pair ∷ []) c.loop-id.thread c.find_in_pair.new.thread c.find_in_pair.result) inv.only.pairs c.find_in_pair.ensures.loads)
+          (subst (λ (qs : List Pair). LoadsPairs (slice_index_or qs c.loop-id.pair no_pair ∷ []) c.loop-id.thread c.find_in_pair.new.thread c.find_in_pair.result) inv.only.pairs c.find_in_pair.ensures.loads)
           c.in_ok-id.field-0 c.in_ok-id.was c.find_in_pair.ensures.reading.only.disk (run_some_on ps c.in-Some.next no_pair behind);
       from = omega (arith, from, next);
       below = behind;

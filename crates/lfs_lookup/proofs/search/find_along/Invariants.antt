@@ -2,7 +2,7 @@ use Rattle.std.proofs.Common.{◌≡◌, ◌<◌, ◌≤◌, ◌+◌, ◌-◌, l
 use Rattle.lfs_model.specs.History.{faults, reads}
 use Rattle.lfs_model.specs.InDirectory.{run_length}
 use Rattle.lfs_thread.specs.Steps.{IsOnlyRead, no_pair}
-use Rattle.lfs_lookup.specs.Listed.{joined_run}
+use Rattle.lfs_lookup.specs.Listed.{hard_tail_run}
 use Rattle.lfs_lookup.specs.Search.{IsAbsentAlong}
 use Rattle.lfs_lookup.proofs.RecentBlocks.{HasBrought}
 use Rattle.lfs_lookup.proofs.ShownAlong.{IsReached}
@@ -14,7 +14,7 @@ invariant-loop-id g l = record {
   no_fault : faults l.thread.kept.history ≡ faults l.fn.thread.kept.history;
   works : l.thread.failed ≡ false;
   few : reads l.thread.kept.history + run_length (drop l.pair l.fn.thread.kept.pairs) ≤ reads l.fn.thread.kept.history + run_length (drop l.fn.first l.fn.thread.kept.pairs);
-  along : HasBrought (joined_run (drop l.fn.first l.fn.thread.kept.pairs)) (joined_run (drop l.pair l.fn.thread.kept.pairs)) l.fn.thread l.thread;
+  along : HasBrought (hard_tail_run (drop l.fn.first l.fn.thread.kept.pairs)) (hard_tail_run (drop l.pair l.fn.thread.kept.pairs)) l.fn.thread l.thread;
   from : l.fn.first ≤ l.pair;
   below : l.pair < length l.fn.thread.kept.pairs;
   reached : IsReached l.fn.thread.kept.pairs l.fn.first l.pair (get_or l.fn.thread.kept.pairs l.pair no_pair);

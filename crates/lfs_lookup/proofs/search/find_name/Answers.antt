@@ -2,14 +2,14 @@ use Rattle.std.proofs.Common.{subst₂, ℕ, ◌≡◌, ◌⊎◌, inl, inr, ◌
 use Rattle.std.proofs.lemmas.Result.{err_from_is_err_and}
 use Rattle.lfs_model.specs.Disk.{Disk}
 use Rattle.lfs_model.specs.History.{reads}
-use Rattle.lfs_model.specs.InDirectory.{PlaceAt, StandsAt, run_length}
+use Rattle.lfs_model.specs.InDirectory.{PlaceAt, IsNameAt, run_length}
 use Rattle.lfs_model.specs.Thread.{Pair}
 use Rattle.lfs_thread.specs.Steps.{pair_in, no_pair}
-use Rattle.lfs_lookup.specs.CachedPairs.{LoadsAlong}
+use Rattle.lfs_lookup.specs.CachedPairs.{LoadsPairs}
 use Rattle.lfs_lookup.specs.Entry.{EntryShows}
 use Rattle.lfs_lookup.specs.Halves.{halvings}
-use Rattle.lfs_lookup.specs.Listed.{joined_run}
-use Rattle.lfs_lookup.specs.Search.{AnswersIn}
+use Rattle.lfs_lookup.specs.Listed.{hard_tail_run}
+use Rattle.lfs_lookup.specs.Search.{SearchFindsInPair}
 use Rattle.lfs_lookup.proofs.Halved.{IsLow, at_run, begun, belongs_between, belongs_inside, ends, exceeds, low_past, passed, passes, run_count, stands_at, starts}
 use Rattle.lfs_lookup.proofs.HalvedReads.{HasHalved, HasLoaded, halved_all, halved_none, halved_on, halved_to_here, has_slot, loaded_nothing, loaded_on, loaded_past, loads_all, loads_here, lower_half, middle_below, upper_half}
 use Rattle.lfs_lookup.proofs.Reading.{answered, answers, both, further, has_read_nothing, passed as passed_on}
@@ -34,7 +34,7 @@ loop-low-init g c =
       few = omega (arith, e);
       halves = λ slots. subst (λ (n : ℕ). HasHalved (halvings (run_length (drop c.args.first ps))) (reads c.args.thread.now.kept.history) (reads c.args.thread.now.kept.history) n) size
           (halved_none (reads c.args.thread.now.kept.history) (run_length (drop c.args.first ps)));
-      loaded = loaded_nothing (joined_run (drop c.args.first ps)) c.args.first c.end_of-high.result c.args.thread.now (omega (arith, e, one));
+      loaded = loaded_nothing (hard_tail_run (drop c.args.first ps)) c.args.first c.end_of-high.result c.args.thread.now (omega (arith, e, one));
       lesser = begun refl refl refl;
       greater = ends (e ∙ ap (λ (n : ℕ). c.args.first + n) (sym (run_count (drop c.args.first ps))));
     }
@@ -110,10 +110,10 @@ loop-low-preserved-then-pair-first g c =
       fits = inv.fits;
       few = omega (arith, few, is);
       halves = λ slots. absurd (let k = has_slot _ _ _ _ a slots in omega (arith, k, count, none));
-      loaded = subst (λ (n : ℕ). HasLoaded (joined_run (drop c.args.first ps)) c.args.first (n + 1) c.loop-low.high c.args.thread.now c.loop-low.thread) (sym is)
-          (loaded_past (joined_run (drop c.args.first ps)) c.args.first c.loop-low.low c.loop-low.high c.args.thread.now c.loop-low.thread inv.loaded some (omega (arith, later, is)));
+      loaded = subst (λ (n : ℕ). HasLoaded (hard_tail_run (drop c.args.first ps)) c.args.first (n + 1) c.loop-low.high c.args.thread.now c.loop-low.thread) (sym is)
+          (loaded_past (hard_tail_run (drop c.args.first ps)) c.args.first c.loop-low.low c.loop-low.high c.args.thread.now c.loop-low.thread inv.loaded some (omega (arith, later, is)));
       lesser = low_past c.args.thread.now.kept.disk.order ps c.args.first c.args.name.now c.middle_of-pair.result (slice_index_or ps c.middle_of-pair.result no_pair) a c.loop-low.spot.pair c.loop-low.spot.id
-          (subst (λ (n : ℕ). IsLow c.args.thread.now.kept.disk.order (joined_run (drop c.args.first ps)) c.args.first c.args.name.now c.loop-low.spot.pair c.loop-low.spot.id n) (sym is) inv.lesser) later (omega (arith, count, none));
+          (subst (λ (n : ℕ). IsLow c.args.thread.now.kept.disk.order (hard_tail_run (drop c.args.first ps)) c.args.first c.args.name.now c.loop-low.spot.pair c.loop-low.spot.id n) (sym is) inv.lesser) later (omega (arith, count, none));
       greater = inv.greater;
     }
 
@@ -136,9 +136,9 @@ returns-in_err-id-clause-loads g c =
     let w = c.middle_of-pair.ensures.within in
     let some = c.loop-low-test.true in
     let a = at_run ps c.args.first c.middle_of-pair.result no_pair (let f = inv.from in let l = w.0 in omega (arith, f, l)) (let e = inv.end in let l = w.1 in omega (arith, e, l)) in
-    let b = subst (λ (qs : List Pair). LoadsAlong (slice_index_or qs c.middle_of-pair.result no_pair ∷ []) c.loop-low.thread c.find_in_pair.new.thread c.find_in_pair.result) inv.read.only.pairs c.find_in_pair.ensures.loads in
+    let b = subst (λ (qs : List Pair). LoadsPairs (slice_index_or qs c.middle_of-pair.result no_pair ∷ []) c.loop-low.thread c.find_in_pair.new.thread c.find_in_pair.result) inv.read.only.pairs c.find_in_pair.ensures.loads in
     let p = err_from_is_err_and c.from_residual.result c.from_residual.ensures.1 in
-    loads_here (joined_run (drop c.args.first ps)) c.args.first c.loop-low.low c.loop-low.high c.middle_of-pair.result (slice_index_or ps c.middle_of-pair.result no_pair) c.args.thread.now c.loop-low.thread c.find_in_pair.new.thread c.find_in_pair.result a inv.loaded some b c.from_residual.result (passes_none c.find_in_pair.result c.from_residual.result p.0 p.1)
+    loads_here (hard_tail_run (drop c.args.first ps)) c.args.first c.loop-low.low c.loop-low.high c.middle_of-pair.result (slice_index_or ps c.middle_of-pair.result no_pair) c.args.thread.now c.loop-low.thread c.find_in_pair.new.thread c.find_in_pair.result a inv.loaded some b c.from_residual.result (passes_none c.find_in_pair.result c.from_residual.result p.0 p.1)
 
 pub returns-in_err-id-clause-reading : goal.returns-in_err-id-clause-reading
 returns-in_err-id-clause-reading g c =
@@ -152,8 +152,8 @@ returns-in-Found-clause-answer g c =
     let w = c.middle_of-pair.ensures.within in
     let some = c.loop-low-test.true in
     let a = at_run ps c.args.first c.middle_of-pair.result no_pair (let f = inv.from in let l = w.0 in omega (arith, f, l)) (let e = inv.end in let l = w.1 in omega (arith, e, l)) in
-    let answer = subst (λ o. AnswersIn c.loop-low.thread.kept.disk.order None (pair_in c.loop-low.thread.kept c.middle_of-pair.result).content.slots c.args.name.now o) c.in-Found.is c.in_ok-id.ensures.answer in
-    let (s, shows) = subst (λ (qs : List Pair). (s : StandsAt (slice_index_or qs c.middle_of-pair.result no_pair).content.slots c.args.name.now c.in-Found.id) × EntryShows c.in-Found.entry s.slot.struct) inv.read.only.pairs (answer.stands, answer.shows) in
+    let answer = subst (λ o. SearchFindsInPair c.loop-low.thread.kept.disk.order None (pair_in c.loop-low.thread.kept c.middle_of-pair.result).content.slots c.args.name.now o) c.in-Found.is c.in_ok-id.ensures.answer in
+    let (s, shows) = subst (λ (qs : List Pair). (s : IsNameAt (slice_index_or qs c.middle_of-pair.result no_pair).content.slots c.args.name.now c.in-Found.id) × EntryShows c.in-Found.entry s.slot.struct) inv.read.only.pairs (answer.stands, answer.shows) in
     stands_at c.args.thread.now.kept.disk.order ps c.args.first c.args.name.now c.middle_of-pair.result (slice_index_or ps c.middle_of-pair.result no_pair) a c.requires.below c.in-Found.id c.in-Found.entry s shows
 
 pub returns-in-Found-clause-few : goal.returns-in-Found-clause-few
@@ -175,8 +175,8 @@ returns-in-Found-clause-loads g c =
     let w = c.middle_of-pair.ensures.within in
     let some = c.loop-low-test.true in
     let a = at_run ps c.args.first c.middle_of-pair.result no_pair (let f = inv.from in let l = w.0 in omega (arith, f, l)) (let e = inv.end in let l = w.1 in omega (arith, e, l)) in
-    let b = subst (λ (qs : List Pair). LoadsAlong (slice_index_or qs c.middle_of-pair.result no_pair ∷ []) c.loop-low.thread c.find_in_pair.new.thread c.find_in_pair.result) inv.read.only.pairs c.find_in_pair.ensures.loads in
-    loads_here (joined_run (drop c.args.first ps)) c.args.first c.loop-low.low c.loop-low.high c.middle_of-pair.result (slice_index_or ps c.middle_of-pair.result no_pair) c.args.thread.now c.loop-low.thread c.find_in_pair.new.thread c.find_in_pair.result a inv.loaded some b _ (λ P h. on_ok c.find_in_pair.result c.in_ok-id.field-0 P c.in_ok-id.was h)
+    let b = subst (λ (qs : List Pair). LoadsPairs (slice_index_or qs c.middle_of-pair.result no_pair ∷ []) c.loop-low.thread c.find_in_pair.new.thread c.find_in_pair.result) inv.read.only.pairs c.find_in_pair.ensures.loads in
+    loads_here (hard_tail_run (drop c.args.first ps)) c.args.first c.loop-low.low c.loop-low.high c.middle_of-pair.result (slice_index_or ps c.middle_of-pair.result no_pair) c.args.thread.now c.loop-low.thread c.find_in_pair.new.thread c.find_in_pair.result a inv.loaded some b _ (λ P h. on_ok c.find_in_pair.result c.in_ok-id.field-0 P c.in_ok-id.was h)
 
 pub returns-in-Found-clause-reading : goal.returns-in-Found-clause-reading
 returns-in-Found-clause-reading g c =
@@ -190,7 +190,7 @@ returns-then-from-count-clause-answer g c =
     let w = c.middle_of-pair.ensures.within in
     let some = c.loop-low-test.true in
     let a = at_run ps c.args.first c.middle_of-pair.result no_pair (let f = inv.from in let l = w.0 in omega (arith, f, l)) (let e = inv.end in let l = w.1 in omega (arith, e, l)) in
-    let answer = subst (λ o. AnswersIn c.loop-low.thread.kept.disk.order None (pair_in c.loop-low.thread.kept c.middle_of-pair.result).content.slots c.args.name.now o) c.in-Place.is c.in_ok-id.ensures.answer in
+    let answer = subst (λ o. SearchFindsInPair c.loop-low.thread.kept.disk.order None (pair_in c.loop-low.thread.kept c.middle_of-pair.result).content.slots c.args.name.now o) c.in-Place.is c.in_ok-id.ensures.answer in
     let place = subst₂ (λ (d : Disk) (qs : List Pair). PlaceAt d.order (slice_index_or qs c.middle_of-pair.result no_pair).content.slots c.args.name.now c.in-Place.id) inv.read.only.disk inv.read.only.pairs (answer.place refl) in
     let count = c.slot_count-count.ensures ∙ ap (λ (qs : List Pair). length (slice_index_or qs c.middle_of-pair.result no_pair).content.slots) inv.read.only.pairs in
     let less = c.if-from-count.true in
@@ -221,8 +221,8 @@ returns-then-from-count-clause-loads g c =
     let w = c.middle_of-pair.ensures.within in
     let some = c.loop-low-test.true in
     let a = at_run ps c.args.first c.middle_of-pair.result no_pair (let f = inv.from in let l = w.0 in omega (arith, f, l)) (let e = inv.end in let l = w.1 in omega (arith, e, l)) in
-    let b = subst (λ (qs : List Pair). LoadsAlong (slice_index_or qs c.middle_of-pair.result no_pair ∷ []) c.loop-low.thread c.find_in_pair.new.thread c.find_in_pair.result) inv.read.only.pairs c.find_in_pair.ensures.loads in
-    loads_here (joined_run (drop c.args.first ps)) c.args.first c.loop-low.low c.loop-low.high c.middle_of-pair.result (slice_index_or ps c.middle_of-pair.result no_pair) c.args.thread.now c.loop-low.thread c.find_in_pair.new.thread c.find_in_pair.result a inv.loaded some b _ (λ P h. on_ok c.find_in_pair.result c.in_ok-id.field-0 P c.in_ok-id.was h)
+    let b = subst (λ (qs : List Pair). LoadsPairs (slice_index_or qs c.middle_of-pair.result no_pair ∷ []) c.loop-low.thread c.find_in_pair.new.thread c.find_in_pair.result) inv.read.only.pairs c.find_in_pair.ensures.loads in
+    loads_here (hard_tail_run (drop c.args.first ps)) c.args.first c.loop-low.low c.loop-low.high c.middle_of-pair.result (slice_index_or ps c.middle_of-pair.result no_pair) c.args.thread.now c.loop-low.thread c.find_in_pair.new.thread c.find_in_pair.result a inv.loaded some b _ (λ P h. on_ok c.find_in_pair.result c.in_ok-id.field-0 P c.in_ok-id.was h)
 
 pub returns-then-from-count-clause-reading : goal.returns-then-from-count-clause-reading
 returns-then-from-count-clause-reading g c =
@@ -236,8 +236,8 @@ loop-low-preserved-then-count-gt0 g c =
     let w = c.middle_of-pair.ensures.within in
     let some = c.loop-low-test.true in
     let a = at_run ps c.args.first c.middle_of-pair.result no_pair (let f = inv.from in let l = w.0 in omega (arith, f, l)) (let e = inv.end in let l = w.1 in omega (arith, e, l)) in
-    let b = subst (λ (qs : List Pair). LoadsAlong (slice_index_or qs c.middle_of-pair.result no_pair ∷ []) c.loop-low.thread c.find_in_pair.new.thread c.find_in_pair.result) inv.read.only.pairs c.find_in_pair.ensures.loads in
-    let answer = subst (λ o. AnswersIn c.loop-low.thread.kept.disk.order None (pair_in c.loop-low.thread.kept c.middle_of-pair.result).content.slots c.args.name.now o) c.in-Place.is c.in_ok-id.ensures.answer in
+    let b = subst (λ (qs : List Pair). LoadsPairs (slice_index_or qs c.middle_of-pair.result no_pair ∷ []) c.loop-low.thread c.find_in_pair.new.thread c.find_in_pair.result) inv.read.only.pairs c.find_in_pair.ensures.loads in
+    let answer = subst (λ o. SearchFindsInPair c.loop-low.thread.kept.disk.order None (pair_in c.loop-low.thread.kept c.middle_of-pair.result).content.slots c.args.name.now o) c.in-Place.is c.in_ok-id.ensures.answer in
     let place = subst₂ (λ (d : Disk) (qs : List Pair). PlaceAt d.order (slice_index_or qs c.middle_of-pair.result no_pair).content.slots c.args.name.now c.in-Place.id) inv.read.only.disk inv.read.only.pairs (answer.place refl) in
     let count = c.slot_count-count.ensures ∙ ap (λ (qs : List Pair). length (slice_index_or qs c.middle_of-pair.result no_pair).content.slots) inv.read.only.pairs in
     let few = inv.few in
@@ -265,7 +265,7 @@ loop-low-preserved-then-count-gt0 g c =
           (subst (λ (qs : List Pair). 0 < length (slice_index_or qs (c.loop-low.low + (c.loop-low.high - c.loop-low.low) / 2) no_pair).content.slots) (sym inv.read.only.pairs)
           (has_slot _ _ _ _ (at_run ps c.args.first (c.loop-low.low + (c.loop-low.high - c.loop-low.low) / 2) no_pair (omega (arith, from)) (let m = middle_below c.loop-low.low c.loop-low.high some in omega (arith, m, end))) slots))))
           once;
-      loaded = loaded_on (joined_run (drop c.args.first ps)) c.args.first c.loop-low.low c.loop-low.high c.middle_of-pair.result (slice_index_or ps c.middle_of-pair.result no_pair) c.args.thread.now c.loop-low.thread c.find_in_pair.new.thread c.find_in_pair.result a inv.loaded some b c.in_ok-id.field-0 c.in_ok-id.was c.find_in_pair.ensures.reading.only.disk c.loop-low.low c.middle_of-pair.result (λ e. omega (arith, e, run, end, most, from));
+      loaded = loaded_on (hard_tail_run (drop c.args.first ps)) c.args.first c.loop-low.low c.loop-low.high c.middle_of-pair.result (slice_index_or ps c.middle_of-pair.result no_pair) c.args.thread.now c.loop-low.thread c.find_in_pair.new.thread c.find_in_pair.result a inv.loaded some b c.in_ok-id.field-0 c.in_ok-id.was c.find_in_pair.ensures.reading.only.disk c.loop-low.low c.middle_of-pair.result (λ e. omega (arith, e, run, end, most, from));
       lesser = inv.lesser;
       greater = starts (exceeds c.args.thread.now.kept.disk.order ps c.args.first c.args.name.now c.middle_of-pair.result (slice_index_or ps c.middle_of-pair.result no_pair) a c.in-Place.id place (omega (arith, none)) (omega (arith, has, count)));
     }
@@ -277,8 +277,8 @@ loop-low-preserved g c =
     let w = c.middle_of-pair.ensures.within in
     let some = c.loop-low-test.true in
     let a = at_run ps c.args.first c.middle_of-pair.result no_pair (let f = inv.from in let l = w.0 in omega (arith, f, l)) (let e = inv.end in let l = w.1 in omega (arith, e, l)) in
-    let b = subst (λ (qs : List Pair). LoadsAlong (slice_index_or qs c.middle_of-pair.result no_pair ∷ []) c.loop-low.thread c.find_in_pair.new.thread c.find_in_pair.result) inv.read.only.pairs c.find_in_pair.ensures.loads in
-    let answer = subst (λ o. AnswersIn c.loop-low.thread.kept.disk.order None (pair_in c.loop-low.thread.kept c.middle_of-pair.result).content.slots c.args.name.now o) c.in-Place.is c.in_ok-id.ensures.answer in
+    let b = subst (λ (qs : List Pair). LoadsPairs (slice_index_or qs c.middle_of-pair.result no_pair ∷ []) c.loop-low.thread c.find_in_pair.new.thread c.find_in_pair.result) inv.read.only.pairs c.find_in_pair.ensures.loads in
+    let answer = subst (λ o. SearchFindsInPair c.loop-low.thread.kept.disk.order None (pair_in c.loop-low.thread.kept c.middle_of-pair.result).content.slots c.args.name.now o) c.in-Place.is c.in_ok-id.ensures.answer in
     let place = subst₂ (λ (d : Disk) (qs : List Pair). PlaceAt d.order (slice_index_or qs c.middle_of-pair.result no_pair).content.slots c.args.name.now c.in-Place.id) inv.read.only.disk inv.read.only.pairs (answer.place refl) in
     let count = c.slot_count-count.ensures ∙ ap (λ (qs : List Pair). length (slice_index_or qs c.middle_of-pair.result no_pair).content.slots) inv.read.only.pairs in
     let few = inv.few in
@@ -312,7 +312,7 @@ loop-low-preserved g c =
           (subst (λ (qs : List Pair). 0 < length (slice_index_or qs (c.loop-low.low + (c.loop-low.high - c.loop-low.low) / 2) no_pair).content.slots) (sym inv.read.only.pairs)
           (has_slot _ _ _ _ (at_run ps c.args.first (c.loop-low.low + (c.loop-low.high - c.loop-low.low) / 2) no_pair (omega (arith, from)) (let m = middle_below c.loop-low.low c.loop-low.high some in omega (arith, m, end))) slots))))
           once;
-      loaded = loaded_on (joined_run (drop c.args.first ps)) c.args.first c.loop-low.low c.loop-low.high c.middle_of-pair.result (slice_index_or ps c.middle_of-pair.result no_pair) c.args.thread.now c.loop-low.thread c.find_in_pair.new.thread c.find_in_pair.result a inv.loaded some b c.in_ok-id.field-0 c.in_ok-id.was c.find_in_pair.ensures.reading.only.disk (c.middle_of-pair.result + 1) c.loop-low.high (λ e. omega (arith, e, run, end, least, from));
+      loaded = loaded_on (hard_tail_run (drop c.args.first ps)) c.args.first c.loop-low.low c.loop-low.high c.middle_of-pair.result (slice_index_or ps c.middle_of-pair.result no_pair) c.args.thread.now c.loop-low.thread c.find_in_pair.new.thread c.find_in_pair.result a inv.loaded some b c.in_ok-id.field-0 c.in_ok-id.was c.find_in_pair.ensures.reading.only.disk (c.middle_of-pair.result + 1) c.loop-low.high (λ e. omega (arith, e, run, end, least, from));
       lesser = passed (passes c.args.thread.now.kept.disk.order ps c.args.first c.args.name.now c.middle_of-pair.result (slice_index_or ps c.middle_of-pair.result no_pair) a c.requires.entries c.in-Place.id place why all);
       greater = inv.greater;
     }
@@ -336,7 +336,7 @@ returns-clause-halves g c slots =
 
 pub returns-clause-loads : goal.returns-clause-loads
 returns-clause-loads g c =
-    loads_all (joined_run (drop c.args.first c.args.thread.now.kept.pairs)) c.args.first c.loop-low.low c.loop-low.high c.args.thread.now c.loop-low.thread _ _ refl c.loop-low.invariant.loaded c.loop-low-test.false
+    loads_all (hard_tail_run (drop c.args.first c.args.thread.now.kept.pairs)) c.args.first c.loop-low.low c.loop-low.high c.args.thread.now c.loop-low.thread _ _ refl c.loop-low.invariant.loaded c.loop-low-test.false
 
 pub returns-clause-reading : goal.returns-clause-reading
 returns-clause-reading g c = answers _ _ _ _ refl c.loop-low.invariant.read

@@ -2,7 +2,7 @@ use Rattle.std.proofs.Common.{◌<◌, ◌≤◌, ◌+◌, ◌-◌, ◌^◌, len
 use Rattle.lfs_model.specs.History.{reads}
 use Rattle.lfs_model.specs.InDirectory.{run_length}
 use Rattle.lfs_lookup.specs.Halves.{HaveSlots, halvings}
-use Rattle.lfs_lookup.specs.Listed.{joined_run}
+use Rattle.lfs_lookup.specs.Listed.{hard_tail_run}
 use Rattle.lfs_lookup.proofs.Halved.{IsHigh, IsLow}
 use Rattle.lfs_lookup.proofs.HalvedReads.{HasHalved, HasLoaded}
 use Rattle.lfs_lookup.proofs.Reading.{HasRead}
@@ -17,11 +17,11 @@ invariant-loop-low g l = record {
   within : l.high ≤ length l.fn.thread.kept.pairs;
   fits : l.high < 2 ^ 64;
   few : reads l.thread.kept.history + (l.high - l.low) ≤ reads l.fn.thread.kept.history + run_length (drop l.fn.first l.fn.thread.kept.pairs);
-  halves : HaveSlots (joined_run (drop l.fn.first l.fn.thread.kept.pairs))
+  halves : HaveSlots (hard_tail_run (drop l.fn.first l.fn.thread.kept.pairs))
       → HasHalved (halvings (run_length (drop l.fn.first l.fn.thread.kept.pairs))) (reads l.fn.thread.kept.history) (reads l.thread.kept.history) (l.high - l.low);
-  loaded : HasLoaded (joined_run (drop l.fn.first l.fn.thread.kept.pairs)) l.fn.first l.low l.high l.fn.thread l.thread;
-  lesser : IsLow l.fn.thread.kept.disk.order (joined_run (drop l.fn.first l.fn.thread.kept.pairs)) l.fn.first l.fn.name l.spot.pair l.spot.id l.low;
-  greater : IsHigh l.fn.thread.kept.disk.order (joined_run (drop l.fn.first l.fn.thread.kept.pairs)) l.fn.first l.fn.name l.high;
+  loaded : HasLoaded (hard_tail_run (drop l.fn.first l.fn.thread.kept.pairs)) l.fn.first l.low l.high l.fn.thread l.thread;
+  lesser : IsLow l.fn.thread.kept.disk.order (hard_tail_run (drop l.fn.first l.fn.thread.kept.pairs)) l.fn.first l.fn.name l.spot.pair l.spot.id l.low;
+  greater : IsHigh l.fn.thread.kept.disk.order (hard_tail_run (drop l.fn.first l.fn.thread.kept.pairs)) l.fn.first l.fn.name l.high;
 }
 
 abbrev pub decreases-loop-low : goal.decreases-loop-low

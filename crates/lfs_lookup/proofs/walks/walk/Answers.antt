@@ -4,7 +4,7 @@ use Rattle.std.proofs.lemmas.Result.{err_from_is_err_and}
 use Rattle.lfs_model.specs.Thread.{Pair}
 use Rattle.lfs_model.specs.Shown.{entries_in}
 use Rattle.lfs_lookup.specs.Items.{structure_view}
-use Rattle.lfs_lookup.specs.Walk.{ArePushed, ArePushedFrom, BeginsIfBranch, Place, found_view, founds_view}
+use Rattle.lfs_lookup.specs.Walk.{ArePushed, ArePushedFrom, BeginsIfBranch, Place, tree_item_view, tree_items_view}
 use Rattle.lfs_lookup.specs.declared.walks.TreeItem.{TreeItem}
 use Rattle.lfs_lookup.proofs.Reading.{answered, both, further, has_read_nothing, lacks_memory, passed}
 use Rattle.lfs_lookup.proofs.Roots.{root_shapes}
@@ -20,19 +20,19 @@ returns-in_err-addresses-clause-reading g c =
 pub loop-found-init : goal.loop-found-init
 loop-found-init g c = record {
   read = answered _ _ c.push_directory.result c.in_ok-push_directory.field-0 c.in_ok-push_directory.was c.push_directory.ensures.reading;
-  under_way = subst (λ (done : List Place). IsUnderWay c.args.thread.now.kept.disk c.args.thread.now.kept.pairs done (founds_view c.push_directory.new.pending.items)) (sym (ap founds_view c.new-walked.ensures.items))
-      (begun c.args.thread.now.kept.disk c.args.thread.now.kept.pairs 0 (founds_view c.push_directory.new.pending.items) c.requires.accepted
+  under_way = subst (λ (done : List Place). IsUnderWay c.args.thread.now.kept.disk c.args.thread.now.kept.pairs done (tree_items_view c.push_directory.new.pending.items)) (sym (ap tree_items_view c.new-walked.ensures.items))
+      (begun c.args.thread.now.kept.disk c.args.thread.now.kept.pairs 0 (tree_items_view c.push_directory.new.pending.items) c.requires.accepted
       (root_shapes c.args.thread.now.kept.disk c.args.thread.now.kept.pairs c.requires.accepted)
-      (subst (λ (items : List TreeItem). ArePushedFrom c.args.thread.now.kept.pairs [] 0 (founds_view items) (founds_view c.push_directory.new.pending.items)) c.new-pending.ensures.items c.in_ok-push_directory.ensures.pushed));
+      (subst (λ (items : List TreeItem). ArePushedFrom c.args.thread.now.kept.pairs [] 0 (tree_items_view items) (tree_items_view c.push_directory.new.pending.items)) c.new-pending.ensures.items c.in_ok-push_directory.ensures.pushed));
 }
 
 pub push_below-requires-clause-begins : goal.push_below-requires-clause-begins
 push_below-requires-clause-begins g c =
     let inv = c.loop-found.invariant in
-    let next = took c.args.thread.now.kept.disk c.args.thread.now.kept.pairs (founds_view c.loop-found.walked.items) (founds_view c.loop-found.pending.items) (founds_view c.pop.new.self.items) (found_view c.in-Some.found)
-    (ap founds_view c.in-Some.ensures.items ∙ map-append found_view c.pop.new.self.items (c.in-Some.found ∷ [])) inv.under_way in
+    let next = took c.args.thread.now.kept.disk c.args.thread.now.kept.pairs (tree_items_view c.loop-found.walked.items) (tree_items_view c.loop-found.pending.items) (tree_items_view c.pop.new.self.items) (tree_item_view c.in-Some.found)
+    (ap tree_items_view c.in-Some.ensures.items ∙ map-append tree_item_view c.pop.new.self.items (c.in-Some.found ∷ [])) inv.under_way in
     subst (λ (ps : List Pair). BeginsIfBranch ps (structure_view c.in-Some.found.structure)) (sym inv.read.only.pairs)
-    (next_begins c.args.thread.now.kept.disk c.args.thread.now.kept.pairs (founds_view c.loop-found.walked.items) (founds_view c.pop.new.self.items) (found_view c.in-Some.found) c.requires.accepted next)
+    (next_begins c.args.thread.now.kept.disk c.args.thread.now.kept.pairs (tree_items_view c.loop-found.walked.items) (tree_items_view c.pop.new.self.items) (tree_item_view c.in-Some.found) c.requires.accepted next)
 
 pub returns-in_err-push_below-clause-reading : goal.returns-in_err-push_below-clause-reading
 returns-in_err-push_below-clause-reading g c =
@@ -42,23 +42,23 @@ returns-in_err-push_below-clause-reading g c =
 pub loop-found-smaller : goal.loop-found-smaller
 loop-found-smaller g c =
     let inv = c.loop-found.invariant in
-    let are = ap founds_view c.in-Some.ensures.items ∙ map-append found_view c.pop.new.self.items (c.in-Some.found ∷ []) in
-    let next = took c.args.thread.now.kept.disk c.args.thread.now.kept.pairs (founds_view c.loop-found.walked.items) (founds_view c.loop-found.pending.items) (founds_view c.pop.new.self.items) (found_view c.in-Some.found) are inv.under_way in
-    let pushed = subst (λ (ps : List Pair). ArePushed ps (found_view c.in-Some.found) (founds_view c.pop.new.self.items) (founds_view c.push_below.new.pending.items)) inv.read.only.pairs c.in_ok-push_below.ensures.pushed in
-    subst (λ (places : List Place). load (length c.args.thread.now.kept.pairs) (entries_in c.args.thread.now.kept.pairs) (founds_view c.push_below.new.pending.items) < load (length c.args.thread.now.kept.pairs) (entries_in c.args.thread.now.kept.pairs) places) (sym are)
-    (less_left c.args.thread.now.kept.disk c.args.thread.now.kept.pairs (founds_view c.loop-found.walked.items) (founds_view c.pop.new.self.items) (founds_view c.push_below.new.pending.items) (found_view c.in-Some.found) c.requires.accepted next pushed)
+    let are = ap tree_items_view c.in-Some.ensures.items ∙ map-append tree_item_view c.pop.new.self.items (c.in-Some.found ∷ []) in
+    let next = took c.args.thread.now.kept.disk c.args.thread.now.kept.pairs (tree_items_view c.loop-found.walked.items) (tree_items_view c.loop-found.pending.items) (tree_items_view c.pop.new.self.items) (tree_item_view c.in-Some.found) are inv.under_way in
+    let pushed = subst (λ (ps : List Pair). ArePushed ps (tree_item_view c.in-Some.found) (tree_items_view c.pop.new.self.items) (tree_items_view c.push_below.new.pending.items)) inv.read.only.pairs c.in_ok-push_below.ensures.pushed in
+    subst (λ (places : List Place). load (length c.args.thread.now.kept.pairs) (entries_in c.args.thread.now.kept.pairs) (tree_items_view c.push_below.new.pending.items) < load (length c.args.thread.now.kept.pairs) (entries_in c.args.thread.now.kept.pairs) places) (sym are)
+    (less_left c.args.thread.now.kept.disk c.args.thread.now.kept.pairs (tree_items_view c.loop-found.walked.items) (tree_items_view c.pop.new.self.items) (tree_items_view c.push_below.new.pending.items) (tree_item_view c.in-Some.found) c.requires.accepted next pushed)
 
 pub loop-found-preserved : goal.loop-found-preserved
 loop-found-preserved g c =
     let inv = c.loop-found.invariant in
-    let are = ap founds_view c.in-Some.ensures.items ∙ map-append found_view c.pop.new.self.items (c.in-Some.found ∷ []) in
-    let next = took c.args.thread.now.kept.disk c.args.thread.now.kept.pairs (founds_view c.loop-found.walked.items) (founds_view c.loop-found.pending.items) (founds_view c.pop.new.self.items) (found_view c.in-Some.found) are inv.under_way in
-    let pushed = subst (λ (ps : List Pair). ArePushed ps (found_view c.in-Some.found) (founds_view c.pop.new.self.items) (founds_view c.push_below.new.pending.items)) inv.read.only.pairs c.in_ok-push_below.ensures.pushed in
+    let are = ap tree_items_view c.in-Some.ensures.items ∙ map-append tree_item_view c.pop.new.self.items (c.in-Some.found ∷ []) in
+    let next = took c.args.thread.now.kept.disk c.args.thread.now.kept.pairs (tree_items_view c.loop-found.walked.items) (tree_items_view c.loop-found.pending.items) (tree_items_view c.pop.new.self.items) (tree_item_view c.in-Some.found) are inv.under_way in
+    let pushed = subst (λ (ps : List Pair). ArePushed ps (tree_item_view c.in-Some.found) (tree_items_view c.pop.new.self.items) (tree_items_view c.push_below.new.pending.items)) inv.read.only.pairs c.in_ok-push_below.ensures.pushed in
     record {
       read = both _ _ _ inv.read (answered _ _ c.push_below.result c.in_ok-push_below.field-0 c.in_ok-push_below.was c.push_below.ensures.reading);
-      under_way = subst (λ (done : List Place). IsUnderWay c.args.thread.now.kept.disk c.args.thread.now.kept.pairs done (founds_view c.push_below.new.pending.items))
-          (sym (ap founds_view c.in_ok-push.ensures.items ∙ map-append found_view c.loop-found.walked.items (c.in-Some.found ∷ [])))
-          (moved_on c.args.thread.now.kept.disk c.args.thread.now.kept.pairs (founds_view c.loop-found.walked.items) (founds_view c.pop.new.self.items) (founds_view c.push_below.new.pending.items) (found_view c.in-Some.found) c.requires.accepted next pushed);
+      under_way = subst (λ (done : List Place). IsUnderWay c.args.thread.now.kept.disk c.args.thread.now.kept.pairs done (tree_items_view c.push_below.new.pending.items))
+          (sym (ap tree_items_view c.in_ok-push.ensures.items ∙ map-append tree_item_view c.loop-found.walked.items (c.in-Some.found ∷ [])))
+          (moved_on c.args.thread.now.kept.disk c.args.thread.now.kept.pairs (tree_items_view c.loop-found.walked.items) (tree_items_view c.pop.new.self.items) (tree_items_view c.push_below.new.pending.items) (tree_item_view c.in-Some.found) c.requires.accepted next pushed);
     }
 
 pub returns-in_err-push-clause-reading : goal.returns-in_err-push-clause-reading
@@ -69,6 +69,6 @@ returns-in_err-push-clause-reading g c =
 
 pub returns-clause-walked : goal.returns-clause-walked
 returns-clause-walked g c =
-    ended c.args.thread.now.kept.disk c.args.thread.now.kept.pairs (founds_view c.loop-found.walked.items) (founds_view c.loop-found.pending.items)
-    (ap founds_view (c.in_default.ensures.items ∙ ap (λ items. items ++ []) (c.in_default.ensures.rest ∙ ap (λ n. take (n - 1) c.loop-found.pending.items) c.in_default.ensures.cases.0)))
+    ended c.args.thread.now.kept.disk c.args.thread.now.kept.pairs (tree_items_view c.loop-found.walked.items) (tree_items_view c.loop-found.pending.items)
+    (ap tree_items_view (c.in_default.ensures.items ∙ ap (λ items. items ++ []) (c.in_default.ensures.rest ∙ ap (λ n. take (n - 1) c.loop-found.pending.items) c.in_default.ensures.cases.0)))
     c.loop-found.invariant.under_way

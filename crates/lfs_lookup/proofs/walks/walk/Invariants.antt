@@ -1,6 +1,6 @@
 use Rattle.std.proofs.Common.{length}
 use Rattle.lfs_model.specs.Shown.{entries_in}
-use Rattle.lfs_lookup.specs.Walk.{founds_view}
+use Rattle.lfs_lookup.specs.Walk.{tree_items_view}
 use Rattle.lfs_lookup.proofs.Reading.{HasRead}
 use Rattle.lfs_lookup.proofs.Sizes.{load}
 use Rattle.lfs_lookup.proofs.Visits.{IsUnderWay}
@@ -9,8 +9,8 @@ use Rattle.lfs_lookup.proofs.walks.walk.Given as goal
 abbrev pub invariant-loop-found : goal.invariant-loop-found
 invariant-loop-found g l = record {
   read : HasRead l.fn.thread l.thread;
-  under_way : IsUnderWay l.fn.thread.kept.disk l.fn.thread.kept.pairs (founds_view l.walked.items) (founds_view l.pending.items);
+  under_way : IsUnderWay l.fn.thread.kept.disk l.fn.thread.kept.pairs (tree_items_view l.walked.items) (tree_items_view l.pending.items);
 }
 
 abbrev pub decreases-loop-found : goal.decreases-loop-found
-decreases-loop-found g l = load (length l.fn.thread.kept.pairs) (entries_in l.fn.thread.kept.pairs) (founds_view l.pending.items)
+decreases-loop-found g l = load (length l.fn.thread.kept.pairs) (entries_in l.fn.thread.kept.pairs) (tree_items_view l.pending.items)

@@ -8,7 +8,7 @@ use Rattle.lfs_model.proofs.Skips.{list_from}
 use Rattle.lfs_model.proofs.Examples.{image_shows, pair, file, long_file, large_superblock}
 use Rattle.lfs_model.specs.examples.Images.{small_image, appended_image}
 use Rattle.lfs_model.specs.Shown.{tree_in}
-use Rattle.lfs_model.specs.TreeEdits.{added}
+use Rattle.lfs_model.specs.TreeEdits.{tree_with_node}
 use Rattle.lfs_model.specs.Tree.{FileNode}
 use Rattle.lfs_model.specs.Fresh.{empty_tree}
 use Rattle.lfs_model.proofs.Fresh.{shows}
@@ -37,5 +37,5 @@ returns-clause-zeroed c = image_shows _ (pair (0, 1) (large_superblock ∷ file 
 
 pub returns-clause-appended : goal.returns-clause-appended
 returns-clause-appended c =
-    let tree : tree_in appended_image (next ∷ []) ≡ added (codes "b" ∷ []) (FileNode [] []) empty_tree = file_came.shows ∙ ap (added (codes "b" ∷ []) (FileNode [] [])) (shows small_image) in
+    let tree : tree_in appended_image (next ∷ []) ≡ tree_with_node (codes "b" ∷ []) (FileNode [] []) empty_tree = file_came.shows ∙ ap (tree_with_node (codes "b" ∷ []) (FileNode [] [])) (shows small_image) in
     (next ∷ [], (file_came.accepted, λ i. record { tree = sym tree i; gstate = no_gstate; used = 0 ∷ 1 ∷ [] }))

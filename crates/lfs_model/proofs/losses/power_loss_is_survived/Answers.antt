@@ -1,7 +1,7 @@
 use Rattle.std.proofs.Common.{◌≡◌, inl, inr, List, [], ◌∷◌, ◌++◌, refl, sym, ap, ◌∙◌}
 use Rattle.lfs_model.specs.Operations.{Operation}
 use Rattle.lfs_model.specs.RepeatedPowerLoss.{IsCutAtEnd, IsSurvived}
-use Rattle.lfs_model.specs.Performed.{IsRun}
+use Rattle.lfs_model.specs.Performed.{IsRunOfOperations}
 use Rattle.lfs_model.specs.Disk.{Disk}
 use Rattle.lfs_model.specs.Run.{SystemState}
 use Rattle.lfs_model.specs.Session.{Session}
@@ -46,7 +46,7 @@ none_short (op ∷ done) next others e = absurd (cc)
 at_end : (from at : SystemState) (left : Disk) (tree : Tree) → from.state ≡ Healthy (mounted empty_tree) → from ≡ at → IsCutAtEnd at left tree → tree ≡ empty_tree
 at_end from at left tree begun same cut = cut.is ∙ sym (ap (λ (s : Session). s.tree) (same_session (mounted empty_tree) cut.session (sym begun ∙ ap (λ (m : SystemState). m.state) same ∙ cut.healthy)))
 
-none_begun : (to : SystemState) (run : IsRun fresh_system [] to) (left : Disk) (s : IsSurvived fresh_system [] to run left) → s.tree ≡ empty_tree
+none_begun : (to : SystemState) (run : IsRunOfOperations fresh_system [] to) (left : Disk) (s : IsSurvived fresh_system [] to run left) → s.tree ≡ empty_tree
 none_begun to (inl ([], same)) left s = at_end fresh_system to left s.tree refl same s.cut
 none_begun to (inl (reply ∷ replies, steps)) left s = absurd steps
 none_begun to (inr short) left s = absurd (none_short short.done short.next short.others short.are)

@@ -5,7 +5,7 @@ use Rattle.lfs_model.specs.Fresh.{empty_tree}
 use Rattle.lfs_model.specs.Operations as ops
 use Rattle.lfs_model.specs.Session.{Session, reader_of, file_of}
 use Rattle.lfs_model.specs.State.{State, HasFailed, Healthy, mounted}
-use Rattle.lfs_model.specs.Effects.{applied}
+use Rattle.lfs_model.specs.Effects.{refusal_or_effect}
 use Rattle.lfs_model.specs.Headline.{read_from}
 use Rattle.lfs_model.specs.examples.Images.{small_image}
 use Rattle.lfs_model.proofs.Fresh.{shows}
@@ -24,11 +24,11 @@ returns-clause-scratch c = record {
   accepted = are_accepted;
   around = around;
   surrounds = surrounds;
-  is = sym (ap (λ t. (applied around (mounted t) (ops.Stat (codes "/"))).0) (shows small_image));
+  is = sym (ap (λ t. (refusal_or_effect around (mounted t) (ops.Stat (codes "/"))).0) (shows small_image));
 }
 
 pub returns-clause-not_otherwise : goal.returns-clause-not_otherwise
-returns-clause-not_otherwise c = λ h. absurd (let e = h.is ∙ ap (λ t. (applied h.around (mounted t) (ops.Stat (codes "/"))).0) (tree_is_empty h.pairs h.accepted) in cc)
+returns-clause-not_otherwise c = λ h. absurd (let e = h.is ∙ ap (λ t. (refusal_or_effect h.around (mounted t) (ops.Stat (codes "/"))).0) (tree_is_empty h.pairs h.accepted) in cc)
 
 session_of : (s t : Session) → Healthy s ≡ Healthy t → s ≡ t
 session_of s t e = ap (λ z. or_else z) e

@@ -5,11 +5,11 @@ use Rattle.lfs_model.specs.Slots.{Slot, Struct, Inline, Ctz, Branch}
 use Rattle.lfs_model.specs.Content.{put_attribute}
 use Rattle.lfs_model.specs.Fresh.{superblock_slot}
 use Rattle.lfs_model.specs.Session.{file_of}
-use Rattle.lfs_model.specs.SlotEdits.{new_file, new_directory, Replaces, Stores, Commits}
+use Rattle.lfs_model.specs.SlotEdits.{new_file, new_directory, Replaces, Stores, StoresDirty}
 use Rattle.lfs_model.specs.Layout.{slots_of}
 use Rattle.lfs_model.specs.examples.Images.{large_image}
 use Rattle.lfs_model.specs.examples.Runs.{directories_with, two_directories, root_with, heavy_file, writing_at}
-use Rattle.lfs_model.proofs.Sites.{Among}
+use Rattle.lfs_model.proofs.Sites.{SomeIn}
 use Rattle.lfs_model.proofs.Spliced.{comes}
 use Rattle.lfs_model.proofs.slots.entries_are_replaced.Goals as goal
 
@@ -51,7 +51,7 @@ unset (u, v, (at, is, spliced)) = go (comes v (u ∷ []) two_directories two_dir
     none : (s : Slot) → length s.attributes ≡ 0 → s ≡ v → ⊥
     none s e f = absurd (let k = ap (λ (t : Slot). length t.attributes) f in omega (arith, some))
 
-    go : Among (λ s. s ≡ v) (slots_of two_directories) → ⊥
+    go : SomeIn (λ s. s ≡ v) (slots_of two_directories) → ⊥
     go (inl e) = none (superblock_slot 4096 16) refl e
     go (inr (inl e)) = none (new_directory (codes "d") (4, 5)) refl e
     go (inr (inr (inl e))) = none (new_file (codes "a")) refl e
@@ -82,12 +82,12 @@ uncommitted (u, v, (at, (is, said), spliced)) = go (comes v (u ∷ []) (root_wit
     other : (s : Slot) (n : ℕ) → size s.struct ≡ n → s ≡ v → n ≡ 2
     other s n e f = sym e ∙ ap (λ (t : Slot). size t.struct) f ∙ two
 
-    go : Among (λ s. s ≡ v) (slots_of (root_with (codes "a") [])) → ⊥
+    go : SomeIn (λ s. s ≡ v) (slots_of (root_with (codes "a") [])) → ⊥
     go (inl e) = absurd (let k : 24 ≡ 2 = other (superblock_slot 4096 16) 24 refl e in omega arith)
     go (inr (inl e)) = absurd (let k : 0 ≡ 2 = other (new_file (codes "a")) 0 refl e in omega arith)
     go (inr (inr e)) = e
 
-either : Commits large_image (root_with (codes "a") []) (file_of (writing_at (codes "a" ∷ []) true (codes "hi")).files 0) (root_with (codes "a") []) (root_with (codes "a") []) → ⊥
+either : StoresDirty large_image (root_with (codes "a") []) (file_of (writing_at (codes "a" ∷ []) true (codes "hi")).files 0) (root_with (codes "a") []) (root_with (codes "a") []) → ⊥
 either (inl e) = absurd (let k = e.0 in cc)
 either (inr e) = uncommitted e.1
 

@@ -1,11 +1,11 @@
 use Rattle.std.proofs.Common.{◌≤◌, [], ◌∷◌, None, refl, arith}
 use Rattle.std.specs.Prelude.{codes}
-use Rattle.lfs_model.specs.Layout.{Fits}
+use Rattle.lfs_model.specs.Layout.{FitsOnDisk}
 use Rattle.lfs_model.specs.examples.Images.{small_image}
 use Rattle.lfs_model.specs.examples.Runs.{pair_with, heavy_file}
 use Rattle.lfs_model.proofs.slots.pairs_are_cut_and_dropped.Goals as goal
 
-too_much : Fits small_image (pair_with (2, 3) (heavy_file (codes "a") ∷ heavy_file (codes "b") ∷ []) None) → ⊥
+too_much : FitsOnDisk small_image (pair_with (2, 3) (heavy_file (codes "a") ∷ heavy_file (codes "b") ∷ []) None) → ⊥
 too_much h = let k : 1026 ≤ 857 = h.size in omega arith
 
 pub returns-clause-cut : goal.returns-clause-cut

@@ -3,10 +3,10 @@ use Rattle.std.specs.Prelude.{codes, slice_index}
 use Rattle.std.proofs.lemmas.Option.{same_Some}
 use Rattle.lfs_model.specs.Slots.{Slot, Struct, Inline}
 use Rattle.lfs_model.specs.Fresh.{superblock_slot}
-use Rattle.lfs_model.specs.SlotEdits.{new_file, new_directory, Moves}
+use Rattle.lfs_model.specs.SlotEdits.{new_file, new_directory, MovesSlot}
 use Rattle.lfs_model.specs.Layout.{slots_of}
 use Rattle.lfs_model.specs.examples.Runs.{directories_with, root_with}
-use Rattle.lfs_model.proofs.Sites.{Among}
+use Rattle.lfs_model.proofs.Sites.{SomeIn}
 use Rattle.lfs_model.proofs.Spliced.{comes}
 use Rattle.lfs_model.proofs.slots.slots_are_edited.Goals as goal
 
@@ -59,13 +59,13 @@ abbrev first_byte : Slot → ℕ
 first_byte s = first_byte_of s.struct
 
 -- the moved slot says `x`, and none of these does
-other_bytes : Moves (root_with (codes "a") (codes "x")) (codes "a" ∷ []) (codes "b" ∷ []) (root_with (codes "a") (codes "x")) (root_with (codes "b") (codes "y")) → ⊥
+other_bytes : MovesSlot (root_with (codes "a") (codes "x")) (codes "a" ∷ []) (codes "b" ∷ []) (root_with (codes "a") (codes "x")) (root_with (codes "b") (codes "y")) → ⊥
 other_bytes (u, left, cleared, (at, out, clear, into)) = go (comes (record u { name = codes "b" }) [] cleared (root_with (codes "b") (codes "y")) into)
   where
     says : first_byte u ≡ 120
     says = sym (ap first_byte (same_Some (record (new_file (codes "a")) { struct = Inline (codes "x") }) u at))
 
-    go : Among (λ s. s ≡ record u { name = codes "b" }) (slots_of (root_with (codes "b") (codes "y"))) → ⊥
+    go : SomeIn (λ s. s ≡ record u { name = codes "b" }) (slots_of (root_with (codes "b") (codes "y"))) → ⊥
     go (inl e) = absurd (let k : 0 ≡ first_byte u = ap first_byte e in omega (arith, says))
     go (inr (inl e)) = absurd (let k : 121 ≡ first_byte u = ap first_byte e in omega (arith, says))
     go (inr (inr e)) = e

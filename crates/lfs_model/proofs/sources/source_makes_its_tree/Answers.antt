@@ -4,7 +4,7 @@ use Rattle.std.specs.Option.{option_and_then, option_map}
 use Rattle.std.proofs.lemmas.List.Sorted.{IsPermutation-refl}
 use Rattle.lfs_model.specs.Names.{Name, same_name}
 use Rattle.lfs_model.specs.Tree.{Path, Node, FileNode, DirectoryNode}
-use Rattle.lfs_model.specs.Source.{IsNodeOf, Standing, AFile, path_in, standing}
+use Rattle.lfs_model.specs.Source.{IsNodeOf, Standing, AFile, path_in, source_entry_at}
 use Rattle.lfs_model.specs.examples.Sources.{one_file}
 use Rattle.lfs_model.specs.examples.Images.{tree_with}
 use Rattle.lfs_model.proofs.sources.source_makes_its_tree.Goals as goal
@@ -20,10 +20,10 @@ beneath : (b : Bool) (deeper : Option Standing) → IsNodeOf (option_and_then (�
 beneath true deeper = tt
 beneath false deeper = tt
 
-shown : (path : Path) → IsNodeOf (standing one_file [] path) (tree_with (([], DirectoryNode [] (codes "a" ∷ [])) ∷ (codes "a" ∷ [], FileNode [] (codes "hello")) ∷ []) path)
+shown : (path : Path) → IsNodeOf (source_entry_at one_file [] path) (tree_with (([], DirectoryNode [] (codes "a" ∷ [])) ∷ (codes "a" ∷ [], FileNode [] (codes "hello")) ∷ []) path)
 shown [] = (refl, IsPermutation-refl (codes "a" ∷ []), λ i j d m k. absurd (omega arith))
-shown (name ∷ []) = here (same_name name (codes "a")) (standing one_file (path_in [] name) [])
-shown (name ∷ next ∷ rest) = beneath (same_name name (codes "a")) (standing one_file (path_in [] name) (next ∷ rest))
+shown (name ∷ []) = here (same_name name (codes "a")) (source_entry_at one_file (path_in [] name) [])
+shown (name ∷ next ∷ rest) = beneath (same_name name (codes "a")) (source_entry_at one_file (path_in [] name) (next ∷ rest))
 
 pub returns-clause-one : goal.returns-clause-one
 returns-clause-one c = shown

@@ -4,7 +4,7 @@ use Rattle.lfs_model.specs.History.{Erase, event}
 use Rattle.lfs_model.specs.Crc.{crc_of, next_bits}
 use Rattle.lfs_model.specs.Log.{BlockLog, chain_of, chain_within, commit_within, entry_at, closes}
 use Rattle.lfs_model.specs.Stops.{Stops, LeftByErase}
-use Rattle.lfs_model.specs.BlockBytes.{unwritten, filled}
+use Rattle.lfs_model.specs.BlockBytes.{unwritten, block_of_bytes}
 use Rattle.lfs_model.specs.examples.Images.{small_block, small_commit, appended_commit}
 use Rattle.lfs_model.proofs.stops.stopped_erase_leaves_no_other_log.Goals as goal
 
@@ -12,7 +12,7 @@ abbrev commits_in : Option BlockLog → ℕ
 commits_in None = 0
 commits_in (Some log) = length log.commits
 
-never : LeftByErase small_block (filled 1024 (small_commit ++ appended_commit)) → ⊥
+never : LeftByErase small_block (block_of_bytes 1024 (small_commit ++ appended_commit)) → ⊥
 unfolding chain_of chain_within commit_within entry_at closes crc_of next_bits
 never (inl same) = let counts : 2 + 0 ≡ 1 + 0 = ap commits_in same in omega arith
 never (inr none) = let counts : 2 + 0 ≡ 0 + 0 = ap commits_in none in omega arith

@@ -11,7 +11,7 @@ use Rattle.lfs_model.specs.declared.order.NameOrder.{NameOrder}
 use Rattle.lfs_mount.specs.DirectoryView.{vertex_of, graph_of}
 use Rattle.lfs_mount.specs.KnownView.{known_view}
 use Rattle.lfs_mount.specs.Reaching.{Vertex, Graph}
-use Rattle.lfs_mount.specs.Taken.{Takes}
+use Rattle.lfs_mount.specs.Taken.{TakesPair}
 use Rattle.lfs_mount.specs.declared.pass.Member.{Member}
 use Rattle.lfs_mount.proofs.Called.{same_error, not_read, read_on, quiet, passed_on}
 use Rattle.lfs_mount.proofs.ReadCounts.{pairs_more}
@@ -43,7 +43,7 @@ returns-in_err-take_pair-clause-corrupt g c = λ is order graph end all.
     not_taken_at disk c.args.places.now c.args.map.now c.args.members.now (graph_of order c.loop-member.directories.items) (known_view order c.loop-member.known) c.loop-member.map
     c.loop-member.member-index none c.loop-member-test.true (c.loop-member.invariant.way order)
     (λ new mid takes. c.in_err-take_pair.ensures.corrupt (ap Err (same_error p.1 p.2 is)) order new mid
-    (subst (λ (d : Disk). Takes (ordered order d) c.args.places.now (get_or c.args.members.now c.loop-member.member-index none) (known_view order c.loop-member.known) c.loop-member.map new mid) (sym (ap₂ disk_of c.loop-member.invariant.device.geometry c.loop-member.invariant.device.same)) takes))
+    (subst (λ (d : Disk). TakesPair (ordered order d) c.args.places.now (get_or c.args.members.now c.loop-member.member-index none) (known_view order c.loop-member.known) c.loop-member.map new mid) (sym (ap₂ disk_of c.loop-member.invariant.device.geometry c.loop-member.invariant.device.same)) takes))
     graph end all
 
 pub returns-in_err-take_pair-clause-device : goal.returns-in_err-take_pair-clause-device
@@ -60,9 +60,9 @@ returns-in_err-push-clause-device g c = read_on g.D.BlockDevice c.loop-member.in
 pub loop-member-preserved : goal.loop-member-preserved
 loop-member-preserved g c =
     let disk = disk_on g.D.BlockDevice c.args.device.now in
-    let takes : (order : NameOrder) → Takes (ordered order disk) c.args.places.now (get_or c.args.members.now c.loop-member.member-index none) (known_view order c.loop-member.known) c.loop-member.map (known_view order c.take_pair.new.known) c.take_pair.new.map =
+    let takes : (order : NameOrder) → TakesPair (ordered order disk) c.args.places.now (get_or c.args.members.now c.loop-member.member-index none) (known_view order c.loop-member.known) c.loop-member.map (known_view order c.take_pair.new.known) c.take_pair.new.map =
     λ order.
-    subst (λ (d : Disk). Takes (ordered order d) c.args.places.now (get_or c.args.members.now c.loop-member.member-index none) (known_view order c.loop-member.known) c.loop-member.map (known_view order c.take_pair.new.known) c.take_pair.new.map)
+    subst (λ (d : Disk). TakesPair (ordered order d) c.args.places.now (get_or c.args.members.now c.loop-member.member-index none) (known_view order c.loop-member.known) c.loop-member.map (known_view order c.take_pair.new.known) c.take_pair.new.map)
     (ap₂ disk_of c.loop-member.invariant.device.geometry c.loop-member.invariant.device.same) (c.in_ok-take_pair.ensures.taken order) in
     record {
       way = λ order. elim c.if-not-member.branch [

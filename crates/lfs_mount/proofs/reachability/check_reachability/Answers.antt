@@ -23,7 +23,7 @@ returns-in_err-is_reached-clause-corrupt c = λ is ps shows right.
 
 pub returns-then-contains-clause-corrupt : goal.returns-then-contains-clause-corrupt
 returns-then-contains-clause-corrupt c = λ is ps shows right.
-    let r = c.in_ok-is_reached.ensures.reached in
+    let r = c.in_ok-is_reached.ensures.reached_directories in
     let marks = c.in_ok-is_reached.is_reached.items in
     let any = c.if-contains.ensures.cases in
     let unmarked = subst (λ (xs : List Bool). slice_get xs any.0 ≡ Some false) c.deref.ensures.value (unmarked_at c.deref.result.now any.0 any.1 (any.2 false)) in
@@ -31,7 +31,7 @@ returns-then-contains-clause-corrupt c = λ is ps shows right.
 
 pub returns-clause-ok : goal.returns-clause-ok
 returns-clause-ok c = λ ps shows.
-    let r = c.in_ok-is_reached.ensures.reached in
+    let r = c.in_ok-is_reached.ensures.reached_directories in
     let marks = c.in_ok-is_reached.is_reached.items in
     all_right ps (graph_of c.args.order c.args.directories.now) c.args.sync shows (some_in c.args.order c.args.directories.now c.requires.some) r.steps marks r.finished r.marked r.len
     (λ clear v lt. elim c.else-not-sync.branch [

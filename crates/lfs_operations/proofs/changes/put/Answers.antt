@@ -7,7 +7,7 @@ use Rattle.lfs_pair.specs.ChangeView.{changes_view}
 use Rattle.lfs_thread.specs.Device.{StopsLeave}
 use Rattle.lfs_thread.specs.Kept.{Kept}
 use Rattle.lfs_thread.specs.CachedLog.{cached_log}
-use Rattle.lfs_operations.specs.Changing.{IsCut, IsLeftByCut, ReportsPut, ReportsSpace, WritesIn}
+use Rattle.lfs_operations.specs.Changing.{IsPairCut, IsLeftByCut, ReportsPut, ReportsSpace, WritesIn}
 use Rattle.lfs_operations.proofs.Putting.{read_at_most, read_is, cut_later, reports_later, writes_later, stops_later, not_both}
 use Rattle.lfs_operations.proofs.changes.put.Goals as goal
 
@@ -24,7 +24,7 @@ returns-in_ok-split_in_two-in-Full-clause-is_put g c =
     inr (
       (r.content, (r.made, r.too_large)),
       cut_later old c.change.new.self.kept.history r.only.reads c.args.index (changes_view c.args.changes.now) c.split_in_two.new.thread.kept
-          (subst (λ (k : Kept). IsCut k c.args.index (changes_view c.args.changes.now) c.split_in_two.new.thread.kept) (read_is old c.change.new.self.kept r.only) c.in_ok-split_in_two-in-Full.ensures.is_cut),
+          (subst (λ (k : Kept). IsPairCut k c.args.index (changes_view c.args.changes.now) c.split_in_two.new.thread.kept) (read_is old c.change.new.self.kept r.only) c.in_ok-split_in_two-in-Full.ensures.is_cut),
     )
 
 pub returns-in_ok-split_in_two-in-Full-clause-errors : goal.returns-in_ok-split_in_two-in-Full-clause-errors

@@ -7,7 +7,7 @@ use Rattle.lfs_thread.specs.Kept.{State}
 use Rattle.lfs_thread.specs.CachedLog.{cached_log}
 use Rattle.lfs_thread.specs.Steps.{CanBeSplit, HasReported, IsLeftBySplit, IsSplit, Writes, pair_in}
 use Rattle.lfs_pair.specs.ChangeView.{changes_view}
-use Rattle.lfs_operations.specs.Changing.{WritesIn, flying}
+use Rattle.lfs_operations.specs.Changing.{WritesIn, map_with_two_in_flight}
 use Rattle.lfs_operations.proofs.Putting.{read_at_most, can_split, cut_in, stops_by_cut, writes_in, writes_none, reports_state}
 use Rattle.lfs_operations.proofs.changes.split_in_two.Goals as goal
 
@@ -23,7 +23,7 @@ split-requires-clause-can g c =
 pub returns-in_err-split-clause-errors : goal.returns-in_err-split-clause-errors
 returns-in_err-split-clause-errors g c =
     let p = err_from_is_err_and c.from_residual.result c.from_residual.ensures.1 in
-    reports_state c.args.thread.now c.split.new.self (flying c.args.thread.now.kept.map (address_of c.in-Some.fresh)) p.0 c.split.result c.from_residual.result (c.in_err-split.was ∙ ap Err (sym p.2)) p.1 c.split.ensures.failed
+    reports_state c.args.thread.now c.split.new.self (map_with_two_in_flight c.args.thread.now.kept.map (address_of c.in-Some.fresh)) p.0 c.split.result c.from_residual.result (c.in_err-split.was ∙ ap Err (sym p.2)) p.1 c.split.ensures.failed
     (subst (λ (t : State). HasReported t.kept c.split.new.self.kept c.split.result) c.in-Some.ensures.taken c.split.ensures.errors)
 
 pub returns-in_err-split-clause-stops : goal.returns-in_err-split-clause-stops

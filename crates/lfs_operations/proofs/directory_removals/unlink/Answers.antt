@@ -8,7 +8,7 @@ use Rattle.lfs_model.proofs.Histories.{LeavesOnly-weaker}
 use Rattle.lfs_pair.specs.declared.commits.Outcome.{Outcome}
 use Rattle.lfs_pair.specs.declared.commits.Outcome.TheVariants as outcome
 use Rattle.lfs_thread.specs.Kept.{Kept}
-use Rattle.lfs_thread.specs.Steps.{CanChange, IsChanged, IsLeftByChange, IsRefused, pair_in}
+use Rattle.lfs_thread.specs.Steps.{CanChange, IsChanged, IsLeftByChange, IsCommitRefused, pair_in}
 use Rattle.lfs_operations.specs.Unlinking.{IsUnlinked, unlink_changes}
 use Rattle.lfs_operations.proofs.Removed.{reports_again}
 use Rattle.lfs_operations.proofs.Unlinked.{can_unlink, has_unlinked, left_by_unlink, unlink_not_refused}
@@ -43,7 +43,7 @@ returns-clause-is_unlinked g c = by c.in_ok-change.field-0 c.in_ok-change.was
 
     by : (o : Outcome) → c.change.result ≡ Ok o → IsUnlinked t c.args.pair c.args.id c.change.new.self.kept
     by outcome.Done is = has_unlinked t c.args.pair c.args.id c.requires.can c.change.new.self.kept (subst (λ changes. IsChanged t c.args.pair changes c.change.new.self.kept) same (c.change.ensures.done is))
-    by outcome.Full is = absurd (unlink_not_refused t c.args.pair c.args.id c.requires.can c.change.new.self.kept (subst (λ changes. IsRefused t c.args.pair changes c.change.new.self.kept) same (c.change.ensures.full is)))
+    by outcome.Full is = absurd (unlink_not_refused t c.args.pair c.args.id c.requires.can c.change.new.self.kept (subst (λ changes. IsCommitRefused t c.args.pair changes c.change.new.self.kept) same (c.change.ensures.full is)))
 
 pub returns-clause-stops : goal.returns-clause-stops
 returns-clause-stops g c clean = LeavesOnly-weaker (λ left x. left_by_unlink c.args.thread.now.kept c.args.pair c.args.id c.requires.can left

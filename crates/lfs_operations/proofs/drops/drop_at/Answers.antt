@@ -6,7 +6,7 @@ use Rattle.lfs_pair.specs.declared.commits.Outcome.TheVariants as outcome
 use Rattle.lfs_pair.specs.ChangeView.{changes_view}
 use Rattle.lfs_model.specs.Changes.{Change}
 use Rattle.lfs_tag.specs.FieldsView.{move_view}
-use Rattle.lfs_thread.specs.Steps.{CanDrop, IsDropped, IsLeftByChange, IsRefused, made_in_thread}
+use Rattle.lfs_thread.specs.Steps.{CanDrop, IsDropped, IsLeftByChange, IsCommitRefused, made_in_thread}
 use Rattle.lfs_thread.specs.Kept.{Kept}
 use Rattle.lfs_model.specs.Slots.{Gstate}
 use Rattle.lfs_operations.specs.Dropping.{CanDropAt, HasDroppedBehind, taking_changes, with_tail_taken}
@@ -61,7 +61,7 @@ returns-clause-is_dropped g c = by c.in_ok-drop_next.field-0 c.in_ok-drop_next.w
     by outcome.Done is = has_dropped t (c.args.index - 1) state below made c.drop_next.new.self.kept
         (subst (λ changes. IsDropped t (c.args.index - 1) changes c.drop_next.new.self.kept) c.taking-changes.ensures.are (c.drop_next.ensures.done is))
     by outcome.Full is = absurd (drop_not_refused t (c.args.index - 1) state below made c.requires.can.fits c.drop_next.new.self.kept
-        (subst (λ changes. IsRefused t (c.args.index - 1) changes c.drop_next.new.self.kept) c.taking-changes.ensures.are (c.drop_next.ensures.full is)))
+        (subst (λ changes. IsCommitRefused t (c.args.index - 1) changes c.drop_next.new.self.kept) c.taking-changes.ensures.are (c.drop_next.ensures.full is)))
 
 pub returns-clause-stops : goal.returns-clause-stops
 returns-clause-stops g c clean =

@@ -6,8 +6,8 @@ use Rattle.lfs_model.specs.Changes.{Delete, PutMove}
 use Rattle.lfs_model.specs.LoggedContent.{IsAddress}
 use Rattle.lfs_model.specs.Slots.{Gstate}
 use Rattle.lfs_thread.specs.Device.{StopsLeave}
-use Rattle.lfs_thread.specs.Steps.{CanChange, IsChanged, IsLeftByChange, IsRefused}
-use Rattle.lfs_operations.specs.MoveEnds.{HasEnded, delta_without_move}
+use Rattle.lfs_thread.specs.Steps.{CanChange, IsChanged, IsLeftByChange, IsCommitRefused}
+use Rattle.lfs_operations.specs.MoveEnds.{HasEndedMoveAt, delta_without_move}
 use Rattle.lfs_operations.proofs.MovEnding.{can_end, end_not_refused, end_survives, has_ended}
 use Rattle.lfs_operations.proofs.Removed.{reports_again}
 use Rattle.lfs_operations.proofs.moves.end_in_place.Goals as goal
@@ -36,11 +36,11 @@ returns-clause-ended g c = by c.in_ok-change.field-0 c.in_ok-change.was
     address : IsAddress (delta_without_move c.args.thread.now.kept c.args.pair).pair
     address = subst (λ (m : Gstate). IsAddress m.pair) c.delta_without_move-state.ensures.delta c.delta_without_move-state.ensures.address
 
-    by : (o : Outcome) → c.change.result ≡ Ok o → HasEnded c.args.thread.now.kept c.args.pair c.args.id false c.change.new.self.kept
+    by : (o : Outcome) → c.change.result ≡ Ok o → HasEndedMoveAt c.args.thread.now.kept c.args.pair c.args.id false c.change.new.self.kept
     by outcome.Done is = has_ended c.args.thread.now.kept c.args.pair c.args.id c.requires.can address c.change.new.self.kept
         (subst (λ m. IsChanged c.args.thread.now.kept c.args.pair (Delete c.args.id ∷ PutMove m ∷ []) c.change.new.self.kept) c.delta_without_move-state.ensures.delta (c.change.ensures.done is))
     by outcome.Full is = absurd (end_not_refused c.args.thread.now.kept c.args.pair c.args.id c.requires.can address c.change.new.self.kept
-        (subst (λ m. IsRefused c.args.thread.now.kept c.args.pair (Delete c.args.id ∷ PutMove m ∷ []) c.change.new.self.kept) c.delta_without_move-state.ensures.delta (c.change.ensures.full is)))
+        (subst (λ m. IsCommitRefused c.args.thread.now.kept c.args.pair (Delete c.args.id ∷ PutMove m ∷ []) c.change.new.self.kept) c.delta_without_move-state.ensures.delta (c.change.ensures.full is)))
 
 pub returns-clause-survives : goal.returns-clause-survives
 returns-clause-survives g c =

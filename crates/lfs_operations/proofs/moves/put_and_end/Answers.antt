@@ -1,7 +1,7 @@
 use Rattle.std.proofs.Common.{ℕ, ap, ap₂, length, sym, subst, ◌∙◌, ◌-◌, arith, Err}
 use Rattle.std.proofs.lemmas.Result.{err_from_is_err_and}
 use Rattle.lfs_pair.specs.ChangeView.{changes_view}
-use Rattle.lfs_operations.specs.MoveEnds.{CanEnd, HasEnded, end_at}
+use Rattle.lfs_operations.specs.MoveEnds.{CanEndMoveAt, HasEndedMoveAt, end_at}
 use Rattle.lfs_operations.specs.MovingSteps.{ReportsInSteps, place_after}
 use Rattle.lfs_operations.proofs.MovReporting.{not_io, survives_both, reports_of_end, writes_at_end, writes_first}
 use Rattle.lfs_operations.proofs.OntoWritten.{end_within, put_within}
@@ -28,7 +28,7 @@ place_after-pair-requires g c =
 pub end_move-requires-clause-can : goal.end_move-requires-clause-can
 end_move-requires-clause-can g c =
     let ends = c.requires.ends c.put.new.thread.kept c.in_ok-put.ensures.is_put in
-    subst (λ i. CanEnd c.put.new.thread.kept i c.args.old_id c.args.goes)
+    subst (λ i. CanEndMoveAt c.put.new.thread.kept i c.args.old_id c.args.goes)
     (sym (c.place_after-pair.ensures ∙ ap₂ (λ m n. place_after c.args.old_pair c.args.new_pair (m - n)) c.len.ensures c.len-before.ensures)) ends.can
 
 pub returns-in_err-end_move-clause-errors : goal.returns-in_err-end_move-clause-errors
@@ -57,7 +57,7 @@ returns-clause-done g c =
     let mid = c.put.new.thread.kept in
     let new = c.end_move.new.thread.kept in
     let ends = c.requires.ends mid c.in_ok-put.ensures.is_put in
-    let ended = subst (λ (i : ℕ). HasEnded mid i c.args.old_id c.args.goes new) index c.in_ok-end_move.ensures.ended in
+    let ended = subst (λ (i : ℕ). HasEndedMoveAt mid i c.args.old_id c.args.goes new) index c.in_ok-end_move.ensures.ended in
     record {
       mid = mid;
       put = c.in_ok-put.ensures.is_put;

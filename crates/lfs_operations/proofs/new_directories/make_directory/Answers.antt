@@ -7,9 +7,9 @@ use Rattle.lfs_model.specs.Slots.{address_of}
 use Rattle.lfs_model.specs.Shown.{tree_in}
 use Rattle.lfs_thread.specs.Device.{StopsLeave, four_of, two_of}
 use Rattle.lfs_thread.specs.Kept.{State}
-use Rattle.lfs_thread.specs.Steps.{CanJoin, HasReportedBeside, IsJoined, IsLeftByJoin, Writes, pair_in}
-use Rattle.lfs_operations.specs.Changing.{IsLeftByPut, flying}
-use Rattle.lfs_operations.specs.Making.{FitsJoined, ReportsOfSteps, naming, threading, with_directory}
+use Rattle.lfs_thread.specs.Steps.{CanJoin, HasReportedBeside, IsThreadedIn, IsLeftByJoin, Writes, pair_in}
+use Rattle.lfs_operations.specs.Changing.{IsLeftByPut, map_with_two_in_flight}
+use Rattle.lfs_operations.specs.Making.{FitsJoined, ReportsOfMaking, name_directory_changes, thread_in_changes, with_directory}
 use Rattle.lfs_operations.proofs.MakingCounts.{no_room}
 use Rattle.lfs_operations.proofs.MakingReported.{reports_first, reports_second}
 use Rattle.lfs_operations.proofs.MakingWrites.{survives_both, survives_by, writes_both, writes_first}
@@ -28,7 +28,7 @@ returns-in_default-clause-survives g c = let room = c.requires.can.room in absur
 
 pub thread_behind-requires-clause-can : goal.thread_behind-requires-clause-can
 thread_behind-requires-clause-can g c =
-    subst (λ (s : State). CanJoin s.kept c.last_from-last.result (address_of c.in-Some.fresh) (threading s.kept c.last_from-last.result (address_of c.in-Some.fresh))) (sym c.in-Some.ensures.taken)
+    subst (λ (s : State). CanJoin s.kept c.last_from-last.result (address_of c.in-Some.fresh) (thread_in_changes s.kept c.last_from-last.result (address_of c.in-Some.fresh))) (sym c.in-Some.ensures.taken)
     (can_thread c.args.thread.now.kept c.args.pair c.args.id c.args.name.now c.requires.can c.last_from-last.result c.last_from-last.ensures (address_of c.in-Some.fresh) c.in-Some.ensures.were_free
     c.know_device.ensures.bytes c.know_device.ensures.count)
 
@@ -41,8 +41,8 @@ thread_behind-requires-clause-fits g c =
 pub returns-in_err-thread_behind-clause-errors : goal.returns-in_err-thread_behind-clause-errors
 returns-in_err-thread_behind-clause-errors g c =
     let p = err_from_is_err_and c.from_residual.result c.from_residual.ensures.1 in
-    subst (λ r. ReportsOfSteps c.args.thread.now c.thread_behind.new.thread r) (c.in_err-thread_behind.was ∙ ap Err (sym p.2) ∙ sym p.1)
-    (reports_first c.args.thread.now c.thread_behind.new.thread (flying c.args.thread.now.kept.map (address_of c.in-Some.fresh)) (two_of (address_of c.in-Some.fresh)) c.thread_behind.result c.thread_behind.ensures.failed
+    subst (λ r. ReportsOfMaking c.args.thread.now c.thread_behind.new.thread r) (c.in_err-thread_behind.was ∙ ap Err (sym p.2) ∙ sym p.1)
+    (reports_first c.args.thread.now c.thread_behind.new.thread (map_with_two_in_flight c.args.thread.now.kept.map (address_of c.in-Some.fresh)) (two_of (address_of c.in-Some.fresh)) c.thread_behind.result c.thread_behind.ensures.failed
     (subst (λ (s : State). HasReportedBeside (two_of (address_of c.in-Some.fresh)) s.kept c.thread_behind.new.thread.kept c.thread_behind.result) c.in-Some.ensures.taken c.thread_behind.ensures.errors))
 
 pub returns-in_err-thread_behind-clause-device : goal.returns-in_err-thread_behind-clause-device
@@ -55,9 +55,9 @@ returns-in_err-thread_behind-clause-survives g c can =
     let t = c.args.thread.now.kept in
     let last = c.last_from-last.result in
     let fresh = address_of c.in-Some.fresh in
-    survives_by t.disk t.history c.thread_behind.new.thread.kept.history (tree_in t.disk t.pairs) (with_directory t can.path c.args.name.now) (IsLeftByJoin (with_map t (flying t.map fresh)) last fresh (threading t last fresh))
+    survives_by t.disk t.history c.thread_behind.new.thread.kept.history (tree_in t.disk t.pairs) (with_directory t can.path c.args.name.now) (IsLeftByJoin (with_map t (map_with_two_in_flight t.map fresh)) last fresh (thread_in_changes t last fresh))
     (left_by_threading t c.args.pair c.args.id c.args.name.now can last c.last_from-last.ensures fresh c.in-Some.ensures.were_free c.know_device.ensures.bytes c.know_device.ensures.count)
-    (subst (λ (s : State). StopsLeave s.kept.history c.thread_behind.new.thread.kept.history (IsLeftByJoin s.kept last fresh (threading s.kept last fresh))) c.in-Some.ensures.taken c.thread_behind.ensures.stops)
+    (subst (λ (s : State). StopsLeave s.kept.history c.thread_behind.new.thread.kept.history (IsLeftByJoin s.kept last fresh (thread_in_changes s.kept last fresh))) c.in-Some.ensures.taken c.thread_behind.ensures.stops)
 
 pub name_directory-requires-clause-can : goal.name_directory-requires-clause-can
 name_directory-requires-clause-can g c =
@@ -67,7 +67,7 @@ name_directory-requires-clause-can g c =
     let fresh = address_of c.in-Some.fresh in
     can_enter t c.args.pair c.args.id c.args.name.now c.requires.can last c.last_from-last.ensures fresh c.in-Some.ensures.were_free c.know_device.ensures.bytes c.know_device.ensures.count m
     (threaded_now t c.args.pair c.args.id c.args.name.now c.requires.can last c.last_from-last.ensures fresh c.in-Some.ensures.were_free c.know_device.ensures.bytes c.know_device.ensures.count m
-    (subst (λ (s : State). IsJoined s.kept last fresh (threading s.kept last fresh) m) c.in-Some.ensures.taken c.in_ok-thread_behind.ensures.is_joined)
+    (subst (λ (s : State). IsThreadedIn s.kept last fresh (thread_in_changes s.kept last fresh) m) c.in-Some.ensures.taken c.in_ok-thread_behind.ensures.is_joined)
     (subst (λ (s : State). Writes (four_of (pair_in s.kept last).at fresh) s.kept m) c.in-Some.ensures.taken c.thread_behind.ensures.device))
     c.know_device-2.ensures.bytes
 
@@ -78,12 +78,12 @@ returns-in_err-name_directory-clause-errors g c =
     let last = c.last_from-last.result in
     let fresh = address_of c.in-Some.fresh in
     let h = threaded_now t c.args.pair c.args.id c.args.name.now c.requires.can last c.last_from-last.ensures fresh c.in-Some.ensures.were_free c.know_device.ensures.bytes c.know_device.ensures.count m
-    (subst (λ (s : State). IsJoined s.kept last fresh (threading s.kept last fresh) m) c.in-Some.ensures.taken c.in_ok-thread_behind.ensures.is_joined)
+    (subst (λ (s : State). IsThreadedIn s.kept last fresh (thread_in_changes s.kept last fresh) m) c.in-Some.ensures.taken c.in_ok-thread_behind.ensures.is_joined)
     (subst (λ (s : State). Writes (four_of (pair_in s.kept last).at fresh) s.kept m) c.in-Some.ensures.taken c.thread_behind.ensures.device) in
     let reported = subst (λ (s : State). HasReportedBeside (two_of fresh) s.kept m c.thread_behind.result) c.in-Some.ensures.taken c.thread_behind.ensures.errors in
     let from = c.from_residual-in_err-name_directory in
     let p = err_from_is_err_and from.result from.ensures.1 in
-    subst (λ r. ReportsOfSteps c.args.thread.now c.name_directory.new.thread r) (c.in_err-name_directory.was ∙ ap Err (sym p.2) ∙ sym p.1)
+    subst (λ r. ReportsOfMaking c.args.thread.now c.name_directory.new.thread r) (c.in_err-name_directory.was ∙ ap Err (sym p.2) ∙ sym p.1)
     (reports_second c.args.thread.now c.thread_behind.new.thread c.name_directory.new.thread c.name_directory.result
     (reported.no_fault (λ io. not_both c.thread_behind.result c.in_ok-thread_behind.field-0 Error.Io c.in_ok-thread_behind.was io))
     (λ none. room_left t c.args.pair c.args.id c.args.name.now c.requires.can last c.last_from-last.ensures fresh c.in-Some.ensures.were_free c.know_device.ensures.bytes c.know_device.ensures.count m h
@@ -98,7 +98,7 @@ returns-in_err-name_directory-clause-device g c =
     let fresh = address_of c.in-Some.fresh in
     let writes = subst (λ (s : State). Writes (four_of (pair_in s.kept last).at fresh) s.kept m) c.in-Some.ensures.taken c.thread_behind.ensures.device in
     let h = threaded_now t c.args.pair c.args.id c.args.name.now c.requires.can last c.last_from-last.ensures fresh c.in-Some.ensures.were_free c.know_device.ensures.bytes c.know_device.ensures.count m
-    (subst (λ (s : State). IsJoined s.kept last fresh (threading s.kept last fresh) m) c.in-Some.ensures.taken c.in_ok-thread_behind.ensures.is_joined) writes in
+    (subst (λ (s : State). IsThreadedIn s.kept last fresh (thread_in_changes s.kept last fresh) m) c.in-Some.ensures.taken c.in_ok-thread_behind.ensures.is_joined) writes in
     writes_both t c.args.pair last c.last_from-last.ensures fresh c.in-Some.ensures.were_free m c.name_directory.new.thread.kept writes h.map
     (at_still t c.args.pair c.args.id c.args.name.now c.requires.can last c.last_from-last.ensures fresh c.in-Some.ensures.were_free c.know_device.ensures.bytes c.know_device.ensures.count m h c.know_device-2.ensures.bytes)
     c.name_directory.ensures.device
@@ -111,15 +111,15 @@ returns-in_err-name_directory-clause-survives g c can =
     let fresh = address_of c.in-Some.fresh in
     let writes = subst (λ (s : State). Writes (four_of (pair_in s.kept last).at fresh) s.kept m) c.in-Some.ensures.taken c.thread_behind.ensures.device in
     let h = threaded_now t c.args.pair c.args.id c.args.name.now can last c.last_from-last.ensures fresh c.in-Some.ensures.were_free c.know_device.ensures.bytes c.know_device.ensures.count m
-    (subst (λ (s : State). IsJoined s.kept last fresh (threading s.kept last fresh) m) c.in-Some.ensures.taken c.in_ok-thread_behind.ensures.is_joined) writes in
+    (subst (λ (s : State). IsThreadedIn s.kept last fresh (thread_in_changes s.kept last fresh) m) c.in-Some.ensures.taken c.in_ok-thread_behind.ensures.is_joined) writes in
     let new = c.name_directory.new.thread.kept in
     let before = tree_in t.disk t.pairs in
     let after = with_directory t can.path c.args.name.now in
     survives_both t c.args.pair last c.last_from-last.ensures fresh c.in-Some.ensures.were_free m new before after writes c.name_directory.ensures.device
-    (survives_by t.disk t.history m.history before after (IsLeftByJoin (with_map t (flying t.map fresh)) last fresh (threading t last fresh))
+    (survives_by t.disk t.history m.history before after (IsLeftByJoin (with_map t (map_with_two_in_flight t.map fresh)) last fresh (thread_in_changes t last fresh))
     (left_by_threading t c.args.pair c.args.id c.args.name.now can last c.last_from-last.ensures fresh c.in-Some.ensures.were_free c.know_device.ensures.bytes c.know_device.ensures.count)
-    (subst (λ (s : State). StopsLeave s.kept.history m.history (IsLeftByJoin s.kept last fresh (threading s.kept last fresh))) c.in-Some.ensures.taken c.thread_behind.ensures.stops))
-    (survives_by t.disk m.history new.history before after (IsLeftByPut m c.args.pair (naming m c.args.pair c.args.id c.args.name.now fresh))
+    (subst (λ (s : State). StopsLeave s.kept.history m.history (IsLeftByJoin s.kept last fresh (thread_in_changes s.kept last fresh))) c.in-Some.ensures.taken c.thread_behind.ensures.stops))
+    (survives_by t.disk m.history new.history before after (IsLeftByPut m c.args.pair (name_directory_changes m c.args.pair c.args.id c.args.name.now fresh))
     (left_by_entering t c.args.pair c.args.id c.args.name.now can last c.last_from-last.ensures fresh c.in-Some.ensures.were_free c.know_device.ensures.bytes c.know_device.ensures.count m h c.know_device-2.ensures.bytes)
     c.name_directory.ensures.stops)
 
@@ -131,7 +131,7 @@ returns-clause-made g c can =
     let fresh = address_of c.in-Some.fresh in
     let writes = subst (λ (s : State). Writes (four_of (pair_in s.kept last).at fresh) s.kept m) c.in-Some.ensures.taken c.thread_behind.ensures.device in
     let h = threaded_now t c.args.pair c.args.id c.args.name.now can last c.last_from-last.ensures fresh c.in-Some.ensures.were_free c.know_device.ensures.bytes c.know_device.ensures.count m
-    (subst (λ (s : State). IsJoined s.kept last fresh (threading s.kept last fresh) m) c.in-Some.ensures.taken c.in_ok-thread_behind.ensures.is_joined) writes in
+    (subst (λ (s : State). IsThreadedIn s.kept last fresh (thread_in_changes s.kept last fresh) m) c.in-Some.ensures.taken c.in_ok-thread_behind.ensures.is_joined) writes in
     made_is t c.args.pair c.args.id c.args.name.now can last c.last_from-last.ensures fresh c.in-Some.ensures.were_free c.know_device.ensures.bytes c.know_device.ensures.count m h c.know_device-2.ensures.bytes
     c.name_directory.new.thread.kept c.in_ok-name_directory.ensures.is_put
 
@@ -143,7 +143,7 @@ returns-clause-alters g c =
     let fresh = address_of c.in-Some.fresh in
     let writes = subst (λ (s : State). Writes (four_of (pair_in s.kept last).at fresh) s.kept m) c.in-Some.ensures.taken c.thread_behind.ensures.device in
     let h = threaded_now t c.args.pair c.args.id c.args.name.now c.requires.can last c.last_from-last.ensures fresh c.in-Some.ensures.were_free c.know_device.ensures.bytes c.know_device.ensures.count m
-    (subst (λ (s : State). IsJoined s.kept last fresh (threading s.kept last fresh) m) c.in-Some.ensures.taken c.in_ok-thread_behind.ensures.is_joined) writes in
+    (subst (λ (s : State). IsThreadedIn s.kept last fresh (thread_in_changes s.kept last fresh) m) c.in-Some.ensures.taken c.in_ok-thread_behind.ensures.is_joined) writes in
     made_alters t c.args.pair c.args.id c.args.name.now c.requires.can last c.last_from-last.ensures fresh c.in-Some.ensures.were_free c.know_device.ensures.bytes c.know_device.ensures.count m h c.know_device-2.ensures.bytes
     c.name_directory.new.thread.kept c.in_ok-name_directory.ensures.is_put
 
@@ -155,7 +155,7 @@ returns-clause-device g c =
     let fresh = address_of c.in-Some.fresh in
     let writes = subst (λ (s : State). Writes (four_of (pair_in s.kept last).at fresh) s.kept m) c.in-Some.ensures.taken c.thread_behind.ensures.device in
     let h = threaded_now t c.args.pair c.args.id c.args.name.now c.requires.can last c.last_from-last.ensures fresh c.in-Some.ensures.were_free c.know_device.ensures.bytes c.know_device.ensures.count m
-    (subst (λ (s : State). IsJoined s.kept last fresh (threading s.kept last fresh) m) c.in-Some.ensures.taken c.in_ok-thread_behind.ensures.is_joined) writes in
+    (subst (λ (s : State). IsThreadedIn s.kept last fresh (thread_in_changes s.kept last fresh) m) c.in-Some.ensures.taken c.in_ok-thread_behind.ensures.is_joined) writes in
     writes_both t c.args.pair last c.last_from-last.ensures fresh c.in-Some.ensures.were_free m c.name_directory.new.thread.kept writes h.map
     (at_still t c.args.pair c.args.id c.args.name.now c.requires.can last c.last_from-last.ensures fresh c.in-Some.ensures.were_free c.know_device.ensures.bytes c.know_device.ensures.count m h c.know_device-2.ensures.bytes)
     c.name_directory.ensures.device
@@ -168,15 +168,15 @@ returns-clause-survives g c can =
     let fresh = address_of c.in-Some.fresh in
     let writes = subst (λ (s : State). Writes (four_of (pair_in s.kept last).at fresh) s.kept m) c.in-Some.ensures.taken c.thread_behind.ensures.device in
     let h = threaded_now t c.args.pair c.args.id c.args.name.now can last c.last_from-last.ensures fresh c.in-Some.ensures.were_free c.know_device.ensures.bytes c.know_device.ensures.count m
-    (subst (λ (s : State). IsJoined s.kept last fresh (threading s.kept last fresh) m) c.in-Some.ensures.taken c.in_ok-thread_behind.ensures.is_joined) writes in
+    (subst (λ (s : State). IsThreadedIn s.kept last fresh (thread_in_changes s.kept last fresh) m) c.in-Some.ensures.taken c.in_ok-thread_behind.ensures.is_joined) writes in
     let new = c.name_directory.new.thread.kept in
     let before = tree_in t.disk t.pairs in
     let after = with_directory t can.path c.args.name.now in
     survives_both t c.args.pair last c.last_from-last.ensures fresh c.in-Some.ensures.were_free m new before after writes c.name_directory.ensures.device
-    (survives_by t.disk t.history m.history before after (IsLeftByJoin (with_map t (flying t.map fresh)) last fresh (threading t last fresh))
+    (survives_by t.disk t.history m.history before after (IsLeftByJoin (with_map t (map_with_two_in_flight t.map fresh)) last fresh (thread_in_changes t last fresh))
     (left_by_threading t c.args.pair c.args.id c.args.name.now can last c.last_from-last.ensures fresh c.in-Some.ensures.were_free c.know_device.ensures.bytes c.know_device.ensures.count)
-    (subst (λ (s : State). StopsLeave s.kept.history m.history (IsLeftByJoin s.kept last fresh (threading s.kept last fresh))) c.in-Some.ensures.taken c.thread_behind.ensures.stops))
-    (survives_by t.disk m.history new.history before after (IsLeftByPut m c.args.pair (naming m c.args.pair c.args.id c.args.name.now fresh))
+    (subst (λ (s : State). StopsLeave s.kept.history m.history (IsLeftByJoin s.kept last fresh (thread_in_changes s.kept last fresh))) c.in-Some.ensures.taken c.thread_behind.ensures.stops))
+    (survives_by t.disk m.history new.history before after (IsLeftByPut m c.args.pair (name_directory_changes m c.args.pair c.args.id c.args.name.now fresh))
     (left_by_entering t c.args.pair c.args.id c.args.name.now can last c.last_from-last.ensures fresh c.in-Some.ensures.were_free c.know_device.ensures.bytes c.know_device.ensures.count m h c.know_device-2.ensures.bytes)
     c.name_directory.ensures.stops)
 
@@ -202,7 +202,7 @@ returns-in_err-name_directory-clause-stands g c memory can =
     let last = c.last_from-last.result in
     let fresh = address_of c.in-Some.fresh in
     let h = threaded_now t c.args.pair c.args.id c.args.name.now can last c.last_from-last.ensures fresh c.in-Some.ensures.were_free c.know_device.ensures.bytes c.know_device.ensures.count m
-    (subst (λ (s : State). IsJoined s.kept last fresh (threading s.kept last fresh) m) c.in-Some.ensures.taken c.in_ok-thread_behind.ensures.is_joined)
+    (subst (λ (s : State). IsThreadedIn s.kept last fresh (thread_in_changes s.kept last fresh) m) c.in-Some.ensures.taken c.in_ok-thread_behind.ensures.is_joined)
     (subst (λ (s : State). Writes (four_of (pair_in s.kept last).at fresh) s.kept m) c.in-Some.ensures.taken c.thread_behind.ensures.device) in
     let from = c.from_residual-in_err-name_directory in
     let p = err_from_is_err_and from.result from.ensures.1 in

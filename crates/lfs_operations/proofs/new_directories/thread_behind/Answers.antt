@@ -7,8 +7,8 @@ use Rattle.lfs_pair.specs.declared.commits.Outcome.{Outcome}
 use Rattle.lfs_pair.specs.declared.commits.Outcome.TheVariants as outcome
 use Rattle.lfs_tag.specs.FieldsView.{move_view}
 use Rattle.lfs_thread.specs.Device.{two_of}
-use Rattle.lfs_thread.specs.Steps.{IsJoined, made_in_thread, pair_in}
-use Rattle.lfs_operations.specs.Making.{threading}
+use Rattle.lfs_thread.specs.Steps.{IsThreadedIn, made_in_thread, pair_in}
+use Rattle.lfs_operations.specs.Making.{thread_in_changes}
 use Rattle.lfs_operations.proofs.MakingReported.{reported_again}
 use Rattle.lfs_operations.proofs.new_directories.thread_behind.Goals as goal
 
@@ -23,8 +23,8 @@ returns-clause-is_joined g c = by c.in_ok-thread_in.field-0 c.in_ok-thread_in.wa
     delta : move_view c.turned.result ≡ turned (pair_in c.args.thread.now.kept c.args.last).content.move
     delta = c.turned.ensures ∙ ap turned c.delta.ensures
 
-    by : (o : Outcome) → c.thread_in.result ≡ Ok o → IsJoined c.args.thread.now.kept c.args.last (address_of c.args.fresh) (threading c.args.thread.now.kept c.args.last (address_of c.args.fresh)) c.thread_in.new.self.kept
-    by outcome.Done is = subst (λ (m : Gstate). IsJoined c.args.thread.now.kept c.args.last (address_of c.args.fresh) (PutTail false (Some (address_of c.args.fresh)) ∷ PutMove m ∷ []) c.thread_in.new.self.kept) delta
+    by : (o : Outcome) → c.thread_in.result ≡ Ok o → IsThreadedIn c.args.thread.now.kept c.args.last (address_of c.args.fresh) (thread_in_changes c.args.thread.now.kept c.args.last (address_of c.args.fresh)) c.thread_in.new.self.kept
+    by outcome.Done is = subst (λ (m : Gstate). IsThreadedIn c.args.thread.now.kept c.args.last (address_of c.args.fresh) (PutTail false (Some (address_of c.args.fresh)) ∷ PutMove m ∷ []) c.thread_in.new.self.kept) delta
         (c.thread_in.ensures.done is)
     by outcome.Full is =
         let b = c.thread_in.ensures.full is in

@@ -3,7 +3,7 @@ use Rattle.lfs_model.specs.LoggedContent.{IsAddress}
 use Rattle.lfs_model.specs.Slots.{Gstate}
 use Rattle.lfs_thread.specs.Device.{StopsLeave}
 use Rattle.lfs_thread.specs.Steps.{IsChanged, IsLeftByChange}
-use Rattle.lfs_operations.specs.Deltas.{setting, delta_of}
+use Rattle.lfs_operations.specs.Deltas.{set_state_changes, delta_of}
 use Rattle.lfs_operations.proofs.RecoverEnd.{clear_survives, cleared, cleared_already, enough}
 use Rattle.lfs_model.specs.Thread.{blocks_of}
 use Rattle.lfs_operations.proofs.RecoverWrites.{two_fewer, writes_fewer, writes_none}
@@ -16,7 +16,7 @@ returns-in_err-set_state-clause-survives g c =
     let is : last + 1 ≡ length t.pairs = let e = enough t c.requires.can in let l = c.len-last.ensures in omega arith in
     clear_survives t c.requires.can last is c.set_state.new.thread.kept.history
     (subst (λ (x : Gstate). IsAddress (delta_of t last x).pair) c.none.ensures c.set_state.ensures.words)
-    (subst (λ (x : Gstate). StopsLeave t.history c.set_state.new.thread.kept.history (IsLeftByChange t last (setting t last x))) c.none.ensures c.set_state.ensures.stops)
+    (subst (λ (x : Gstate). StopsLeave t.history c.set_state.new.thread.kept.history (IsLeftByChange t last (set_state_changes t last x))) c.none.ensures c.set_state.ensures.stops)
 
 pub returns-in_ok-set_state-clause-is_cleared : goal.returns-in_ok-set_state-clause-is_cleared
 returns-in_ok-set_state-clause-is_cleared g c =
@@ -25,7 +25,7 @@ returns-in_ok-set_state-clause-is_cleared g c =
     let is : last + 1 ≡ length t.pairs = let e = enough t c.requires.can in let l = c.len-last.ensures in omega arith in
     cleared t c.requires.can last is c.set_state.new.thread.kept
     (subst (λ (x : Gstate). IsAddress (delta_of t last x).pair) c.none.ensures c.set_state.ensures.words)
-    (subst (λ (x : Gstate). IsChanged t last (setting t last x) c.set_state.new.thread.kept) c.none.ensures c.in_ok-set_state.ensures.is_set)
+    (subst (λ (x : Gstate). IsChanged t last (set_state_changes t last x) c.set_state.new.thread.kept) c.none.ensures c.in_ok-set_state.ensures.is_set)
 
 pub returns-in_ok-set_state-clause-survives : goal.returns-in_ok-set_state-clause-survives
 returns-in_ok-set_state-clause-survives g c =
@@ -34,7 +34,7 @@ returns-in_ok-set_state-clause-survives g c =
     let is : last + 1 ≡ length t.pairs = let e = enough t c.requires.can in let l = c.len-last.ensures in omega arith in
     clear_survives t c.requires.can last is c.set_state.new.thread.kept.history
     (subst (λ (x : Gstate). IsAddress (delta_of t last x).pair) c.none.ensures c.set_state.ensures.words)
-    (subst (λ (x : Gstate). StopsLeave t.history c.set_state.new.thread.kept.history (IsLeftByChange t last (setting t last x))) c.none.ensures c.set_state.ensures.stops)
+    (subst (λ (x : Gstate). StopsLeave t.history c.set_state.new.thread.kept.history (IsLeftByChange t last (set_state_changes t last x))) c.none.ensures c.set_state.ensures.stops)
 
 pub returns-else-state-clause-is_cleared : goal.returns-else-state-clause-is_cleared
 returns-else-state-clause-is_cleared g c = cleared_already c.args.thread.now.kept c.requires.can (ap (λ (x : Gstate). x.sync) (sym c.state.ensures) ∙ c.if-state.false)

@@ -6,8 +6,8 @@ use Rattle.lfs_model.specs.Thread.{blocks_of, gstate_of}
 use Rattle.lfs_tag.specs.FieldsView.{move_view}
 use Rattle.lfs_thread.specs.Device.{StopsLeave}
 use Rattle.lfs_thread.specs.Steps.{IsChanged, IsDropped, IsLeftByChange}
-use Rattle.lfs_operations.specs.Deltas.{delta_of, takes_delta, taking_over}
-use Rattle.lfs_operations.specs.EndingMove.{CanTakeSlot, taking, unset}
+use Rattle.lfs_operations.specs.Deltas.{delta_of, takes_delta, take_over_changes}
+use Rattle.lfs_operations.specs.EndingMove.{CanTakeSlot, take_slot_changes, gstate_without_move}
 use Rattle.lfs_operations.proofs.RecoverEnd.{reports_steps}
 use Rattle.lfs_operations.proofs.RecoverEnded.{can_take, ended_goes, ended_stays, survives_goes, survives_stays}
 use Rattle.lfs_operations.proofs.RecoverWrites.{two_fewer, writes_fewer}
@@ -17,7 +17,7 @@ pub take_slot-requires-clause-can : goal.take_slot-requires-clause-can
 take_slot-requires-clause-can g c =
     let t = c.args.thread.now.kept in
     let i = c.in-Some.index in
-    let e : move_view c.without_move-wanted.result ≡ unset (gstate_of t.pairs) = c.without_move-wanted.ensures ∙ ap unset c.state-state.ensures in
+    let e : move_view c.without_move-wanted.result ≡ gstate_without_move (gstate_of t.pairs) = c.without_move-wanted.ensures ∙ ap gstate_without_move c.state-state.ensures in
     let n : c.state-state.result.id ≡ (gstate_of t.pairs).id = ap (λ (x : Gstate). x.id) c.state-state.ensures in
     subst₂ (λ (k : ℕ) (x : Gstate). CanTakeSlot t i k x) (sym n) (sym e) (can_take t c.requires.can i c.in-Some.ensures.there)
 
@@ -43,18 +43,18 @@ pub returns-in_err-drop_behind-clause-survives : goal.returns-in_err-drop_behind
 returns-in_err-drop_behind-clause-survives g c =
     let t = c.args.thread.now.kept in
     let i = c.in-Some.index in
-    let e : move_view c.without_move-wanted.result ≡ unset (gstate_of t.pairs) = c.without_move-wanted.ensures ∙ ap unset c.state-state.ensures in
+    let e : move_view c.without_move-wanted.result ≡ gstate_without_move (gstate_of t.pairs) = c.without_move-wanted.ensures ∙ ap gstate_without_move c.state-state.ensures in
     survives_goes t c.requires.can i c.in-Some.ensures.there (sym c.is_alone.ensures ∙ c.if-is_alone.true) (subst (λ (x : Gstate). IsAddress (takes_delta t (i - 1) i x).pair) e c.drop_behind.ensures.words.0) c.drop_behind.ensures.words.1 c.drop_behind.new.thread.kept.history
-    (subst (λ (x : Gstate). StopsLeave t.history c.drop_behind.new.thread.kept.history (IsLeftByChange t (i - 1) (taking_over t (i - 1) i x))) e c.drop_behind.ensures.stops)
+    (subst (λ (x : Gstate). StopsLeave t.history c.drop_behind.new.thread.kept.history (IsLeftByChange t (i - 1) (take_over_changes t (i - 1) i x))) e c.drop_behind.ensures.stops)
 
 pub returns-in_err-take_slot-clause-survives : goal.returns-in_err-take_slot-clause-survives
 returns-in_err-take_slot-clause-survives g c =
     let t = c.args.thread.now.kept in
     let i = c.in-Some.index in
-    let e : move_view c.without_move-wanted.result ≡ unset (gstate_of t.pairs) = c.without_move-wanted.ensures ∙ ap unset c.state-state.ensures in
+    let e : move_view c.without_move-wanted.result ≡ gstate_without_move (gstate_of t.pairs) = c.without_move-wanted.ensures ∙ ap gstate_without_move c.state-state.ensures in
     let n : c.state-state.result.id ≡ (gstate_of t.pairs).id = ap (λ (x : Gstate). x.id) c.state-state.ensures in
     survives_stays t c.requires.can i c.in-Some.ensures.there (sym c.is_alone.ensures ∙ c.if-is_alone.false) (subst (λ (x : Gstate). IsAddress (delta_of t i x).pair) e c.take_slot.ensures.words) c.take_slot.new.thread.kept.history
-    (subst₂ (λ (k : ℕ) (x : Gstate). StopsLeave t.history c.take_slot.new.thread.kept.history (IsLeftByChange t i (taking t i k x))) n e c.take_slot.ensures.stops)
+    (subst₂ (λ (k : ℕ) (x : Gstate). StopsLeave t.history c.take_slot.new.thread.kept.history (IsLeftByChange t i (take_slot_changes t i k x))) n e c.take_slot.ensures.stops)
 
 pub returns-in_ok-drop_behind-clause-device : goal.returns-in_ok-drop_behind-clause-device
 returns-in_ok-drop_behind-clause-device g c =
@@ -68,32 +68,32 @@ pub returns-in_ok-drop_behind-clause-survives : goal.returns-in_ok-drop_behind-c
 returns-in_ok-drop_behind-clause-survives g c =
     let t = c.args.thread.now.kept in
     let i = c.in-Some.index in
-    let e : move_view c.without_move-wanted.result ≡ unset (gstate_of t.pairs) = c.without_move-wanted.ensures ∙ ap unset c.state-state.ensures in
+    let e : move_view c.without_move-wanted.result ≡ gstate_without_move (gstate_of t.pairs) = c.without_move-wanted.ensures ∙ ap gstate_without_move c.state-state.ensures in
     survives_goes t c.requires.can i c.in-Some.ensures.there (sym c.is_alone.ensures ∙ c.if-is_alone.true) (subst (λ (x : Gstate). IsAddress (takes_delta t (i - 1) i x).pair) e c.drop_behind.ensures.words.0) c.drop_behind.ensures.words.1 c.drop_behind.new.thread.kept.history
-    (subst (λ (x : Gstate). StopsLeave t.history c.drop_behind.new.thread.kept.history (IsLeftByChange t (i - 1) (taking_over t (i - 1) i x))) e c.drop_behind.ensures.stops)
+    (subst (λ (x : Gstate). StopsLeave t.history c.drop_behind.new.thread.kept.history (IsLeftByChange t (i - 1) (take_over_changes t (i - 1) i x))) e c.drop_behind.ensures.stops)
 
 pub returns-in_ok-take_slot-clause-survives : goal.returns-in_ok-take_slot-clause-survives
 returns-in_ok-take_slot-clause-survives g c =
     let t = c.args.thread.now.kept in
     let i = c.in-Some.index in
-    let e : move_view c.without_move-wanted.result ≡ unset (gstate_of t.pairs) = c.without_move-wanted.ensures ∙ ap unset c.state-state.ensures in
+    let e : move_view c.without_move-wanted.result ≡ gstate_without_move (gstate_of t.pairs) = c.without_move-wanted.ensures ∙ ap gstate_without_move c.state-state.ensures in
     let n : c.state-state.result.id ≡ (gstate_of t.pairs).id = ap (λ (x : Gstate). x.id) c.state-state.ensures in
     survives_stays t c.requires.can i c.in-Some.ensures.there (sym c.is_alone.ensures ∙ c.if-is_alone.false) (subst (λ (x : Gstate). IsAddress (delta_of t i x).pair) e c.take_slot.ensures.words) c.take_slot.new.thread.kept.history
-    (subst₂ (λ (k : ℕ) (x : Gstate). StopsLeave t.history c.take_slot.new.thread.kept.history (IsLeftByChange t i (taking t i k x))) n e c.take_slot.ensures.stops)
+    (subst₂ (λ (k : ℕ) (x : Gstate). StopsLeave t.history c.take_slot.new.thread.kept.history (IsLeftByChange t i (take_slot_changes t i k x))) n e c.take_slot.ensures.stops)
 
 pub returns-in_ok-drop_behind-clause-ended : goal.returns-in_ok-drop_behind-clause-ended
 returns-in_ok-drop_behind-clause-ended g c =
     let t = c.args.thread.now.kept in
     let i = c.in-Some.index in
-    let e : move_view c.without_move-wanted.result ≡ unset (gstate_of t.pairs) = c.without_move-wanted.ensures ∙ ap unset c.state-state.ensures in
+    let e : move_view c.without_move-wanted.result ≡ gstate_without_move (gstate_of t.pairs) = c.without_move-wanted.ensures ∙ ap gstate_without_move c.state-state.ensures in
     ended_goes t c.requires.can i c.in-Some.ensures.there (sym c.is_alone.ensures ∙ c.if-is_alone.true) (subst (λ (x : Gstate). IsAddress (takes_delta t (i - 1) i x).pair) e c.drop_behind.ensures.words.0) c.drop_behind.ensures.words.1 c.drop_behind.new.thread.kept
-    (subst (λ (x : Gstate). IsDropped t (i - 1) (taking_over t (i - 1) i x) c.drop_behind.new.thread.kept) e c.in_ok-drop_behind.ensures.is_dropped)
+    (subst (λ (x : Gstate). IsDropped t (i - 1) (take_over_changes t (i - 1) i x) c.drop_behind.new.thread.kept) e c.in_ok-drop_behind.ensures.is_dropped)
 
 pub returns-in_ok-take_slot-clause-ended : goal.returns-in_ok-take_slot-clause-ended
 returns-in_ok-take_slot-clause-ended g c =
     let t = c.args.thread.now.kept in
     let i = c.in-Some.index in
-    let e : move_view c.without_move-wanted.result ≡ unset (gstate_of t.pairs) = c.without_move-wanted.ensures ∙ ap unset c.state-state.ensures in
+    let e : move_view c.without_move-wanted.result ≡ gstate_without_move (gstate_of t.pairs) = c.without_move-wanted.ensures ∙ ap gstate_without_move c.state-state.ensures in
     let n : c.state-state.result.id ≡ (gstate_of t.pairs).id = ap (λ (x : Gstate). x.id) c.state-state.ensures in
     ended_stays t c.requires.can i c.in-Some.ensures.there (sym c.is_alone.ensures ∙ c.if-is_alone.false) (subst (λ (x : Gstate). IsAddress (delta_of t i x).pair) e c.take_slot.ensures.words) c.take_slot.new.thread.kept
-    (subst₂ (λ (k : ℕ) (x : Gstate). IsChanged t i (taking t i k x) c.take_slot.new.thread.kept) n e c.in_ok-take_slot.ensures.is_taken)
+    (subst₂ (λ (k : ℕ) (x : Gstate). IsChanged t i (take_slot_changes t i k x) c.take_slot.new.thread.kept) n e c.in_ok-take_slot.ensures.is_taken)

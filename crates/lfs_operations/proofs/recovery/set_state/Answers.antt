@@ -6,8 +6,8 @@ use Rattle.lfs_model.specs.Slots.{Gstate}
 use Rattle.lfs_tag.specs.FieldsView.{move_view}
 use Rattle.lfs_pair.specs.declared.commits.Outcome.{Outcome}
 use Rattle.lfs_pair.specs.declared.commits.Outcome.TheVariants as outcome
-use Rattle.lfs_thread.specs.Steps.{CanChange, IsChanged, IsRefused}
-use Rattle.lfs_operations.specs.Deltas.{setting, delta_of}
+use Rattle.lfs_thread.specs.Steps.{CanChange, IsChanged, IsCommitRefused}
+use Rattle.lfs_operations.specs.Deltas.{set_state_changes, delta_of}
 use Rattle.lfs_operations.proofs.RecoverDeltas.{can_set, set_not_refused}
 use Rattle.lfs_operations.proofs.Removed.{reports_again}
 use Rattle.lfs_operations.proofs.recovery.set_state.Goals as goal
@@ -28,11 +28,11 @@ returns-in_err-change-clause-errors g c =
 pub returns-clause-is_set : goal.returns-clause-is_set
 returns-clause-is_set g c = by c.in_ok-change.field-0 c.in_ok-change.was
   where
-    by : (o : Outcome) → c.change.result ≡ Ok o → IsChanged c.args.thread.now.kept c.args.index (setting c.args.thread.now.kept c.args.index (move_view c.args.wanted.now)) c.change.new.self.kept
+    by : (o : Outcome) → c.change.result ≡ Ok o → IsChanged c.args.thread.now.kept c.args.index (set_state_changes c.args.thread.now.kept c.args.index (move_view c.args.wanted.now)) c.change.new.self.kept
     by outcome.Done is = subst (λ (x : Gstate). IsChanged c.args.thread.now.kept c.args.index (PutMove x ∷ []) c.change.new.self.kept) (c.storable-state.ensures.same ∙ c.delta_for.ensures) (c.change.ensures.done is)
     by outcome.Full is = absurd (set_not_refused c.args.thread.now.kept c.args.index (move_view c.args.wanted.now) c.requires.can
         (subst (λ (x : Gstate). IsAddress x.pair) (c.storable-state.ensures.same ∙ c.delta_for.ensures) c.storable-state.ensures.words) c.change.new.self.kept
-        (subst (λ (x : Gstate). IsRefused c.args.thread.now.kept c.args.index (PutMove x ∷ []) c.change.new.self.kept) (c.storable-state.ensures.same ∙ c.delta_for.ensures) (c.change.ensures.full is)))
+        (subst (λ (x : Gstate). IsCommitRefused c.args.thread.now.kept c.args.index (PutMove x ∷ []) c.change.new.self.kept) (c.storable-state.ensures.same ∙ c.delta_for.ensures) (c.change.ensures.full is)))
 
 pub returns-in_err-change-clause-words : goal.returns-in_err-change-clause-words
 returns-in_err-change-clause-words g c = subst (λ (x : Gstate). IsAddress x.pair) (c.storable-state.ensures.same ∙ c.delta_for.ensures) c.storable-state.ensures.words

@@ -6,9 +6,9 @@ use Rattle.lfs_model.specs.Slots.{Gstate}
 use Rattle.lfs_tag.specs.FieldsView.{move_view}
 use Rattle.lfs_pair.specs.declared.commits.Outcome.{Outcome}
 use Rattle.lfs_pair.specs.declared.commits.Outcome.TheVariants as outcome
-use Rattle.lfs_thread.specs.Steps.{CanChange, IsChanged, IsRefused}
+use Rattle.lfs_thread.specs.Steps.{CanChange, IsChanged, IsCommitRefused}
 use Rattle.lfs_operations.specs.Deltas.{delta_of}
-use Rattle.lfs_operations.specs.EndingMove.{taking}
+use Rattle.lfs_operations.specs.EndingMove.{take_slot_changes}
 use Rattle.lfs_operations.proofs.RecoverDeltas.{can_take_slot, take_not_refused}
 use Rattle.lfs_operations.proofs.Removed.{reports_again}
 use Rattle.lfs_operations.proofs.recovery.take_slot.Goals as goal
@@ -29,8 +29,8 @@ returns-in_err-change-clause-errors g c =
 pub returns-clause-is_taken : goal.returns-clause-is_taken
 returns-clause-is_taken g c = by c.in_ok-change.field-0 c.in_ok-change.was
   where
-    by : (o : Outcome) → c.change.result ≡ Ok o → IsChanged c.args.thread.now.kept c.args.index (taking c.args.thread.now.kept c.args.index c.args.id (move_view c.args.wanted.now)) c.change.new.self.kept
+    by : (o : Outcome) → c.change.result ≡ Ok o → IsChanged c.args.thread.now.kept c.args.index (take_slot_changes c.args.thread.now.kept c.args.index c.args.id (move_view c.args.wanted.now)) c.change.new.self.kept
     by outcome.Done is = subst (λ (x : Gstate). IsChanged c.args.thread.now.kept c.args.index (Delete c.args.id ∷ PutMove x ∷ []) c.change.new.self.kept) (c.storable-state.ensures.same ∙ c.delta_for.ensures) (c.change.ensures.done is)
     by outcome.Full is = absurd (take_not_refused c.args.thread.now.kept c.args.index c.args.id (move_view c.args.wanted.now) c.requires.can
         (subst (λ (x : Gstate). IsAddress x.pair) (c.storable-state.ensures.same ∙ c.delta_for.ensures) c.storable-state.ensures.words) c.change.new.self.kept
-        (subst (λ (x : Gstate). IsRefused c.args.thread.now.kept c.args.index (Delete c.args.id ∷ PutMove x ∷ []) c.change.new.self.kept) (c.storable-state.ensures.same ∙ c.delta_for.ensures) (c.change.ensures.full is)))
+        (subst (λ (x : Gstate). IsCommitRefused c.args.thread.now.kept c.args.index (Delete c.args.id ∷ PutMove x ∷ []) c.change.new.self.kept) (c.storable-state.ensures.same ∙ c.delta_for.ensures) (c.change.ensures.full is)))

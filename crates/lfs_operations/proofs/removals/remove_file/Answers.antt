@@ -6,7 +6,7 @@ use Rattle.lfs_pair.specs.declared.commits.Outcome.TheVariants as outcome
 use Rattle.lfs_thread.specs.Device.{StopsLeave}
 use Rattle.lfs_operations.specs.Dropping.{CanDropAt, HasDroppedBehind, IsLeftByDrop}
 use Rattle.lfs_operations.specs.Editing.{slot_at}
-use Rattle.lfs_operations.specs.Removing.{IsRemoved, goes_whole}
+use Rattle.lfs_operations.specs.Removing.{IsRemoved, drops_pair}
 use Rattle.lfs_operations.proofs.Removed.{can_delete, gone, not_refused, remove_survives, reports_again}
 use Rattle.lfs_operations.proofs.Altered.{drop_alters}
 use Rattle.lfs_operations.proofs.RemovedWhole.{below_whole, can_drop_file, gone_whole, whole_survives}
@@ -46,7 +46,7 @@ returns-in_err-change-clause-survives g c take =
 pub returns-clause-is_removed : goal.returns-clause-is_removed
 returns-clause-is_removed g c take = by c.in_ok-change.field-0 c.in_ok-change.was
   where
-    stays : goes_whole c.args.thread.now.kept c.args.pair c.args.first ≡ false
+    stays : drops_pair c.args.thread.now.kept c.args.pair c.args.first ≡ false
     stays = sym c.goes_with_slot.ensures ∙ c.if-goes_with_slot.false
 
     by : (o : Outcome) → c.change.result ≡ Ok o → IsRemoved c.args.thread.now.kept c.change.new.self.kept take.can.path take.can.name (slot_at take.can).struct

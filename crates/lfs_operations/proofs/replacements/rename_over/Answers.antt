@@ -9,7 +9,7 @@ use Rattle.lfs_pair.specs.declared.commits.Outcome.{Outcome}
 use Rattle.lfs_pair.specs.declared.commits.Outcome.TheVariants as outcome
 use Rattle.lfs_thread.specs.Device.{StopsLeave, two_of}
 use Rattle.lfs_thread.specs.Kept.{Kept}
-use Rattle.lfs_thread.specs.Steps.{CanChange, IsChanged, IsLeftByChange, IsRefused, Writes, pair_in}
+use Rattle.lfs_thread.specs.Steps.{CanChange, IsChanged, IsLeftByChange, IsCommitRefused, Writes, pair_in}
 use Rattle.lfs_operations.specs.Renaming.{place_without, with_renamed}
 use Rattle.lfs_operations.specs.RenamingOver.{IsRenamedOver, rename_over_changes}
 use Rattle.lfs_operations.specs.RenamingSlots.{slot_changes}
@@ -84,7 +84,7 @@ returns-clause-renamed g c rename = by c.in_ok-change.field-0 c.in_ok-change.was
         let are = ap changes_view c.deref.ensures.value ∙ c.in_ok-changes.ensures
         ∙ ap₂ (λ m z. PutMove m ∷ Delete c.args.id ∷ Delete (place_without c.args.id c.args.place) ∷ slot_changes (place_without c.args.id c.args.place) c.args.name.now z) state c.in_ok-copy.ensures.copied in
         absurd (over_not_refused c.args.thread.now.kept c.args.pair c.args.id c.args.place c.args.name.now rename c.change.new.self.kept (refused_after_read c.args.thread.now.kept c.copy_at.new.thread.kept c.change.new.self.kept c.args.pair (rename_over_changes c.args.thread.now.kept c.args.pair c.args.id c.args.place c.args.name.now) c.copy_at.ensures.only
-        (subst (λ z. IsRefused c.copy_at.new.thread.kept c.args.pair z c.change.new.self.kept) are (c.change.ensures.full is))))
+        (subst (λ z. IsCommitRefused c.copy_at.new.thread.kept c.args.pair z c.change.new.self.kept) are (c.change.ensures.full is))))
 
 pub returns-clause-errors : goal.returns-clause-errors
 returns-clause-errors g c = over_done c.args.thread.now c.copy_at.new.thread c.change.new.self c.in_ok-change.field-0 tt c.change.result (Ok tt) c.in_ok-change.was refl c.copy_at.ensures.only

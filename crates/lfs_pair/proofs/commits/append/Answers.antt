@@ -1,7 +1,7 @@
 use Rattle.lfs_model.specs.Blocks.{block_in}
 use Rattle.lfs_model.specs.Commit.{entries_size, page_end}
 use Rattle.lfs_tag.specs.Builder.{padded_end}
-use Rattle.lfs_pair.specs.Writing.{Gets}
+use Rattle.lfs_pair.specs.Writing.{GetsCommit}
 use Rattle.lfs_pair.proofs.Anew.{nothing_more}
 use Rattle.std.proofs.Common.{rules, ◌≡◌, ◌+◌, sym, ap, ap₂, ◌∙◌, subst, arith, Some}
 use Rattle.lfs_device.specs.Shown.{disk_of}
@@ -12,7 +12,7 @@ use Rattle.lfs_model.proofs.Histories.{LeavesOnly-weaker}
 use Rattle.lfs_tag.specs.Builder.{Building}
 use Rattle.lfs_tag.specs.ContentView.{content_view}
 use Rattle.lfs_pair.specs.Pair.{address_in}
-use Rattle.lfs_pair.specs.Writing.{with_entries}
+use Rattle.lfs_pair.specs.Writing.{building_with_entries}
 use Rattle.lfs_pair.specs.Commit.{KeepsFirst, LeftWith}
 use Rattle.lfs_pair.specs.ChangeView.{changes_view}
 use Rattle.lfs_pair.proofs.Calls.{only_block}
@@ -45,7 +45,7 @@ program-requires-clause-in_device g c =
 pub returns-in_err-written-clause-stops : goal.returns-in_err-written-clause-stops
 returns-in_err-written-clause-stops g c =
     let can = c.requires.can in
-    let built = c.push_changes.ensures ∙ ap (with_entries (entries_of_changes (changes_view c.args.changes.now))) c.new-builder.ensures in
+    let built = c.push_changes.ensures ∙ ap (building_with_entries (entries_of_changes (changes_view c.args.changes.now))) c.new-builder.ensures in
     let ready = is_appending _ _ c.args.pair.now can.held can.new (changes_view c.args.changes.now) c.push_changes.new.builder can.address can.is_pair can.changed (ap (λ (b : Building). b.entries) built) (ap (λ (b : Building). b.revision) built) in
     let new : Some can.new ≡ Some (content_view c.args.content.now) = sym (made_is _ _ c.args.pair.now can.held (changes_view c.args.changes.now) can.is_pair ∙ can.changed) ∙ c.requires.made in
     LeavesOnly-weaker (λ disk left. subst (λ k. LeftWith (disk_of (g.D.BlockDevice.geometry c.args.dev.now) (g.D.BlockDevice.blocks c.args.dev.now)) (address_in c.args.pair.now) k disk) (some_same new)
@@ -56,13 +56,13 @@ returns-clause-done g c done =
     let can = c.requires.can in
     let device = c.in_ok-written.ensures.writes.device in
     let adds = c.in_ok-written.ensures.adds in
-    let built = c.push_changes.ensures ∙ ap (with_entries (entries_of_changes (changes_view c.args.changes.now))) c.new-builder.ensures in
+    let built = c.push_changes.ensures ∙ ap (building_with_entries (entries_of_changes (changes_view c.args.changes.now))) c.new-builder.ensures in
     let ready = is_appending _ _ c.args.pair.now can.held can.new (changes_view c.args.changes.now) c.push_changes.new.builder can.address can.is_pair can.changed (ap (λ (b : Building). b.entries) built) (ap (λ (b : Building). b.revision) built) in
     let new : Some can.new ≡ Some (content_view c.args.content.now) = sym (made_is _ _ c.args.pair.now can.held (changes_view c.args.changes.now) can.is_pair ∙ can.changed) ∙ c.requires.made in
     let holds = subst (λ k. IsIn (disk_of k (g.D.BlockDevice.blocks c.program.new.dev)) (address_in c.args.pair.now) c.args.pair.now.active (content_view c.args.content.now)) (sym device.geometry)
     (subst (IsIn (disk_of (g.D.BlockDevice.geometry c.args.dev.now) (g.D.BlockDevice.blocks c.program.new.dev)) (address_in c.args.pair.now) c.args.pair.now.active) (some_same new)
     (appended _ _ _ _ _ _ _ (g.D.BlockDevice.blocks c.program.new.dev) ready device.others adds.commit)) in
-    let gets = subst (λ (b : Building). Gets b (block_in (g.D.BlockDevice.blocks c.args.dev.now) c.args.pair.now.active) (block_in (g.D.BlockDevice.blocks c.program.new.dev) c.args.pair.now.active)) built adds.commit in
+    let gets = subst (λ (b : Building). GetsCommit b (block_in (g.D.BlockDevice.blocks c.args.dev.now) c.args.pair.now.active) (block_in (g.D.BlockDevice.blocks c.program.new.dev) c.args.pair.now.active)) built adds.commit in
     let ends = ap padded_end built ∙ ap (page_end c.geometry-geometry.result.page) (nothing_more (entries_size (entries_of_changes (changes_view c.args.changes.now)))) ∙ ap (λ (k : Geometry). page_end k.page (entries_size (entries_of_changes (changes_view c.args.changes.now)))) c.geometry-geometry.ensures in
     record {
       holds = now_holds _ _ _ c.written.result c.args.pair.now.active _ holds
@@ -91,7 +91,7 @@ returns-clause-done g c done =
 pub returns-clause-stops : goal.returns-clause-stops
 returns-clause-stops g c =
     let can = c.requires.can in
-    let built = c.push_changes.ensures ∙ ap (with_entries (entries_of_changes (changes_view c.args.changes.now))) c.new-builder.ensures in
+    let built = c.push_changes.ensures ∙ ap (building_with_entries (entries_of_changes (changes_view c.args.changes.now))) c.new-builder.ensures in
     let ready = is_appending _ _ c.args.pair.now can.held can.new (changes_view c.args.changes.now) c.push_changes.new.builder can.address can.is_pair can.changed (ap (λ (b : Building). b.entries) built) (ap (λ (b : Building). b.revision) built) in
     let new : Some can.new ≡ Some (content_view c.args.content.now) = sym (made_is _ _ c.args.pair.now can.held (changes_view c.args.changes.now) can.is_pair ∙ can.changed) ∙ c.requires.made in
     LeavesOnly-weaker (λ disk left. subst (λ k. LeftWith (disk_of (g.D.BlockDevice.geometry c.args.dev.now) (g.D.BlockDevice.blocks c.args.dev.now)) (address_in c.args.pair.now) k disk) (some_same new)

@@ -14,7 +14,7 @@ use Rattle.lfs_tag.specs.ContentView.{content_view}
 use Rattle.lfs_pair.specs.Pair.{address_in}
 use Rattle.lfs_pair.specs.ChangeView.{changes_view}
 use Rattle.lfs_pair.specs.Writing.{ChangesReading}
-use Rattle.lfs_pair.specs.Commit.{both_blocks, KeepsFirst, IsCompacted, NowHolds, LeftWith}
+use Rattle.lfs_pair.specs.Commit.{both_blocks, KeepsFirst, IsCompacted, PairHolds, LeftWith}
 use Rattle.lfs_pair.proofs.Changed.{ends_here, left_by_change, made_here}
 use Rattle.lfs_pair.proofs.commits.commit_in.Goals as goal
 
@@ -74,7 +74,7 @@ pub returns-clause-done : goal.returns-clause-done
 returns-clause-done g c done =
     let made = made_here _ _ c.args.pair.now c.requires.can.held c.args.block.now (changes_view c.args.changes.now) (Some (content_view c.in_ok-content.content)) c.requires.can.is_pair c.requires.block c.in_ok-content.ensures.content in
     let fits : FitsRaw (g.D.BlockDevice.geometry c.args.dev.now).block_size (g.D.BlockDevice.geometry c.args.dev.now).page (content_view c.in_ok-content.content) = search rules in
-    let holds = subst (λ p. NowHolds (disk_of (g.D.BlockDevice.geometry c.compact.new.dev) (g.D.BlockDevice.blocks c.compact.new.dev)) (g.D.BlockDevice.history c.compact.new.dev) (address_in p) c.compact.new.pair (content_view c.in_ok-content.content))
+    let holds = subst (λ p. PairHolds (disk_of (g.D.BlockDevice.geometry c.compact.new.dev) (g.D.BlockDevice.blocks c.compact.new.dev)) (g.D.BlockDevice.history c.compact.new.dev) (address_in p) c.compact.new.pair (content_view c.in_ok-content.content))
     (c.in_ok-append.ensures.no_room (ap Ok c.if-branch.false)).pair c.in_ok-compact.ensures.done.holds in
     let moved = subst (λ p. KeepsFirst (disk_of (g.D.BlockDevice.geometry c.append.new.dev) (g.D.BlockDevice.blocks c.append.new.dev)) (address_in p) (Some (content_view c.in_ok-content.content)) (disk_of (g.D.BlockDevice.geometry c.compact.new.dev) (g.D.BlockDevice.blocks c.compact.new.dev)))
     (c.in_ok-append.ensures.no_room (ap Ok c.if-branch.false)).pair c.in_ok-compact.ensures.done.first in

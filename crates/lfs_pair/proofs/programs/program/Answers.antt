@@ -5,7 +5,7 @@ use Rattle.lfs_model.specs.Blocks.{block_in, overwritten, programmed}
 use Rattle.lfs_model.specs.Geometry.{IsGeometry}
 use Rattle.lfs_model.specs.History.{AllUnprogrammed, erases, programs, reads}
 use Rattle.lfs_tag.specs.Builder.{padded_end}
-use Rattle.lfs_pair.specs.Writing.{Gets}
+use Rattle.lfs_pair.specs.Writing.{GetsCommit}
 use Rattle.lfs_model.proofs.Histories.{goes_on, LeavesOnly-reads, Stops-read, AllUnprogrammed-reads, AllUnprogrammed-part, unprogrammed-program, erases-reads, programs-reads}
 use Rattle.lfs_model.proofs.Overwrites.{SameBut-refl, block_in-programmed, take-overwritten}
 use Rattle.lfs_pair.proofs.Committed.{gets_commit, goes_into, left_in_block}
@@ -58,7 +58,7 @@ returns-clause-adds g c =
     ∙ ap (λ d. block_in (programmed d c.args.block c.args.at c.in_ok-pages.pages.now) c.args.block) c.next_bytes.ensures.device.same
     ∙ block_in-programmed old c.args.block c.args.at c.in_ok-pages.pages.now (omega (arith, shape.count, c.requires.in_device)) in
     record {
-      commit = subst (Gets c.args.builder (block_in old c.args.block)) (sym is) (gets_commit (goes_into c.in_ok-pages.ensures.commit c.in_ok-pages.ensures.size c.requires.goes size c.requires.ends end c.in_ok-next.ensures.bytes));
+      commit = subst (GetsCommit c.args.builder (block_in old c.args.block)) (sym is) (gets_commit (goes_into c.in_ok-pages.ensures.commit c.in_ok-pages.ensures.size c.requires.goes size c.requires.ends end c.in_ok-next.ensures.bytes));
       end_is = search rules;
       kept = ap (take c.args.at) is ∙ take-overwritten (block_in old c.args.block) c.args.at c.in_ok-pages.pages.now (omega (arith, size, c.requires.ends));
     }

@@ -8,7 +8,7 @@ use Rattle.lfs_model.proofs.Histories.{goes_on_by, EachSince-behind, LeavesOnly-
 use Rattle.lfs_tag.specs.ContentView.{content_view}
 use Rattle.lfs_pair.specs.Pair.{address_in}
 use Rattle.lfs_pair.specs.ChangeView.{changes_view}
-use Rattle.lfs_pair.specs.Commit.{IsActive, KeepsFirst, LeftWith, NowHolds}
+use Rattle.lfs_pair.specs.Commit.{IsActive, KeepsFirst, LeftWith, PairHolds}
 use Rattle.lfs_pair.proofs.Changed.{ends_here, is_active}
 use Rattle.lfs_pair.proofs.Stay.{IsActive-stays, NowHolds-stays, active_elsewhere}
 use Rattle.lfs_pair.proofs.Calls.{only_trans, only_wider}
@@ -64,9 +64,9 @@ returns-clause-splits g c =
       logged = ready.logged;
       cut = ready.parts.cut;
       is_cut = ready.parts.is_cut;
-      front = subst (NowHolds _ _ (address_in c.args.pair.now) c.compact.new.pair) ready.parts.front_is c.in_ok-compact.ensures.done.holds;
-      back = subst (NowHolds _ _ (address_of c.args.fresh) c.in_ok-fresh_pair.fresh_pair) ready.parts.back_is
-          (subst (λ k. NowHolds (disk_of k (g.D.BlockDevice.blocks c.compact.new.dev)) (g.D.BlockDevice.history c.compact.new.dev) (address_of c.args.fresh) c.in_ok-fresh_pair.fresh_pair (content_view c.in_ok-back.back)) (sym c.in_ok-compact.ensures.writes.device.geometry)
+      front = subst (PairHolds _ _ (address_in c.args.pair.now) c.compact.new.pair) ready.parts.front_is c.in_ok-compact.ensures.done.holds;
+      back = subst (PairHolds _ _ (address_of c.args.fresh) c.in_ok-fresh_pair.fresh_pair) ready.parts.back_is
+          (subst (λ k. PairHolds (disk_of k (g.D.BlockDevice.blocks c.compact.new.dev)) (g.D.BlockDevice.history c.compact.new.dev) (address_of c.args.fresh) c.in_ok-fresh_pair.fresh_pair (content_view c.in_ok-back.back)) (sym c.in_ok-compact.ensures.writes.device.geometry)
           (NowHolds-stays {disk = disk_of (g.D.BlockDevice.geometry c.write_fresh.new.dev) (g.D.BlockDevice.blocks c.write_fresh.new.dev)} (fresh_elsewhere ready.apart) c.in_ok-compact.ensures.writes.device.others c.in_ok-compact.ensures.writes.device.elsewhere fresh.holds));
       first = subst (λ k. KeepsFirst (disk_of (g.D.BlockDevice.geometry c.args.dev.now) (g.D.BlockDevice.blocks c.args.dev.now)) (address_in c.args.pair.now) (Some k) (disk_of (g.D.BlockDevice.geometry c.compact.new.dev) (g.D.BlockDevice.blocks c.compact.new.dev))) ready.parts.front_is
           (λ e h anew. c.in_ok-compact.ensures.done.first e (first_while_fresh (disk_of (g.D.BlockDevice.geometry c.args.dev.now) (g.D.BlockDevice.blocks c.args.dev.now)) (address_in c.args.pair.now) (address_of c.args.fresh) (g.D.BlockDevice.blocks c.write_fresh.new.dev) ready.apart fresh.writes.device.others e h) anew);

@@ -1,12 +1,12 @@
 use Rattle.std.proofs.Common.{◌∙◌, ap}
 use Rattle.std.specs.List.{position}
 use Rattle.std.specs.Prelude.{◌==◌}
-use Rattle.lfs_script_lines.proofs.Decimals.{colon-decimal, never_both, parted, same_value}
+use Rattle.lfs_script_lines.proofs.Decimals.{find_colon-decimal, never_both, parted, same_value}
 use Rattle.lfs_script_lines.proofs.words.star.Goals as goal
 
 pub returns-in_err-end-clause-counted : goal.returns-in_err-end-clause-counted
 returns-in_err-end-clause-counted c n rest small is =
-    absurd (never_both _ _ c.in_err-end.was (c.colon.ensures ∙ ap (position (λ b. b == 0x3a)) is ∙ colon-decimal n rest small))
+    absurd (never_both _ _ c.in_err-end.was (c.find_colon.ensures ∙ ap (position (λ b. b == 0x3a)) is ∙ find_colon-decimal n rest small))
 
 pub returns-in_err-times-clause-counted : goal.returns-in_err-times-clause-counted
 returns-in_err-times-clause-counted c n rest small is =

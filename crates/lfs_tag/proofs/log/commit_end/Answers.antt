@@ -1,6 +1,6 @@
 use Rattle.std.proofs.Common.{rules, ◌≡◌, sym, ap, ◌∙◌, Some, None, true, false}
 use Rattle.std.specs.Option.{option_map}
-use Rattle.lfs_model.specs.Log.{entry_at, is_checksum, closes, commit_at, past}
+use Rattle.lfs_model.specs.Log.{entry_at, is_checksum, closes, commit_at, end_of_entry}
 use Rattle.lfs_tag.specs.LogEntryView.{log_entry_view}
 use Rattle.lfs_model.proofs.Chains.{stop, commit_none, commit_closed, commit_refused, commit_on, stop-with}
 use Rattle.lfs_tag.proofs.log.commit_end.Goals as goal
@@ -29,7 +29,7 @@ loop-entry-preserved c =
     record {
       start = search rules;
       reached = search rules;
-      same = sym (stop-with e (commit_at c.args.block.now c.args.start (past c.loop-entry.at e) e.tag)) ∙ sym (ap (option_map stop) (commit_on c.args.block.now c.args.start c.loop-entry.at c.loop-entry.before e is other)) ∙ c.loop-entry.invariant.same;
+      same = sym (stop-with e (commit_at c.args.block.now c.args.start (end_of_entry c.loop-entry.at e) e.tag)) ∙ sym (ap (option_map stop) (commit_on c.args.block.now c.args.start c.loop-entry.at c.loop-entry.before e is other)) ∙ c.loop-entry.invariant.same;
     }
 
 pub returns-clause-value : goal.returns-clause-value

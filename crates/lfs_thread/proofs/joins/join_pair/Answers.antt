@@ -9,7 +9,7 @@ use Rattle.lfs_pair.specs.ChangeView.{changes_view}
 use Rattle.lfs_pair.specs.Pair.{address_in}
 use Rattle.lfs_thread.specs.Device.{ReportsErrors, four_of, two_of}
 use Rattle.lfs_thread.specs.Kept.{Header, IsKept, disk_on, kept_view, kept_view_on}
-use Rattle.lfs_thread.specs.Steps.{IsBeside}
+use Rattle.lfs_thread.specs.Steps.{IsJoinRefused}
 use Rattle.lfs_thread.proofs.CachedLogs.{current_but_two}
 use Rattle.lfs_thread.proofs.Changing.{at_there}
 use Rattle.lfs_thread.specs.CachedLog.{read_if_missing}
@@ -107,7 +107,7 @@ returns-in-Full-clause-full g c _ =
     let e = c.in_ok-fresh_pair.ensures in
     let full = (c.in_ok-outcome.ensures.full (ap Ok c.in-Full.is)).device in
     let items = c.remove.ensures.items ∙ ap (λ (z : List Header). remove z (c.args.index + 1)) c.in_ok-insert.ensures.items ∙ unplaced _ _ _ _ a in
-    subst (λ (z : List Header). IsBeside (kept_view_on g.D.BlockDevice c.args.device.now c.args.pairs.now.items c.args.map.now) c.args.index (address_of c.args.fresh) (changes_view c.args.changes.now) (kept_view (disk_on g.D.BlockDevice c.commit_to.new.device) (g.D.BlockDevice.history c.commit_to.new.device) z c.args.map.now)) (sym items)
+    subst (λ (z : List Header). IsJoinRefused (kept_view_on g.D.BlockDevice c.args.device.now c.args.pairs.now.items c.args.map.now) c.args.index (address_of c.args.fresh) (changes_view c.args.changes.now) (kept_view (disk_on g.D.BlockDevice c.commit_to.new.device) (g.D.BlockDevice.history c.commit_to.new.device) z c.args.map.now)) (sym items)
     (is_beside _ _ _ _ _ _ c.args.pairs.now.items c.args.map.now c.args.index c.index.result.now (address_of c.args.fresh) _ e.device.only.geometry a c.requires.kept c.requires.can e.device.only.others e.device.only.elsewhere _ (g.D.BlockDevice.history c.commit_to.new.device) (ap₂ disk_of full.geometry full.same) (c.in_ok-outcome.ensures.full (ap Ok c.in-Full.is)).completed)
 
 pub returns-in-Full-clause-device : goal.returns-in-Full-clause-device

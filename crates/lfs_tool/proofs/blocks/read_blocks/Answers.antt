@@ -1,7 +1,7 @@
 use Rattle.std.proofs.Common.{◌≡◌, ◌∙◌, ◌*◌, ap, arith, length, refl, subst, sym}
 use Rattle.std.proofs.lemmas.List.Elements.{All-nil}
 use Rattle.lfs_tool.specs.ExcerptBlocks.{HaveSize}
-use Rattle.lfs_tool.specs.Blocks.{Fills, IsPushed}
+use Rattle.lfs_tool.specs.Blocks.{Fills, IsExcerptPushed}
 use Rattle.lfs_tool.proofs.BlockReads.{HasRead, comes_closer, grown, has_read_more, has_read_none, lent, pushed_count, read_ended_in, read_in_part, read_past, read_to_end, read_too_many, sizes_more}
 use Rattle.lfs_tool.proofs.blocks.read_blocks.Goals as goal
 
@@ -26,7 +26,7 @@ loop-alloc-preserved g c =
     let now = c.loop-alloc.invariant in
     let same = c.fill.ensures.len ∙ ap length c.deref_mut.ensures.value in
     let back = lent block.len block.items c.fill.new.buffer block.ok.0 same in
-    let pushed = subst (λ b. IsPushed b c.loop-alloc.blocks.items c.push_block.new.blocks.items) (c.deref.ensures.value ∙ back) c.in_ok-push_block.ensures.pushed in
+    let pushed = subst (λ b. IsExcerptPushed b c.loop-alloc.blocks.items c.push_block.new.blocks.items) (c.deref.ensures.value ∙ back) c.in_ok-push_block.ensures.pushed in
     let count = pushed_count c.fill.new.buffer c.loop-alloc.blocks.items c.push_block.new.blocks.items pushed in
     let full = c.if-n-size.false in
     record {

@@ -1,12 +1,12 @@
 use Rattle.std.proofs.Common.{◌≡◌, ◌+◌, ◌-◌, ◌*◌, ◌≤◌, length}
 use Rattle.lfs_tool.specs.ExcerptBlocks.{HaveSize}
-use Rattle.lfs_tool.specs.ExcerptView.{size_of}
+use Rattle.lfs_tool.specs.ExcerptView.{cutter_block_size}
 use Rattle.lfs_tool.proofs.BlockReads.{HasRead}
 use Rattle.lfs_tool.proofs.blocks.read_blocks.Given as goal
 
 abbrev pub invariant-loop-alloc : goal.invariant-loop-alloc
 invariant-loop-alloc g l = record {
-  cuts : size_of l.cutter ≡ l.block_size;
+  cuts : cutter_block_size l.cutter ≡ l.block_size;
   room : length l.block.items ≡ l.block_size;
   sizes : HaveSize l.block_size l.blocks.items;
   within : l.block_size * length l.blocks.items ≤ 268435456 + l.block_size;

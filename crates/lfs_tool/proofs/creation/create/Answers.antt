@@ -1,7 +1,7 @@
 use Rattle.std.proofs.Common.{List, ◌≡◌, ◌∙◌, subst, sym}
 use Rattle.std.proofs.lemmas.Result.{IfOk-weaker}
 use Rattle.lfs_tool_folders.specs.declared.entries.SourceEntry.{SourceEntry}
-use Rattle.lfs_tool.specs.Made.{IsRefused}
+use Rattle.lfs_tool.specs.MadeImages.{RefusesEntries}
 use Rattle.lfs_tool.proofs.Writers.{reports_written}
 use Rattle.lfs_tool.proofs.ImagesMade.{made, passed}
 use Rattle.lfs_tool.proofs.Walking.{carry_over}
@@ -30,6 +30,6 @@ pub returns-clause-refused : goal.returns-clause-refused
 returns-clause-refused g c = λ e is not_memory.
     let entries = c.in_ok-entries.entries.items in
     let error : c.in-Err.error ≡ e = cc in
-    let refused : IsRefused c.args.geometry entries c.in-Err.error =
-    subst (λ (es : List SourceEntry). IsRefused c.args.geometry es c.in-Err.error) c.as_slice.ensures.value (c.in-Err.ensures.err (λ x. not_memory (sym error ∙ x))) in
-    (entries, (c.in_ok-entries.ensures.entries, (carry_over (g.S.Source.shown c.args.source.now) entries c.in_ok-entries.ensures.entries, subst (IsRefused c.args.geometry entries) error refused)))
+    let refused : RefusesEntries c.args.geometry entries c.in-Err.error =
+    subst (λ (es : List SourceEntry). RefusesEntries c.args.geometry es c.in-Err.error) c.as_slice.ensures.value (c.in-Err.ensures.err (λ x. not_memory (sym error ∙ x))) in
+    (entries, (c.in_ok-entries.ensures.entries, (carry_over (g.S.Source.shown c.args.source.now) entries c.in_ok-entries.ensures.entries, subst (RefusesEntries c.args.geometry entries) error refused)))

@@ -1,4 +1,4 @@
-use Rattle.lfs_fs.specs.Held.{system_state_of}
+use Rattle.lfs_fs.specs.SessionView.{system_state_of}
 use Rattle.lfs_tool.proofs.ImagesMade.{left, refused}
 use Rattle.lfs_tool.proofs.creation.make.Goals as goal
 

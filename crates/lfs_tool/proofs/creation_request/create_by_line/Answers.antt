@@ -3,14 +3,14 @@ use Rattle.std.proofs.lemmas.Result.{IfOk-weaker}
 use Rattle.lfs_device.specs.declared.geometry.Geometry.{Geometry}
 use Rattle.lfs_model.specs.Geometry.{IsGeometry}
 use Rattle.lfs_tool_line.specs.declared.line.Line.{Line}
-use Rattle.lfs_tool.specs.Asked.{HasNoGeometry, HasSizes}
+use Rattle.lfs_tool.specs.RequestedSizes.{HasNoGeometry, HasSizesOfLine}
 use Rattle.lfs_tool.proofs.creation_request.create_by_line.Goals as goal
 
 sized : (line : Line) (g new : Geometry) → (g.block_size ≡ line.block_size) × (g.page ≡ line.page)
-    → (g.block_count ≡ line.size / line.block_size) × (line.size % line.block_size ≡ 0) → new ≡ record g { order = line.order } → HasSizes line new
-sized line g new sizes count is = subst (HasSizes line) (sym is) (record { block_size = sizes.0; page = sizes.1; order = refl; block_count = count.0; whole = count.1 })
+    → (g.block_count ≡ line.size / line.block_size) × (line.size % line.block_size ≡ 0) → new ≡ record g { order = line.order } → HasSizesOfLine line new
+sized line g new sizes count is = subst (HasSizesOfLine line) (sym is) (record { block_size = sizes.0; page = sizes.1; order = refl; block_count = count.0; whole = count.1 })
 
-valid_sizes : (line : Line) (g : Geometry) → HasSizes line g → IsGeometry line.block_size line.page (line.size / line.block_size)
+valid_sizes : (line : Line) (g : Geometry) → HasSizesOfLine line g → IsGeometry line.block_size line.page (line.size / line.block_size)
 valid_sizes line g s = rw (← s.block_count, ← s.block_size, ← s.page) g.valid
 
 pub returns-in-Ok-clause-ok : goal.returns-in-Ok-clause-ok

@@ -8,9 +8,9 @@ returns-then-len-gt-IMAGE_MAX-clause-checked g c =
     let len = c.len.ensures in
     let again = c.len-then-len-gt-IMAGE_MAX.ensures in
     let more = c.if-len-gt-IMAGE_MAX.true in
-    refused_read (g.R.Reader.remaining c.args.image.now) c.args.block_size c.args.page items c.given_of-given.result c.refused_as.result c.in_ok-bytes.ensures.bytes (omega (arith, len, more))
-    (c.given_of-given.ensures items (omega (arith, again)))
-    (λ bytes long none given. c.refused_as.ensures c.args.block_size c.args.page bytes (λ is. absurd (none is)) tt none given)
+    refused_read (g.R.Reader.remaining c.args.image.now) c.args.block_size c.args.page items c.given_sizes-given.result c.refusal_of_image.result c.in_ok-bytes.ensures.bytes (omega (arith, len, more))
+    (c.given_sizes-given.ensures items (omega (arith, again)))
+    (λ bytes long none given. c.refusal_of_image.ensures c.args.block_size c.args.page bytes (λ is. absurd (none is)) tt none given)
 
 pub returns-clause-checked : goal.returns-clause-checked
 returns-clause-checked g c =

@@ -1,5 +1,5 @@
 use Rattle.std.proofs.Common.{arith}
-use Rattle.lfs_tool.specs.HeldView.{pairs_view}
+use Rattle.lfs_tool.specs.OwnedSlotView.{pairs_view}
 use Rattle.lfs_tool.proofs.HeldPlaces.{pair_there}
 use Rattle.lfs_tool.proofs.heads.chain_fault.Goals as goal
 

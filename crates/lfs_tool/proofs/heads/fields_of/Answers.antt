@@ -1,6 +1,6 @@
 use Rattle.std.proofs.Common.{subst, sym}
 use Rattle.lfs_model.specs.Slots.{Inline}
-use Rattle.lfs_tool.specs.Broken.{HasFields}
+use Rattle.lfs_tool.specs.BrokenRules.{HasFields}
 use Rattle.lfs_lookup.specs.Items.{structure_view}
 use Rattle.lfs_tool.proofs.heads.fields_of.Goals as goal
 

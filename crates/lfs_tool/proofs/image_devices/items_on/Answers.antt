@@ -6,13 +6,13 @@ use Rattle.lfs_model.specs.Disk.{Disk}
 use Rattle.lfs_model.specs.History.{OnlyReads, faults}
 use Rattle.lfs_model.proofs.Histories.{goes_on_by}
 use Rattle.lfs_model.specs.View.{IsAccepted}
-use Rattle.lfs_lookup.specs.Walk.{IsWalked, founds_view}
+use Rattle.lfs_lookup.specs.Walk.{IsWalked, tree_items_view}
 use Rattle.lfs_tool.proofs.image_devices.items_on.Goals as goal
 
 pub returns-in-Ok-clause-items : goal.returns-in-Ok-clause-items
 returns-in-Ok-clause-items g c =
     let disk = disk_on g.D.BlockDevice c.args.device in
-    let places = founds_view c.in-Ok.items.items in
+    let places = tree_items_view c.in-Ok.items.items in
     let m = c.in_ok-thread.ensures.mounted in
     let e = c.in-Ok.ensures in
     let same = ap (λ (d : Disk). ordered d.order disk) (sym e.reading.only.disk) in

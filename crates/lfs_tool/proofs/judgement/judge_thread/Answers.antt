@@ -4,7 +4,7 @@ use Rattle.lfs_device.specs.Shown.{disk_of, ordered}
 use Rattle.lfs_device.specs.declared.ram.RamDevice.{RamDevice}
 use Rattle.lfs_model.specs.Disk.{Disk}
 use Rattle.lfs_model.specs.declared.order.NameOrder.TheVariants.{LongerFirst}
-use Rattle.lfs_tool.specs.Summary.{HasOrders, IsAcceptedIn}
+use Rattle.lfs_tool.specs.ImageSummaries.{HasOrders, IsAcceptedIn}
 use Rattle.lfs_tool.proofs.Judged.{orders_alike}
 use Rattle.lfs_tool.proofs.judgement.judge_thread.Goals as goal
 

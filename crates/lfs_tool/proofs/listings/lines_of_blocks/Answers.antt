@@ -2,7 +2,7 @@ use Rattle.std.proofs.Common.{subst, sym}
 use Rattle.std.proofs.lemmas.Result.{IfErr-weaker, IfOk-weaker}
 use Rattle.lfs_device.specs.Shown.{disk_of as shown}
 use Rattle.lfs_tool.specs.ExcerptView.{excerpt_blocks, geometry_of}
-use Rattle.lfs_tool.specs.Listed.{Refuses}
+use Rattle.lfs_tool.specs.Listings.{RefusesToList}
 use Rattle.lfs_tool.proofs.Excerpts.{kind_not_mounted, lists_by_excerpt, no_image_of_blocks, refuses_by_excerpt}
 use Rattle.lfs_tool.proofs.listings.lines_of_blocks.Goals as goal
 
@@ -23,7 +23,7 @@ returns-in-Ok-clause-err c =
 pub returns-in-Err-clause-err : goal.returns-in-Err-clause-err
 returns-in-Err-clause-err c = λ bytes are.
     let e = c.in-Err.ensures.err in
-    subst (Refuses c.args.block_size c.args.page bytes) (sym e.0) (no_image_of_blocks c.args.block_size c.args.page bytes c.args.blocks.items are e.1)
+    subst (RefusesToList c.args.block_size c.args.page bytes) (sym e.0) (no_image_of_blocks c.args.block_size c.args.page bytes c.args.blocks.items are e.1)
 
 pub returns-in-Ok-clause-kinds : goal.returns-in-Ok-clause-kinds
 returns-in-Ok-clause-kinds c =

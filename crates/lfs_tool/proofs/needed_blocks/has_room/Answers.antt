@@ -3,7 +3,7 @@ use Rattle.lfs_device.specs.declared.error.Error.TheVariants.{NoMemory, NoSpace}
 use Rattle.lfs_device.specs.declared.geometry.Geometry.{Geometry}
 use Rattle.lfs_model.specs.declared.order.NameOrder.TheVariants.{LongerFirst}
 use Rattle.lfs_tool_line.specs.declared.line.Line.{Line}
-use Rattle.lfs_tool.specs.Made.{IsRefused}
+use Rattle.lfs_tool.specs.MadeImages.{RefusesEntries}
 use Rattle.lfs_tool.specs.Needed.{HasCount}
 use Rattle.lfs_tool.proofs.needed_blocks.has_room.Goals as goal
 
@@ -26,5 +26,5 @@ pub returns-in-Err-NoSpace-clause-small : goal.returns-in-Err-NoSpace-clause-sma
 returns-in-Err-NoSpace-clause-small c = λ _. record {
   geometry = c.ordered.result;
   sizes = sized c.args.line.now c.args.count c.in_ok-geometry.geometry c.ordered.result c.in_ok-geometry.ensures c.ordered.ensures;
-  refused = subst (λ e. e ≢ NoMemory → IsRefused c.ordered.result c.args.entries.now e) c.in-Err-NoSpace.field-0-is c.in-Err-NoSpace.ensures.err no_memory;
+  refused = subst (λ e. e ≢ NoMemory → RefusesEntries c.ordered.result c.args.entries.now e) c.in-Err-NoSpace.field-0-is c.in-Err-NoSpace.ensures.err no_memory;
 }

@@ -1,6 +1,6 @@
 use Rattle.std.proofs.Common.{◌+◌, ◌-◌, ◌<◌, ◌&&◌, ◌∙◌, ap, ap₂, arith, cond, length, subst, sym}
 use Rattle.lfs_model.specs.Thread.{is_hard, leads_on, meets_superblock, superblock_or, superblocks_before}
-use Rattle.lfs_tool.specs.HeldView.{pair_view}
+use Rattle.lfs_tool.specs.OwnedSlotView.{pair_view}
 use Rattle.lfs_tool.proofs.RootPlaces.{one_more, seen_from, stays_inside}
 use Rattle.lfs_tool.proofs.roots.root_of.Goals as goal
 

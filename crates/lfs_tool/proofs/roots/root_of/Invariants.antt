@@ -1,6 +1,6 @@
 use Rattle.std.proofs.Common.{◌≡◌, ◌+◌, ◌≤◌, ◌<◌, drop, length}
 use Rattle.lfs_model.specs.Thread.{meets_superblock, superblocks_before}
-use Rattle.lfs_tool.specs.HeldView.{pairs_view}
+use Rattle.lfs_tool.specs.OwnedSlotView.{pairs_view}
 use Rattle.lfs_tool.proofs.roots.root_of.Given as goal
 
 abbrev pub invariant-loop-index : goal.invariant-loop-index

@@ -3,7 +3,7 @@ use Rattle.std.proofs.lemmas.Result.{IfOk-weaker}
 use Rattle.std.specs.Prelude.{IfSome}
 use Rattle.lfs_device.specs.Shown.{disk_of}
 use Rattle.lfs_tool.specs.Device.{HasSizes}
-use Rattle.lfs_tool.specs.Reading.{IsFollowed}
+use Rattle.lfs_tool.specs.PairReads.{IsFollowed}
 use Rattle.lfs_tool.proofs.HeldPlaces.{some_weaker}
 use Rattle.lfs_tool.proofs.Looking.{quiet, seen}
 use Rattle.lfs_tool.proofs.searches.find.Goals as goal

@@ -3,8 +3,8 @@ use Rattle.std.specs.Prelude.{IfSome}
 use Rattle.lfs_model.specs.Disk.{Disk}
 use Rattle.lfs_model.specs.Slots.{address_of}
 use Rattle.lfs_model.specs.Thread.{Pair}
-use Rattle.lfs_tool.specs.Broken.{IsBroken, IsEntrySlot}
-use Rattle.lfs_tool.specs.HeldView.{held_view, pair_view}
+use Rattle.lfs_tool.specs.BrokenRules.{BreaksRule, IsEntrySlot}
+use Rattle.lfs_tool.specs.OwnedSlotView.{owned_slot_view, pair_view}
 use Rattle.lfs_tool.specs.declared.findings.Finding.{Finding}
 use Rattle.lfs_tool.proofs.HeldPlaces.{further_on, slot_there}
 use Rattle.lfs_tool.proofs.slots.pair_fault.Goals as goal
@@ -12,7 +12,7 @@ use Rattle.lfs_tool.proofs.slots.pair_fault.Goals as goal
 pub returns-in-Some : goal.returns-in-Some
 returns-in-Some c disk ps index there behind =
     let slots = c.args.pair.now.slots in
-    let holds : Finding → Type 0 = λ f. (disk : Disk) (ps : List Pair) → IsEntrySlot ps (address_of c.args.pair.now.at) c.loop-id.id (held_view c.index.result.now) → IsBroken disk ps f in
+    let holds : Finding → Type 0 = λ f. (disk : Disk) (ps : List Pair) → IsEntrySlot ps (address_of c.args.pair.now.at) c.loop-id.id (owned_slot_view c.index.result.now) → BreaksRule disk ps f in
     let found = subst (λ o. IfSome o holds) c.in-Some.is c.in_ok-finding.ensures in
     let end = c.len-id-end.ensures in
     let test = c.loop-id-test.true in

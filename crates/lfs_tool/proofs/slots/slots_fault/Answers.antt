@@ -2,8 +2,8 @@ use Rattle.std.proofs.Common.{ℕ, ◌≡◌, ◌<◌, ◌⊎◌, List, Some, ar
 use Rattle.std.specs.Prelude.{IfSome, slice_get}
 use Rattle.lfs_model.specs.Disk.{Disk}
 use Rattle.lfs_model.specs.Thread.{Pair, superblocks_before}
-use Rattle.lfs_tool.specs.Broken.{IsBroken}
-use Rattle.lfs_tool.specs.HeldView.{pair_view, pairs_view}
+use Rattle.lfs_tool.specs.BrokenRules.{BreaksRule}
+use Rattle.lfs_tool.specs.OwnedSlotView.{pair_view, pairs_view}
 use Rattle.lfs_tool.specs.declared.findings.Finding.{Finding}
 use Rattle.lfs_tool.proofs.HeldPlaces.{pair_there}
 use Rattle.lfs_tool.proofs.slots.slots_fault.Goals as goal
@@ -12,7 +12,7 @@ pub returns-in-Some : goal.returns-in-Some
 returns-in-Some c disk =
     let pairs = c.args.pairs.now in
     let from = c.first_entry-from.result in
-    let holds : Finding → Type 0 = λ f. (disk : Disk) (ps : List Pair) (index : ℕ) → slice_get ps index ≡ Some (pair_view c.index-pairs-index.result) → (superblocks_before ps < index) ⊎ (0 < from) → IsBroken disk ps f in
+    let holds : Finding → Type 0 = λ f. (disk : Disk) (ps : List Pair) (index : ℕ) → slice_get ps index ≡ Some (pair_view c.index-pairs-index.result) → (superblocks_before ps < index) ⊎ (0 < from) → BreaksRule disk ps f in
     let found = subst (λ o. IfSome o holds) c.in-Some.is c.in_ok-finding.ensures in
     found disk (pairs_view pairs) c.loop-index.index (pair_there pairs c.loop-index.index c.index-pairs-index.result (omega arith) c.index-pairs-index.is)
     (subst (λ r. (r < c.loop-index.index) ⊎ (0 < from)) c.requires c.first_entry-from.ensures)

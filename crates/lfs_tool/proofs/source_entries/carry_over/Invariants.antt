@@ -1,6 +1,6 @@
 use Rattle.std.proofs.Common.{take}
-use Rattle.lfs_fs.specs.Held.{system_state_of}
-use Rattle.lfs_tool.specs.Applied.{AreAllAccepted, operations_of_all}
+use Rattle.lfs_fs.specs.SessionView.{system_state_of}
+use Rattle.lfs_tool.specs.AppliedOperations.{AreAllAccepted, operations_of_all}
 use Rattle.lfs_tool.proofs.source_entries.carry_over.Given as goal
 
 abbrev pub invariant-loop-entry : goal.invariant-loop-entry

@@ -5,7 +5,7 @@ use Rattle.lfs_model.specs.Disk.{Disk, block_count}
 use Rattle.lfs_model.specs.Profile.{IsWritable}
 use Rattle.lfs_model.specs.Shown.{used_blocks}
 use Rattle.lfs_model.specs.Thread.{Pair, gstate_of}
-use Rattle.lfs_tool.specs.Summary.{is_file_item, is_half_done}
+use Rattle.lfs_tool.specs.ImageSummaries.{is_file_item, is_half_done}
 use Rattle.lfs_tool.proofs.Counts.{as_many, files_alike}
 use Rattle.lfs_tool.proofs.Judged.{read_on}
 use Rattle.std.proofs.Common.{◌≡◌, List, IsTrue, count_by}

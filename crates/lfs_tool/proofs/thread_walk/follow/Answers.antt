@@ -6,7 +6,7 @@ use Rattle.lfs_model.specs.Disk.{Disk}
 use Rattle.lfs_model.specs.Slots.{address_of}
 use Rattle.lfs_model.specs.Thread.{next_of}
 use Rattle.lfs_tag.specs.ContentView.{tail_view}
-use Rattle.lfs_tool.specs.Reading.{AreHeld, IsHeld, IsNext}
+use Rattle.lfs_tool.specs.PairReads.{AreFirstPairs, IsPairAt, IsNextPair}
 use Rattle.lfs_tool.proofs.Along.{held_more}
 use Rattle.lfs_tool.proofs.Looking.{answers, further, lacks_memory, on, passed, seen}
 use Rattle.lfs_tool.proofs.thread_walk.follow.Goals as goal
@@ -32,9 +32,9 @@ returns-in-None-clause-followed g c =
     let looked = c.loop.invariant.looked.device in
     let disk = disk_of (g.D.BlockDevice.geometry c.args.device.now) (g.D.BlockDevice.blocks c.args.device.now) in
     let now = disk_of (g.D.BlockDevice.geometry c.loop.device) (g.D.BlockDevice.blocks c.loop.device) in
-    let read = subst (IsNext now (address_of c.loop.at)) c.in-Pair.is c.in_ok-pair.ensures.read in
-    let held = subst (λ (d : Disk). IsHeld d (address_of c.loop.at) c.in-Pair.pair) (ap₂ disk_of looked.geometry looked.same) read in
-    subst (λ t. AreHeld disk (next_of (option_map tail_view t)) c.push.new.self.items) c.in-None.is
+    let read = subst (IsNextPair now (address_of c.loop.at)) c.in-Pair.is c.in_ok-pair.ensures.read in
+    let held = subst (λ (d : Disk). IsPairAt d (address_of c.loop.at) c.in-Pair.pair) (ap₂ disk_of looked.geometry looked.same) read in
+    subst (λ t. AreFirstPairs disk (next_of (option_map tail_view t)) c.push.new.self.items) c.in-None.is
     (held_more disk (address_of c.loop.at) c.loop.pairs.items c.push.new.self.items c.in-Pair.pair c.loop.invariant.held held c.in_ok-push.ensures.items)
 
 pub returns-in-None-clause-looks : goal.returns-in-None-clause-looks
@@ -46,10 +46,10 @@ loop-preserved g c =
     let looked = c.loop.invariant.looked.device in
     let disk = disk_of (g.D.BlockDevice.geometry c.args.device.now) (g.D.BlockDevice.blocks c.args.device.now) in
     let now = disk_of (g.D.BlockDevice.geometry c.loop.device) (g.D.BlockDevice.blocks c.loop.device) in
-    let read = subst (IsNext now (address_of c.loop.at)) c.in-Pair.is c.in_ok-pair.ensures.read in
-    let held = subst (λ (d : Disk). IsHeld d (address_of c.loop.at) c.in-Pair.pair) (ap₂ disk_of looked.geometry looked.same) read in
+    let read = subst (IsNextPair now (address_of c.loop.at)) c.in-Pair.is c.in_ok-pair.ensures.read in
+    let held = subst (λ (d : Disk). IsPairAt d (address_of c.loop.at) c.in-Pair.pair) (ap₂ disk_of looked.geometry looked.same) read in
     record {
-      held = subst (λ t. AreHeld disk (next_of (option_map tail_view t)) c.push.new.self.items) c.in-Some.is
+      held = subst (λ t. AreFirstPairs disk (next_of (option_map tail_view t)) c.push.new.self.items) c.in-Some.is
           (held_more disk (address_of c.loop.at) c.loop.pairs.items c.push.new.self.items c.in-Pair.pair c.loop.invariant.held held c.in_ok-push.ensures.items);
       looked = on g.D.BlockDevice _ _ _ c.loop.invariant.looked (seen g.D.BlockDevice _ _ c.next_pair.result c.in_ok-pair.field-0 c.in_ok-pair.was c.next_pair.ensures.looks);
     }

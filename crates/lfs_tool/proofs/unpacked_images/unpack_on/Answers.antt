@@ -2,18 +2,18 @@ use Rattle.std.proofs.Common.{subst, sym}
 use Rattle.std.proofs.lemmas.Result.{on_ok_weaker}
 use Rattle.lfs_device.specs.RamDevice.{ram_blocks, geometry_of}
 use Rattle.lfs_device.specs.Shown.{disk_of as shown}
-use Rattle.lfs_lookup.specs.Walk.{founds_view}
+use Rattle.lfs_lookup.specs.Walk.{tree_items_view}
 use Rattle.lfs_lookup.specs.declared.walks.TreeItem.{TreeItem}
 use Rattle.std.proofs.Common.{List}
-use Rattle.lfs_tool.specs.Unpacked.{AreLists, HasBegun, HasDone, actions_at}
+use Rattle.lfs_tool.specs.Unpackings.{AreLists, HasBegunActions, HasDoneActions, actions_at}
 use Rattle.lfs_tool.proofs.Unpacks.{begun_of, done_of, fails_begun, lists_walked}
 use Rattle.lfs_tool.proofs.unpacked_images.unpack_on.Goals as goal
 
 pub put_items-requires-clause-lists : goal.put_items-requires-clause-lists
 put_items-requires-clause-lists g c =
     let h = c.in-Ok.ensures.items in
-    subst (λ (items : List TreeItem). AreLists c.in-Ok.thread.kept.disk (founds_view items)) (sym c.deref.ensures.value)
-    (lists_walked _ c.in-Ok.thread.kept.disk c.in-Ok.thread.kept.pairs (founds_view c.in-Ok.items.items) h.disk_is h.walked)
+    subst (λ (items : List TreeItem). AreLists c.in-Ok.thread.kept.disk (tree_items_view items)) (sym c.deref.ensures.value)
+    (lists_walked _ c.in-Ok.thread.kept.disk c.in-Ok.thread.kept.pairs (tree_items_view c.in-Ok.items.items) h.disk_is h.walked)
 
 pub returns-in-Ok-clause-done : goal.returns-in-Ok-clause-done
 returns-in-Ok-clause-done g c =
@@ -21,8 +21,8 @@ returns-in-Ok-clause-done g c =
     let old = g.T.Target.done c.args.target.now in
     let new = g.T.Target.done c.put_items.new.target in
     on_ok_weaker c.put_items.result (λ all.
-    done_of (shown (geometry_of c.args.device) (ram_blocks c.args.device)) c.in-Ok.thread.kept.disk c.in-Ok.thread.kept.disk.order c.in-Ok.thread.kept.pairs (founds_view c.in-Ok.items.items) h.disk_is h.accepted h.walked old new
-    (subst (λ (items : List TreeItem). HasDone old new (actions_at c.in-Ok.thread.kept.disk (founds_view items))) c.deref.ensures.value all)) c.put_items.ensures.done
+    done_of (shown (geometry_of c.args.device) (ram_blocks c.args.device)) c.in-Ok.thread.kept.disk c.in-Ok.thread.kept.disk.order c.in-Ok.thread.kept.pairs (tree_items_view c.in-Ok.items.items) h.disk_is h.accepted h.walked old new
+    (subst (λ (items : List TreeItem). HasDoneActions old new (actions_at c.in-Ok.thread.kept.disk (tree_items_view items))) c.deref.ensures.value all)) c.put_items.ensures.done
 
 pub returns-in-Ok-clause-failed : goal.returns-in-Ok-clause-failed
 returns-in-Ok-clause-failed g c =
@@ -30,5 +30,5 @@ returns-in-Ok-clause-failed g c =
     let old = g.T.Target.done c.args.target.now in
     let new = g.T.Target.done c.put_items.new.target in
     fails_begun (shown (geometry_of c.args.device) (ram_blocks c.args.device)) old new _ _ c.put_items.result _ c.put_items.ensures.begun (λ begun.
-    begun_of (shown (geometry_of c.args.device) (ram_blocks c.args.device)) c.in-Ok.thread.kept.disk c.in-Ok.thread.kept.disk.order c.in-Ok.thread.kept.pairs (founds_view c.in-Ok.items.items) h.disk_is h.accepted h.walked old new
-    (subst (λ (items : List TreeItem). HasBegun old new (actions_at c.in-Ok.thread.kept.disk (founds_view items))) c.deref.ensures.value begun)) c.put_items.ensures.reports
+    begun_of (shown (geometry_of c.args.device) (ram_blocks c.args.device)) c.in-Ok.thread.kept.disk c.in-Ok.thread.kept.disk.order c.in-Ok.thread.kept.pairs (tree_items_view c.in-Ok.items.items) h.disk_is h.accepted h.walked old new
+    (subst (λ (items : List TreeItem). HasBegunActions old new (actions_at c.in-Ok.thread.kept.disk (tree_items_view items))) c.deref.ensures.value begun)) c.put_items.ensures.reports

@@ -1,12 +1,12 @@
 use Rattle.std.proofs.Common.{◌∙◌, ◌++◌, ap, map}
-use Rattle.lfs_tool_folders.specs.Shown.{listed}
+use Rattle.lfs_tool_folders.specs.SourceTrees.{name_view}
 use Rattle.lfs_tool_folders.specs.Entries.{place_of}
 use Rattle.lfs_tool_folders.proofs.Reading.{places_reversed}
 use Rattle.lfs_tool_folders.proofs.entries.look_into.Goals as goal
 
 pub returns-clause-within : goal.returns-clause-within
 returns-clause-within g c = (
-  map listed c.in_ok-names.names.items,
+  map name_view c.in_ok-names.names.items,
   (
     c.in_ok-names.ensures.names,
     c.in_ok-wait_for.ensures.places

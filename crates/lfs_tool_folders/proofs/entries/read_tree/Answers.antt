@@ -1,7 +1,7 @@
 use Rattle.std.proofs.Common.{◌≡◌, ◌∙◌, ◌++◌, ◌∷◌, [], Err, List, ap, arith, map, refl, reverse, subst, suc, sym}
 use Rattle.std.proofs.lemmas.List.{map-append}
-use Rattle.lfs_tool_folders.specs.Shown.{is_folder}
-use Rattle.lfs_tool_folders.specs.InMemory.{items_by}
+use Rattle.lfs_tool_folders.specs.SourceTrees.{is_folder}
+use Rattle.lfs_tool_folders.specs.MemorySources.{items_by}
 use Rattle.lfs_tool_folders.specs.Entries.{Place, place_of, places_in}
 use Rattle.lfs_tool_folders.proofs.Reading.{AreFolders, Goes, all_of, bad_below, begins, either, folders_on, goes_on, holds_along, none_left, rests_both, same_error, top_folders}
 use Rattle.lfs_tool_folders.proofs.entries.read_tree.Goals as goal

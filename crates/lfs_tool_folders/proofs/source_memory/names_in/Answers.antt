@@ -1,5 +1,5 @@
 use Rattle.std.proofs.Common.{◌∙◌, ◌++◌, ap, arith, map, sym, take}
-use Rattle.lfs_tool_folders.specs.InMemory.{item_of, name_of, names_in}
+use Rattle.lfs_tool_folders.specs.MemorySources.{item_of, name_of, names_in}
 use Rattle.lfs_tool_folders.proofs.HeldItems.{names_more}
 use Rattle.lfs_tool_folders.proofs.source_memory.names_in.Goals as goal
 

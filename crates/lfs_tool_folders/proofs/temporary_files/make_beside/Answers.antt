@@ -1,7 +1,7 @@
 use Rattle.std.proofs.Common.{◌∙◌, ap, ◌++◌}
 use Rattle.std.specs.Fmt.{decimal}
 use Rattle.std.specs.String.{string_bytes}
-use Rattle.lfs_tool_folders.specs.Beside.{name_start}
+use Rattle.lfs_tool_folders.specs.TemporaryNames.{name_start}
 use Rattle.lfs_tool_folders.proofs.NamesBeside.{beside_by_number}
 use Rattle.lfs_tool_folders.proofs.temporary_files.make_beside.Goals as goal
 

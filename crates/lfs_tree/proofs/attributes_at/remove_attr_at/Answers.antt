@@ -5,7 +5,7 @@ use Rattle.lfs_model.specs.Content.{without_attribute}
 use Rattle.lfs_operations.specs.Editing.{CanEdit, HasRemovedAttribute, with_attributes_at}
 use Rattle.lfs_thread.specs.Device.{two_of}
 use Rattle.lfs_thread.specs.Steps.{Writes, pair_in}
-use Rattle.lfs_tree.specs.Carrying.{SurvivesTo}
+use Rattle.lfs_tree.specs.TreeChanges.{SurvivesTo}
 use Rattle.lfs_tree.proofs.Carried.{read_is}
 use Rattle.lfs_tree.proofs.CarryEdited.{can_edit, clear_does, entry_to_clear, slot_for, slot_found}
 use Rattle.lfs_tree.proofs.ReportedFaults.{reported_by_reading}

@@ -6,7 +6,7 @@ use Rattle.lfs_operations.specs.Changing.{WritesIn}
 use Rattle.lfs_operations.specs.Editing.{CanSetAttribute, HasSetAttribute, with_attributes_at}
 use Rattle.lfs_operations.specs.Making.{HasRoomFor}
 use Rattle.lfs_thread.specs.Kept.{Kept}
-use Rattle.lfs_tree.specs.Carrying.{SurvivesTo}
+use Rattle.lfs_tree.specs.TreeChanges.{SurvivesTo}
 use Rattle.lfs_tree.proofs.Carried.{read_is}
 use Rattle.lfs_tree.proofs.CarryEdited.{can_set, entry_to_set, set_does, slot_for, slot_found}
 use Rattle.lfs_tree.proofs.CarryRooms.{room_for}

@@ -1,11 +1,11 @@
 use Rattle.std.proofs.Common.{sym, subst}
-use Rattle.lfs_writer.specs.Settling.{CanSettle, IsSettledIn}
+use Rattle.lfs_writer.specs.SettledFiles.{CanSettle, IsSettledIn}
 use Rattle.lfs_operations.specs.Changing.{WritesIn}
 use Rattle.lfs_operations.specs.Storing.{IsStructSet, with_contents_at}
 use Rattle.lfs_thread.specs.Kept.{Kept}
-use Rattle.lfs_tree.specs.Carrying.{SurvivesTo}
+use Rattle.lfs_tree.specs.TreeChanges.{SurvivesTo}
 use Rattle.lfs_tree.specs.OpenContents.{bytes_held}
-use Rattle.lfs_tree.specs.Storing.{CanPutContents}
+use Rattle.lfs_tree.specs.Stores.{CanPutContents}
 use Rattle.lfs_lookup.proofs.AtPaths.{sized_on}
 use Rattle.lfs_tree.proofs.Carried.{read_is}
 use Rattle.lfs_tree.proofs.CarrySurvives.{survives_reading}

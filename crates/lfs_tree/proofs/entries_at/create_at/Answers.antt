@@ -1,11 +1,11 @@
 use Rattle.std.proofs.Common.{arith, subst, sym}
 use Rattle.std.specs.Prelude.{OnOk}
 use Rattle.std.proofs.lemmas.Result.{err_from_is_err_and}
-use Rattle.lfs_operations.specs.Changing.{Alters, WritesIn}
+use Rattle.lfs_operations.specs.Changing.{AltersPair, WritesIn}
 use Rattle.lfs_operations.specs.Creating.{CanCreate, IsCreated, with_file}
 use Rattle.lfs_operations.specs.Making.{HasRoomFor}
 use Rattle.lfs_thread.specs.Kept.{Kept}
-use Rattle.lfs_tree.specs.Carrying.{SurvivesTo}
+use Rattle.lfs_tree.specs.TreeChanges.{SurvivesTo}
 use Rattle.lfs_tree.proofs.Carried.{read_is}
 use Rattle.lfs_tree.proofs.CarryCreated.{can_create, create_does, vacant_to}
 use Rattle.lfs_tree.proofs.CarryPlaces.{place_for, place_found}
@@ -52,7 +52,7 @@ returns-clause-does g c =
     let e = c.create.ensures in
     create_does t c.args.root c.requires.rests c.args.path.now c.know_names.ensures c.know_device.ensures.large c.know_device.ensures.bytes 2 c.requires.can name spot place mid.kept.history new c.create.result c.know_bytes.ensures.0 c.know_bytes.ensures.1
     read.same read.only.reads (subst (λ k. WritesIn k spot.pair new.kept) is e.device)
-    (subst (λ k. OnOk c.create.result ((can : CanCreate k spot.pair spot.id name) → IsCreated k new.kept can.path name)) is e.created) (subst (λ k. OnOk c.create.result (Alters k spot.pair new.kept)) is e.alters)
+    (subst (λ k. OnOk c.create.result ((can : CanCreate k spot.pair spot.id name) → IsCreated k new.kept can.path name)) is e.created) (subst (λ k. OnOk c.create.result (AltersPair k spot.pair new.kept)) is e.alters)
     (reported_with_room mid.kept new.kept c.create.result (subst (λ (k : Kept). HasRoomFor 2 k.map) (sym is) (room_for t.kept 2 c.requires.rests.held.sound c.requires.can.room)) e.errors.reports.reports) (works_put new c.create.result e.errors.reports.failed)
     (subst (λ k. (can : CanCreate k spot.pair spot.id name) → SurvivesTo k new.kept (with_file k can.path name)) is e.survives)
 

@@ -1,8 +1,8 @@
 use Rattle.std.proofs.Common.{arith, subst, sym}
 use Rattle.std.specs.Prelude.{OnOk}
 use Rattle.std.proofs.lemmas.Result.{err_from_is_err_and}
-use Rattle.lfs_operations.specs.Making.{AltersUpTo, CanMake, IsMade, WritesUpTo, with_directory}
-use Rattle.lfs_tree.specs.Carrying.{SurvivesTo}
+use Rattle.lfs_operations.specs.Making.{AltersUpTo, CanMakeAt, IsDirectoryMade, WritesUpTo, with_directory}
+use Rattle.lfs_tree.specs.TreeChanges.{SurvivesTo}
 use Rattle.lfs_tree.proofs.Carried.{read_is}
 use Rattle.lfs_tree.proofs.CarryCreated.{can_make, make_does, vacant_to}
 use Rattle.lfs_tree.proofs.CarryPlaces.{place_for, place_found}
@@ -21,7 +21,7 @@ make_directory-requires-clause-can g c =
     let name = c.in_ok-target.target.name.now in
     let target = c.in_ok-target.ensures.target in
     let place = place_for t.kept c.args.path.now c.in_ok-target.target.found name spot (vacant_to t.kept c.args.path.now 4 c.requires.can) target.leads c.place_in-place.ensures target.named in
-    subst (λ k. CanMake k spot.pair spot.id name) (sym (read_is t.kept mid c.find_target.ensures.reading.only))
+    subst (λ k. CanMakeAt k spot.pair spot.id name) (sym (read_is t.kept mid c.find_target.ensures.reading.only))
     (can_make t c.args.root c.requires.rests c.args.path.now c.know_names.ensures c.know_device.ensures.large c.know_device.ensures.bytes 4 c.requires.can name spot place mid.history (omega arith))
 
 pub returns-in_err-target : goal.returns-in_err-target
@@ -44,6 +44,6 @@ returns g c =
     let e = c.make_directory.ensures in
     make_does t c.args.root c.requires.rests c.args.path.now c.know_names.ensures c.know_device.ensures.large c.know_device.ensures.bytes 4 c.requires.can name spot place mid.kept.history new c.make_directory.result c.know_bytes.ensures.0 c.know_bytes.ensures.1
     (omega arith) read.same read.only.reads (subst (λ k. WritesUpTo k spot.pair new.kept) is e.device)
-    (subst (λ k. OnOk c.make_directory.result ((can : CanMake k spot.pair spot.id name) → IsMade k new.kept can.path name)) is e.made) (subst (λ k. OnOk c.make_directory.result (AltersUpTo k spot.pair new.kept)) is e.alters)
+    (subst (λ k. OnOk c.make_directory.result ((can : CanMakeAt k spot.pair spot.id name) → IsDirectoryMade k new.kept can.path name)) is e.made) (subst (λ k. OnOk c.make_directory.result (AltersUpTo k spot.pair new.kept)) is e.alters)
     (record { errors = e.errors.errors; fault = e.errors.fault; no_fault = e.errors.no_fault }) (works_reported new c.make_directory.result e.errors.failed)
-    (subst (λ k. (can : CanMake k spot.pair spot.id name) → SurvivesTo k new.kept (with_directory k can.path name)) is e.survives)
+    (subst (λ k. (can : CanMakeAt k spot.pair spot.id name) → SurvivesTo k new.kept (with_directory k can.path name)) is e.survives)

@@ -3,7 +3,7 @@ use Rattle.lfs_thread.specs.Kept.{kept_view_on}
 use Rattle.lfs_thread.specs.Device.{two_of}
 use Rattle.lfs_thread.specs.Steps.{Writes}
 use Rattle.lfs_model.specs.Thread.{anchor}
-use Rattle.lfs_tree.specs.Formatting.{IsFormatted}
+use Rattle.lfs_tree.specs.Formats.{IsFormatted}
 use Rattle.lfs_tree.proofs.Formatted.{shows_empty, empty_formatted, empty_kept, wrote}
 use Rattle.lfs_tree.proofs.formats.format.Goals as goal
 

@@ -1,5 +1,5 @@
 use Rattle.std.proofs.Common.{◌∙◌, subst, sym, rules}
-use Rattle.lfs_tree.specs.Going.{no_list}
+use Rattle.lfs_tree.specs.Removals.{no_list}
 use Rattle.lfs_tree.specs.LostLists.{CanFreeLists}
 use Rattle.lfs_tree.proofs.LostLists.{all_freed, besides_then, can_settle_first, first_flying, first_left, none_left, rest_left}
 use Rattle.lfs_tree.proofs.lost_lists.free_lists.Goals as goal

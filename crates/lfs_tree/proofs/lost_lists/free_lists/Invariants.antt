@@ -1,5 +1,5 @@
 use Rattle.std.proofs.Common.{◌≡◌, drop, false}
-use Rattle.lfs_writer.specs.Settling.{IsReadBesideMap}
+use Rattle.lfs_writer.specs.SettledFiles.{IsReadBesideMap}
 use Rattle.lfs_model.specs.History.{faults}
 use Rattle.lfs_operations.specs.Dropping.{SameInFlight}
 use Rattle.lfs_tree.specs.LostLists.{CanFreeLists}

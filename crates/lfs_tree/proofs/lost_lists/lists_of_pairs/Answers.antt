@@ -3,7 +3,7 @@ use Rattle.std.proofs.lemmas.Result.{err_from_is_err_and}
 use Rattle.lfs_model.specs.Thread.{Pair}
 use Rattle.lfs_operations.specs.Recovering.{slots_at}
 use Rattle.lfs_thread.specs.Steps.{no_pair}
-use Rattle.lfs_tree.specs.LostLists.{lists_named}
+use Rattle.lfs_tree.specs.LostLists.{lists_of_slots}
 use Rattle.lfs_tree.proofs.LostLists.{named_more}
 use Rattle.lfs_lookup.proofs.Reading.{answered, both, further, passed}
 use Rattle.lfs_tree.proofs.Recovered.{numbers_below}
@@ -25,8 +25,8 @@ loop-number-preserved g c =
     let numbers = c.args.numbers.now in
     let number = slice_index_or c.args.numbers.now c.loop-number.number-index 0 in
     record {
-      lists = c.in_ok-push_lists_at.ensures.lists ∙ ap (λ z. z ++ lists_named (slice_index_or c.loop-number.thread.kept.pairs number no_pair).content.slots) inv.lists
-          ∙ ap (λ (ps : List Pair). lists_named (slots_at c.args.thread.now.kept.pairs (take c.loop-number.number-index c.args.numbers.now)) ++ lists_named (slice_index_or ps number no_pair).content.slots) inv.read.only.pairs
+      lists = c.in_ok-push_lists_at.ensures.lists ∙ ap (λ z. z ++ lists_of_slots (slice_index_or c.loop-number.thread.kept.pairs number no_pair).content.slots) inv.lists
+          ∙ ap (λ (ps : List Pair). lists_of_slots (slots_at c.args.thread.now.kept.pairs (take c.loop-number.number-index c.args.numbers.now)) ++ lists_of_slots (slice_index_or ps number no_pair).content.slots) inv.read.only.pairs
           ∙ named_more c.args.thread.now.kept.pairs numbers c.loop-number.number-index c.loop-number-test.true;
       read = both _ _ _ inv.read (answered _ _ c.push_lists_at.result c.in_ok-push_lists_at.field-0 c.in_ok-push_lists_at.was c.push_lists_at.ensures.reading);
     }

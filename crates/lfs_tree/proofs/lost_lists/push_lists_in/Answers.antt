@@ -5,7 +5,7 @@ use Rattle.lfs_model.specs.LoggedContent.{HaveParts}
 use Rattle.lfs_model.proofs.Logged.{logged}
 use Rattle.lfs_model.proofs.Completed.{completed_parts}
 use Rattle.lfs_tag.specs.ContentView.{content_view, slot_view}
-use Rattle.lfs_tree.specs.LostLists.{lists_typed}
+use Rattle.lfs_tree.specs.LostLists.{lists_of_raw_slots}
 use Rattle.lfs_tree.proofs.LostLists.{typed_complete}
 use Rattle.lfs_tree.proofs.lost_lists.push_lists_in.Goals as goal
 
@@ -21,4 +21,4 @@ returns-clause-lists c content is =
     let read = c.in_ok-content.ensures.content in
     let same = ap (λ (r : RawContent). r.slots) (same_Some (content_view c.in_ok-content.content) is.raw (sym read ∙ is.log)) in
     c.in_ok-push_lists.ensures
-    ∙ ap (λ z. c.args.lists.now.items ++ z) (ap (λ z. lists_typed (map slot_view z)) c.deref.ensures.value ∙ ap lists_typed same ∙ typed_complete is.raw.slots content.slots (completed_parts is.raw content is.complete).slots)
+    ∙ ap (λ z. c.args.lists.now.items ++ z) (ap (λ z. lists_of_raw_slots (map slot_view z)) c.deref.ensures.value ∙ ap lists_of_raw_slots same ∙ typed_complete is.raw.slots content.slots (completed_parts is.raw content is.complete).slots)

@@ -4,7 +4,7 @@ use Rattle.lfs_model.specs.TreeEdits.{bytes_at}
 use Rattle.lfs_model.specs.Shown.{tree_in}
 use Rattle.lfs_thread.specs.Kept.{Kept}
 use Rattle.lfs_tree.specs.OpenContents.{IsOpenedForm, IsOverFile, bytes_held}
-use Rattle.lfs_tree.specs.Opening.{CanBeOpened, IsOpened, opened_form}
+use Rattle.lfs_tree.specs.Openings.{CanBeOpened, IsOpened, opened_form}
 use Rattle.lfs_lookup.proofs.AtPaths.{sized_on}
 use Rattle.lfs_lookup.proofs.BytesAtSlots.{file_of_path, not_file}
 use Rattle.lfs_tree.proofs.Carried.{read_is}
@@ -17,8 +17,8 @@ pub unreachable-requires : goal.unreachable-requires
 unreachable-requires g c =
     let k = sym c.requires.file ∙ not_file c.args.thread.now.kept c.args.path.now c.in_ok-shown.shown c.in_ok-shown.ensures.shown (sym c.file_of.ensures ∙ c.in_default.is) in absurd (cc)
 
-pub opened_from-requires-clause-can : goal.opened_from-requires-clause-can
-opened_from-requires-clause-can g c =
+pub open_contents-requires-clause-can : goal.open_contents-requires-clause-can
+open_contents-requires-clause-can g c =
     let t = c.args.thread.now.kept in
     let mid = c.shown_at.new.thread.kept in
     let sound = c.requires.held.sound in
@@ -32,31 +32,31 @@ pub returns-clause-over : goal.returns-clause-over
 returns-clause-over g c =
     let t = c.args.thread.now.kept in
     let mid = c.shown_at.new.thread.kept in
-    let new = c.opened_from.new.thread.kept in
+    let new = c.open_contents.new.thread.kept in
     let sound = c.requires.held.sound in
     let f = file_of_path t c.args.path.now c.in_ok-shown.shown c.in-Some.slot c.in-Some.contents sound.accepted c.in_ok-shown.ensures.shown (sym c.file_of.ensures ∙ c.in-Some.is) in
     let idle = idle_is t c.requires.idle sound.size in
     let can = subst (λ (k : Kept). CanBeOpened k c.in-Some.slot c.in-Some.contents f.held) (sym (read_is t mid c.shown_at.ensures.reading.only))
     (can_be_opened t mid.history c.args.path.now c.in-Some.slot c.in-Some.contents f sound.accepted sound.used idle) in
-    let is = read_is t new (only_read t mid new c.shown_at.ensures.reading.only c.opened_from.ensures.reading.only) in
-    subst (λ (k : Kept). IfOk c.opened_from.result (IsOverFile k c.args.path.now)) (sym is)
-    (over_opened t mid.history c.args.path.now c.in-Some.slot c.in-Some.contents f sound.accepted sound.used idle c.requires.file new.history c.opened_from.result
-    (subst (λ (k : Kept). IfOk c.opened_from.result (IsOpened k f.held.struct (opened_form c.in-Some.contents))) is (c.opened_from.ensures.opened f.held can)))
+    let is = read_is t new (only_read t mid new c.shown_at.ensures.reading.only c.open_contents.ensures.reading.only) in
+    subst (λ (k : Kept). IfOk c.open_contents.result (IsOverFile k c.args.path.now)) (sym is)
+    (over_opened t mid.history c.args.path.now c.in-Some.slot c.in-Some.contents f sound.accepted sound.used idle c.requires.file new.history c.open_contents.result
+    (subst (λ (k : Kept). IfOk c.open_contents.result (IsOpened k f.held.struct (opened_form c.in-Some.contents))) is (c.open_contents.ensures.opened f.held can)))
 
 pub returns-clause-bytes : goal.returns-clause-bytes
 returns-clause-bytes g c =
     let t = c.args.thread.now.kept in
     let mid = c.shown_at.new.thread.kept in
-    let new = c.opened_from.new.thread.kept in
+    let new = c.open_contents.new.thread.kept in
     let sound = c.requires.held.sound in
     let f = file_of_path t c.args.path.now c.in_ok-shown.shown c.in-Some.slot c.in-Some.contents sound.accepted c.in_ok-shown.ensures.shown (sym c.file_of.ensures ∙ c.in-Some.is) in
     let idle = idle_is t c.requires.idle sound.size in
     let can = subst (λ (k : Kept). CanBeOpened k c.in-Some.slot c.in-Some.contents f.held) (sym (read_is t mid c.shown_at.ensures.reading.only))
     (can_be_opened t mid.history c.args.path.now c.in-Some.slot c.in-Some.contents f sound.accepted sound.used idle) in
-    let is = read_is t new (only_read t mid new c.shown_at.ensures.reading.only c.opened_from.ensures.reading.only) in
-    subst (λ (k : Kept). IfOk c.opened_from.result (λ x. bytes_held k x ≡ bytes_at (tree_in t.disk t.pairs c.args.path.now))) (sym is)
-    (bytes_opened t mid.history c.args.path.now c.in-Some.slot c.in-Some.contents f sound.accepted sound.used idle c.requires.file new.history c.opened_from.result
-    (subst (λ (k : Kept). IfOk c.opened_from.result (IsOpened k f.held.struct (opened_form c.in-Some.contents))) is (c.opened_from.ensures.opened f.held can)))
+    let is = read_is t new (only_read t mid new c.shown_at.ensures.reading.only c.open_contents.ensures.reading.only) in
+    subst (λ (k : Kept). IfOk c.open_contents.result (λ x. bytes_held k x ≡ bytes_at (tree_in t.disk t.pairs c.args.path.now))) (sym is)
+    (bytes_opened t mid.history c.args.path.now c.in-Some.slot c.in-Some.contents f sound.accepted sound.used idle c.requires.file new.history c.open_contents.result
+    (subst (λ (k : Kept). IfOk c.open_contents.result (IsOpened k f.held.struct (opened_form c.in-Some.contents))) is (c.open_contents.ensures.opened f.held can)))
 
 pub returns-clause-form : goal.returns-clause-form
 returns-clause-form g c =
@@ -70,9 +70,9 @@ returns-clause-form g c =
     (can_be_opened t mid.history c.args.path.now c.in-Some.slot c.in-Some.contents f sound.accepted sound.used idle) in
     let sized = sized_on g.D.BlockDevice device t.disk (g.D.BlockDevice.geometry device).block_count (c.device-device.ensures.disk ∙ c.shown_at.ensures.reading.only.disk)
     (g.D.BlockDevice.geometry device).valid.no_smaller (g.met.D.BlockDevice.shape device) in
-    form_of_opened c.opened_from.new.thread.kept f.held.struct (opened_form c.in-Some.contents) c.opened_from.result (IsOpenedForm t.disk.block_size (length (bytes_at (tree_in t.disk t.pairs c.args.path.now))))
-    (λ shape e. form_opened t c.args.path.now c.in-Some.slot c.in-Some.contents f (f.inline (sound.fits refl)) sized shape e) (c.opened_from.ensures.opened f.held can)
+    form_of_opened c.open_contents.new.thread.kept f.held.struct (opened_form c.in-Some.contents) c.open_contents.result (IsOpenedForm t.disk.block_size (length (bytes_at (tree_in t.disk t.pairs c.args.path.now))))
+    (λ shape e. form_opened t c.args.path.now c.in-Some.slot c.in-Some.contents f (f.inline (sound.fits refl)) sized shape e) (c.open_contents.ensures.opened f.held can)
 
 pub returns-clause-reading : goal.returns-clause-reading
 returns-clause-reading g c =
-    further _ _ _ c.opened_from.result (answered _ _ c.shown_at.result c.in_ok-shown.shown c.in_ok-shown.was c.shown_at.ensures.reading) c.opened_from.ensures.reading
+    further _ _ _ c.open_contents.result (answered _ _ c.shown_at.result c.in_ok-shown.shown c.in_ok-shown.was c.shown_at.ensures.reading) c.open_contents.ensures.reading

@@ -1,5 +1,5 @@
 use Rattle.std.proofs.Common.{◌≡◌, ◌∙◌, true, set, Some, ap, sym, subst}
-use Rattle.lfs_tree.specs.Unreached.{HasMarked}
+use Rattle.lfs_tree.specs.Orphans.{HasMarked}
 use Rattle.lfs_tree.proofs.Reached.{mark_new, mark_old}
 use Rattle.lfs_tree.proofs.Scanned.{got}
 use Rattle.lfs_tree.proofs.orphans.mark.Goals as goal

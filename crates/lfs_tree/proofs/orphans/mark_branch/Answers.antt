@@ -3,7 +3,7 @@ use Rattle.std.specs.Prelude.{IfSome}
 use Rattle.lfs_model.specs.InDirectory.{BeginsAt}
 use Rattle.lfs_model.specs.Slots.{address_of}
 use Rattle.lfs_lookup.specs.Items.{structure_view}
-use Rattle.lfs_tree.specs.Unreached.{HasMarked, IsNamedBy}
+use Rattle.lfs_tree.specs.Orphans.{HasMarked, IsNamedBy}
 use Rattle.lfs_lookup.specs.Walk.{BeginsIfBranch}
 use Rattle.lfs_lookup.proofs.Directories.{number_some, number_within}
 use Rattle.lfs_tree.proofs.Reached.{mark_named}

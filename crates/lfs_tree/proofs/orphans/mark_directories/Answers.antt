@@ -6,7 +6,7 @@ use Rattle.lfs_model.specs.Thread.{Pair, gstate_of}
 use Rattle.lfs_model.specs.View.{IsAccepted}
 use Rattle.lfs_lookup.specs.Items.{items_view}
 use Rattle.lfs_lookup.specs.Listed.{shapes_from}
-use Rattle.lfs_tree.specs.Unreached.{AllBegin, HasMarked, IsNamedIn}
+use Rattle.lfs_tree.specs.Orphans.{AllBegin, HasMarked, IsNamedIn}
 use Rattle.lfs_tree.proofs.Reached.{IsMarking, first_begin, marked_within, marking_begun, marking_on, next_marked, reach_marks}
 use Rattle.lfs_lookup.proofs.Reading.{answered, answers, begun, both, further, lacks_memory, passed}
 use Rattle.lfs_lookup.proofs.Roots.{root_begins}

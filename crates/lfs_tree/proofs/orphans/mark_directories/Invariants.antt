@@ -1,5 +1,5 @@
 use Rattle.std.proofs.Common.{◌+◌, length}
-use Rattle.lfs_tree.specs.Unreached.{unmarked}
+use Rattle.lfs_tree.specs.Orphans.{unmarked_count}
 use Rattle.lfs_tree.proofs.Reached.{IsMarking}
 use Rattle.lfs_lookup.proofs.Reading.{HasRead}
 use Rattle.lfs_tree.proofs.orphans.mark_directories.Given as goal
@@ -11,4 +11,4 @@ invariant-loop-first g l = record {
 }
 
 abbrev pub decreases-loop-first : goal.decreases-loop-first
-decreases-loop-first g l = unmarked l.marks.items + length l.pending.items
+decreases-loop-first g l = unmarked_count l.marks.items + length l.pending.items

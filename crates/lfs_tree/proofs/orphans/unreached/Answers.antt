@@ -3,8 +3,8 @@ use Rattle.lfs_lookup.proofs.Roots.{root_begins}
 use Rattle.lfs_lookup.proofs.Directories.{within}
 use Rattle.lfs_tree.proofs.orphans.unreached.Goals as goal
 
-pub unmarked-requires-clause-few : goal.unmarked-requires-clause-few
-unmarked-requires-clause-few g c =
+pub unmarked_directories-requires-clause-few : goal.unmarked_directories-requires-clause-few
+unmarked_directories-requires-clause-few g c =
     let l = within c.args.thread.now.kept.pairs _ _ (root_begins c.args.thread.now.kept.disk c.args.thread.now.kept.pairs c.requires.accepted) in
     let e = c.requires.root in
     let s = ap length c.mark_directories.ensures.reading.only.pairs in

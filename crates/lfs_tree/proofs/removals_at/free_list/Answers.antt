@@ -1,9 +1,9 @@
 use Rattle.std.proofs.Common.{ap, subst, sym}
 use Rattle.std.specs.Prelude.{OnOk}
-use Rattle.lfs_writer.specs.Settling.{CanSettle, IsSettledIn, blocks_in_list}
+use Rattle.lfs_writer.specs.SettledFiles.{CanSettle, IsSettledIn, blocks_in_list}
 use Rattle.lfs_operations.specs.Dropping.{SameInFlight}
 use Rattle.lfs_operations.specs.Ready.{IsReady}
-use Rattle.lfs_tree.specs.Going.{list_shown, no_list}
+use Rattle.lfs_tree.specs.Removals.{list_shown, no_list}
 use Rattle.lfs_tree.proofs.CarryFreed.{can_settle, freed_flying, freed_ready, none_freed, ok_then}
 use Rattle.lfs_tree.proofs.removals_at.free_list.Goals as goal
 

@@ -1,10 +1,10 @@
 use Rattle.std.proofs.Common.{subst, sym}
 use Rattle.std.proofs.lemmas.Result.{err_from_is_err_and}
-use Rattle.lfs_model.specs.TreeEdits.{removed}
+use Rattle.lfs_model.specs.TreeEdits.{tree_without}
 use Rattle.lfs_model.specs.Shown.{tree_in}
 use Rattle.lfs_operations.specs.MovingSteps.{WritesAmong}
-use Rattle.lfs_tree.specs.Carrying.{SurvivesTo}
-use Rattle.lfs_tree.specs.Going.{CanGo, HasGone, HasSpared}
+use Rattle.lfs_tree.specs.TreeChanges.{SurvivesTo}
+use Rattle.lfs_tree.specs.Removals.{CanRemoveFound, HasRemoved, SparesOthersInRemoval}
 use Rattle.lfs_tree.proofs.Carried.{read_is}
 use Rattle.lfs_tree.proofs.CarryFreed.{ok_then}
 use Rattle.lfs_tree.proofs.CarryGone.{can_go, entry_on, entry_to_remove, remove_does}
@@ -19,7 +19,7 @@ remove_target-requires-clause-can g c =
     let found = c.in_ok-target.target.found in
     let entry = entry_on t.kept c.args.path.now found (entry_to_remove t.kept c.args.path.now c.requires.can) c.in_ok-target.ensures.target.leads in (
       c.args.path.now,
-      subst (λ k. CanGo k c.args.path.now found) (sym (read_is t.kept mid.kept c.find_target.ensures.reading.only))
+      subst (λ k. CanRemoveFound k c.args.path.now found) (sym (read_is t.kept mid.kept c.find_target.ensures.reading.only))
           (can_go t c.args.root c.requires.rests c.args.path.now c.know_device.ensures.large c.know_device.ensures.bytes c.requires.can mid.kept.history found entry),
     )
 
@@ -41,9 +41,9 @@ returns g c =
     let read = answered t mid c.find_target.result c.in_ok-target.target c.in_ok-target.was c.find_target.ensures.reading in
     let is = read_is t.kept mid.kept read.only in
     let e = c.remove_target.ensures in
-    let old = subst (λ k. CanGo k path found) (sym is) can in
-    let gone = ok_then c.remove_target.result _ _ (λ h. subst (λ k. HasGone k path new.kept) is (h path old)) e.gone in
-    let spared = ok_then c.remove_target.result _ _ (λ h. subst (λ k. HasSpared k path new.kept) is (h path old)) e.alone in
+    let old = subst (λ k. CanRemoveFound k path found) (sym is) can in
+    let gone = ok_then c.remove_target.result _ _ (λ h. subst (λ k. HasRemoved k path new.kept) is (h path old)) e.gone in
+    let spared = ok_then c.remove_target.result _ _ (λ h. subst (λ k. SparesOthersInRemoval k path new.kept) is (h path old)) e.alone in
     remove_does t c.args.root c.requires.rests path mid.kept.history new read.only.reads (subst (λ k. WritesAmong k new.kept) is e.device) c.remove_target.result c.know_bytes.ensures.0 c.know_bytes.ensures.1
     read.same gone spared (record { errors = e.errors.errors; fault = e.errors.fault; no_fault = e.errors.no_fault }) (works_reported new c.remove_target.result e.errors.failed)
-    (subst (λ k. SurvivesTo k new.kept (removed path (tree_in k.disk k.pairs))) is (e.survives path old))
+    (subst (λ k. SurvivesTo k new.kept (tree_without path (tree_in k.disk k.pairs))) is (e.survives path old))

@@ -4,7 +4,7 @@ use Rattle.lfs_model.specs.Tree.{Path}
 use Rattle.lfs_operations.specs.Dropping.{SameInFlight}
 use Rattle.lfs_operations.specs.Editing.{slot_at}
 use Rattle.lfs_operations.specs.Ready.{IsReady}
-use Rattle.lfs_tree.specs.Going.{CanTake, HasGone, HasSpared}
+use Rattle.lfs_tree.specs.Removals.{CanRemoveFile, HasRemoved, SparesOthersInRemoval}
 use Rattle.lfs_tree.proofs.CarryFreed.{can_free, file_writes, files_stay, ok_both, shape_geometry, writes_then}
 use Rattle.lfs_tree.proofs.CarryGone.{file_gone, freeing_survives, removal_survives, steps_both, steps_from}
 use Rattle.lfs_tree.proofs.CarrySpared.{file_spares}
@@ -38,7 +38,7 @@ returns-clause-gone g c =
     let t = c.args.thread.now.kept in
     let mid = c.remove_file.new.thread.kept in
     let new = c.free_list.new.thread.kept in
-    ok_both c.free_list.result (IsReady new) (SameInFlight mid.map new.map) ((path : Path) → CanTake t path c.args.parent c.args.slot c.args.contents → HasGone t path new)
+    ok_both c.free_list.result (IsReady new) (SameInFlight mid.map new.map) ((path : Path) → CanRemoveFile t path c.args.parent c.args.slot c.args.contents → HasRemoved t path new)
     (λ ready flying path take. file_gone t mid new path take.take.can.path take.take.can.name (slot_at take.take.can).struct take.is (c.in_ok-remove_file.ensures.is_removed take.take) c.free_list.ensures.only ready flying)
     c.free_list.ensures.ready c.free_list.ensures.flying
 
@@ -48,7 +48,7 @@ returns-clause-alone g c =
     let mid = c.remove_file.new.thread.kept in
     let new = c.free_list.new.thread.kept in
     let s = c.args.slot in
-    ok_both c.free_list.result (IsReady new) (SameInFlight mid.map new.map) ((path : Path) → CanTake t path c.args.parent c.args.slot c.args.contents → HasSpared t path new)
+    ok_both c.free_list.result (IsReady new) (SameInFlight mid.map new.map) ((path : Path) → CanRemoveFile t path c.args.parent c.args.slot c.args.contents → SparesOthersInRemoval t path new)
     (λ ready flying path take. file_spares t mid new path s.pair s.id c.args.parent take.take take.is c.in_ok-remove_file.ensures.alters c.remove_file.ensures.device c.free_list.ensures.only)
     c.free_list.ensures.ready c.free_list.ensures.flying
 

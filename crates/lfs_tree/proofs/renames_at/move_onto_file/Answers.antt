@@ -3,7 +3,7 @@ use Rattle.std.proofs.lemmas.Result.{err_from_is_err_and}
 use Rattle.lfs_model.specs.Tree.{Path}
 use Rattle.lfs_operations.specs.Dropping.{SameInFlight}
 use Rattle.lfs_operations.specs.Ready.{IsReady}
-use Rattle.lfs_tree.specs.Shifting.{CanShiftOnto, HasShifted}
+use Rattle.lfs_tree.specs.Moves.{CanMoveOntoFile, HasMovedEntry}
 use Rattle.lfs_tree.proofs.CarryFreed.{ok_both}
 use Rattle.lfs_tree.proofs.ShiftedFiles.{apart_then, onto_done, onto_survives, reported_of, reported_then}
 use Rattle.lfs_tree.proofs.renames_at.move_onto_file.Goals as goal
@@ -21,7 +21,7 @@ returns-clause-shifted g c =
     let t = c.args.thread.now.kept in
     let mid = c.replace_file.new.thread.kept in
     let new = c.free_list.new.thread.kept in
-    ok_both c.free_list.result (IsReady new) (SameInFlight mid.map new.map) ((from to : Path) → CanShiftOnto t from to c.args.source c.args.slot c.args.contents c.args.name.now → HasShifted t from to new)
+    ok_both c.free_list.result (IsReady new) (SameInFlight mid.map new.map) ((from to : Path) → CanMoveOntoFile t from to c.args.source c.args.slot c.args.contents c.args.name.now → HasMovedEntry t from to new)
     (λ ready flying from to can. onto_done t mid new from to c.args.contents (c.in_ok-replace_file.ensures.shifted from to can) c.free_list.ensures.only ready flying)
     c.free_list.ensures.ready c.free_list.ensures.flying
 

@@ -3,8 +3,8 @@ use Rattle.std.proofs.lemmas.Result.{err_from_is_err_and}
 use Rattle.lfs_model.specs.TreeEdits.{renamed}
 use Rattle.lfs_model.specs.Shown.{tree_in}
 use Rattle.lfs_operations.specs.MovingSteps.{WritesAmong}
-use Rattle.lfs_tree.specs.Carrying.{SurvivesTo}
-use Rattle.lfs_tree.specs.Shifting.{CanShiftFound, HasShifted}
+use Rattle.lfs_tree.specs.TreeChanges.{SurvivesTo}
+use Rattle.lfs_tree.specs.Moves.{CanMoveToTarget, HasMovedEntry}
 use Rattle.lfs_tree.proofs.Carried.{read_is}
 use Rattle.lfs_tree.proofs.CarryEdited.{slot_found}
 use Rattle.lfs_tree.proofs.CarryFreed.{ok_then}
@@ -30,7 +30,7 @@ move_to_target-requires-clause-can g c =
     let can = shift_found t c.args.root c.requires.rests c.args.from.now c.args.to.now c.know_names.ensures c.know_device.ensures.large c.know_device.ensures.bytes c.requires.can c.requires.apart source
     (source_for t.kept c.args.from.now c.in_ok-entry.entry.found source c.in_ok-entry.ensures.target.leads c.source_in-source.ensures) mid.kept.history
     target.found target.name.now (target_back t.kept one.kept c.args.to.now target.found target.name.now c.find_target.ensures.reading.only c.in_ok-target.ensures.target) in
-    (c.args.from.now, c.args.to.now, subst (λ k. CanShiftFound k c.args.from.now c.args.to.now source target.found target.name.now) (sym (read_is t.kept mid.kept read.only)) can)
+    (c.args.from.now, c.args.to.now, subst (λ k. CanMoveToTarget k c.args.from.now c.args.to.now source target.found target.name.now) (sym (read_is t.kept mid.kept read.only)) can)
 
 pub returns-in_err-entry : goal.returns-in_err-entry
 returns-in_err-entry g c =
@@ -63,8 +63,8 @@ returns g c =
     target.found target.name.now (target_back t.kept one.kept to target.found target.name.now c.find_target.ensures.reading.only c.in_ok-target.ensures.target) in
     let is = read_is t.kept mid.kept read.only in
     let e = c.move_to_target.ensures in
-    let old = subst (λ k. CanShiftFound k from to source target.found target.name.now) (sym is) can in
-    let shifted = ok_then c.move_to_target.result _ _ (λ h. subst (λ k. HasShifted k from to new.kept) is (h from to old)) e.shifted in
+    let old = subst (λ k. CanMoveToTarget k from to source target.found target.name.now) (sym is) can in
+    let shifted = ok_then c.move_to_target.result _ _ (λ h. subst (λ k. HasMovedEntry k from to new.kept) is (h from to old)) e.shifted in
     rename_does t c.args.root c.requires.rests from to c.requires.apart mid.kept.history new read.only.reads (subst (λ k. WritesAmong k new.kept) is e.device) c.move_to_target.result c.know_bytes.ensures.0 c.know_bytes-2.ensures.0 c.know_bytes.ensures.1 c.know_bytes-2.ensures.1
     read.same shifted (reported_of_work mid new c.move_to_target.result e.errors) e.errors.works
     (subst (λ k. SurvivesTo k new.kept (renamed from to (tree_in k.disk k.pairs))) is (e.survives from to old))

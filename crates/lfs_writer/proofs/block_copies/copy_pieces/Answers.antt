@@ -4,10 +4,10 @@ use Rattle.lfs_device.specs.declared.geometry.Geometry.{Geometry}
 use Rattle.lfs_model.specs.Blocks.{Blocks, IsDivided}
 use Rattle.lfs_model.specs.SkipLists.{IsBytePlace, IsList, blocks_back, blocks_for, bytes_of}
 use Rattle.lfs_model.proofs.ListSizes.{blocks_for-more}
-use Rattle.lfs_ctz.specs.Growing.{IsGrowing, content_of, kept_of, size_of}
-use Rattle.lfs_writer.specs.Apart.{Grows, IsMarked}
-use Rattle.lfs_writer.specs.Based.{list_blocks}
-use Rattle.lfs_writer.specs.Extended.{IsOwn}
+use Rattle.lfs_ctz.specs.Growing.{IsGrowing, content_of, kept_blocks, size_with_pointers}
+use Rattle.lfs_writer.specs.BlocksApart.{Grows, IsTakenInMap}
+use Rattle.lfs_writer.specs.Bases.{list_blocks}
+use Rattle.lfs_writer.specs.Extensions.{IsOwn}
 use Rattle.lfs_writer.proofs.Called.{apart_on, apart_read, apart_reads, quiet}
 use Rattle.lfs_writer.proofs.Copies.{base_list, grown_on, copied, none_behind, sized}
 use Rattle.lfs_writer.proofs.Growth.{Grows-refl, Keeps-refl, Keeps-trans}
@@ -35,13 +35,13 @@ copying-init g c =
       growing = subst (λ x. IsGrowing x was) (sym same) c.requires.growing;
       same = refl;
       grown = subst (λ x. Grows map d was map x was) (sym same) (Grows-refl _ _ _);
-      marked = subst (λ x. IsMarked map x was) (sym same) c.requires.marked;
+      marked = subst (λ x. IsTakenInMap map x was) (sym same) c.requires.marked;
       map = Keeps-refl _;
       device = apart_reads g.D.BlockDevice _ _ c.blocks_from.ensures.device;
       own = subst (λ x. IsOwn x was) (sym same) c.requires.own;
       some = omega arith;
       top = omega arith;
-      bytes = ap (λ (x : Blocks). content_of x was ++ drop (size_of block_size was) (bytes_of d block_size c.args.head c.args.size)) same;
+      bytes = ap (λ (x : Blocks). content_of x was ++ drop (size_with_pointers block_size was) (bytes_of d block_size c.args.head c.args.size)) same;
       quiet = quiet g.D.BlockDevice c.in_ok-blocks.ensures.reports.faults;
     }
 
@@ -141,9 +141,9 @@ extend-requires-clause-room g c =
     let here = sized geometry c.copying.list.geometry now inv.same in
     let few = c.in_ok-count.ensures.count in
     let long : length (take n c.read_piece.new.buf) ≡ n = length-take-le n c.read_piece.new.buf (omega (arith, c.read_piece.auto.buf, few)) in
-    let more = blocks_for-more block_size (size_of block_size now + length (take n c.read_piece.new.buf)) c.args.size (omega arith) in
-    let same = ap (λ (k : Geometry). blocks_for k.block_size (size_of k.block_size now + length (take n c.read_piece.new.buf))) inv.same in
-    let kept = ap (λ (x : Blocks). length (kept_of x now)) c.read_piece.ensures.device.same in
+    let more = blocks_for-more block_size (size_with_pointers block_size now + length (take n c.read_piece.new.buf)) c.args.size (omega arith) in
+    let same = ap (λ (k : Geometry). blocks_for k.block_size (size_with_pointers k.block_size now + length (take n c.read_piece.new.buf))) inv.same in
+    let kept = ap (λ (x : Blocks). length (kept_blocks x now)) c.read_piece.ensures.device.same in
     let count = inv.grown.count in
     let states = inv.map.count in
     let used = inv.map.used in
@@ -190,10 +190,10 @@ copying-preserved g c =
       own = more.own;
       some = omega arith;
       top = omega arith;
-      bytes = ap (λ (l : List ℕ). l ++ drop (size_of block_size new) base) (more.content ∙ ap (λ (x : Blocks). content_of x now ++ take n c.read_piece.new.buf) c.read_piece.ensures.device.same)
-          ∙ ap (λ k. content_of (g.D.BlockDevice.blocks c.copying.dev) now ++ take n c.read_piece.new.buf ++ drop k base) (let k : size_of block_size new ≡ pos + n = omega arith in k)
+      bytes = ap (λ (l : List ℕ). l ++ drop (size_with_pointers block_size new) base) (more.content ∙ ap (λ (x : Blocks). content_of x now ++ take n c.read_piece.new.buf) c.read_piece.ensures.device.same)
+          ∙ ap (λ k. content_of (g.D.BlockDevice.blocks c.copying.dev) now ++ take n c.read_piece.new.buf ++ drop k base) (let k : size_with_pointers block_size new ≡ pos + n = omega arith in k)
           ∙ copied (content_of (g.D.BlockDevice.blocks c.copying.dev) now) (take n c.read_piece.new.buf) base pos n chunk
-          ∙ ap (λ k. content_of (g.D.BlockDevice.blocks c.copying.dev) now ++ drop k base) (let k : pos ≡ size_of block_size now = omega arith in k)
+          ∙ ap (λ k. content_of (g.D.BlockDevice.blocks c.copying.dev) now ++ drop k base) (let k : pos ≡ size_with_pointers block_size now = omega arith in k)
           ∙ inv.bytes;
       quiet = quiet g.D.BlockDevice c.in_ok-extend.ensures.reports.faults ∙ quiet g.D.BlockDevice c.in_ok-count.ensures.reports.faults ∙ inv.quiet;
     }
@@ -213,7 +213,7 @@ returns-clause-extended g c =
     record {
       geometry = inv.same;
       growing = inv.growing;
-      content = sym (none_behind d block_size c.args.head c.args.size (size_of block_size now) (content_of (g.D.BlockDevice.blocks c.copying.dev) now) (omega arith)) ∙ inv.bytes;
+      content = sym (none_behind d block_size c.args.head c.args.size (size_with_pointers block_size now) (content_of (g.D.BlockDevice.blocks c.copying.dev) now) (omega arith)) ∙ inv.bytes;
       sum = omega arith;
       own = inv.own;
       grown = inv.grown;

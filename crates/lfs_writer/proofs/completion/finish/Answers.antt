@@ -1,5 +1,5 @@
 use Rattle.std.proofs.Common.{sym, subst}
-use Rattle.lfs_writer.specs.Owned.{AreOwned, blocks_held, blocks_in}
+use Rattle.lfs_writer.specs.BlockOwners.{AreOwned, blocks_held, blocks_in}
 use Rattle.lfs_writer.specs.declared.contents.Contents.{Contents}
 use Rattle.lfs_writer.proofs.Owning.{owned_right}
 use Rattle.lfs_writer.proofs.completion.finish.Goals as goal

@@ -3,7 +3,7 @@ use Rattle.std.proofs.lemmas.Result.{err_from_is_err_and}
 use Rattle.lfs_device.specs.declared.geometry.Geometry.{Geometry}
 use Rattle.lfs_model.specs.Blocks.{Blocks}
 use Rattle.lfs_model.specs.Writers.{written_into}
-use Rattle.lfs_writer.specs.Written.{IsGoing, bytes_over}
+use Rattle.lfs_writer.specs.HandWrites.{IsHandWithBytes, bytes_over}
 use Rattle.lfs_writer.proofs.Owning.{list_from}
 use Rattle.lfs_writer.proofs.Called.{quiet, reported_as, reported_on, used_on, used_reads}
 use Rattle.lfs_writer.proofs.Spared.{KeepsUsed-refl}
@@ -30,7 +30,7 @@ returns-clause-written g c =
     let at = c.in_ok-begun.ensures.begun c.args.map.now c.requires.stored in
     let wrote = c.in_ok-write_from.ensures.written in
     record {
-      going = subst (λ (k : Geometry). IsGoing c.write_from.new.map (g.D.BlockDevice.blocks c.write_from.new.dev) k c.write_from.new.hand) read.geometry wrote.going;
+      going = subst (λ (k : Geometry). IsHandWithBytes c.write_from.new.map (g.D.BlockDevice.blocks c.write_from.new.dev) k c.write_from.new.hand) read.geometry wrote.going;
       size = wrote.size;
       bytes = wrote.bytes ∙ ap (λ (x : Blocks). written_into (bytes_over x hand) c.args.place c.args.bytes.now) read.same ∙ ap (λ (l : List ℕ). written_into l c.args.place c.args.bytes.now) at.bytes;
     }

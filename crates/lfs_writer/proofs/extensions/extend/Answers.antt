@@ -4,8 +4,8 @@ use Rattle.lfs_device.specs.declared.geometry.Geometry.{Geometry}
 use Rattle.lfs_model.specs.BlockSets.{BlockSets, IsFree}
 use Rattle.lfs_model.specs.BlockSets.BlockState.{Free}
 use Rattle.lfs_model.specs.SkipLists.{blocks_for}
-use Rattle.lfs_ctz.specs.Growing.{kept_of, pending_of, size_of}
-use Rattle.lfs_writer.specs.Taken.{Takes}
+use Rattle.lfs_ctz.specs.Growing.{kept_blocks, pending_of, size_with_pointers}
+use Rattle.lfs_writer.specs.TakenBlocks.{Takes}
 use Rattle.lfs_writer.proofs.Pushed.{length-kept, leaves_apart, grows, marks}
 use Rattle.lfs_writer.proofs.extensions.extend.Goals as goal
 
@@ -65,10 +65,10 @@ returns-clause-extended g c =
     let count = c.needed-count.ensures.count in
     let len = ap length c.as_slice.ensures.value in
     let all = ap length pushed.kept in
-    let sum = length-append (kept_of d was) c.as_slice.result.now in
+    let sum = length-append (kept_blocks d was) c.as_slice.result.now in
     let taken = c.in_ok-blocks.ensures.count in
-    let size : size_of now.geometry.block_size now ≡ size_of c.args.list.now.geometry.block_size was + length c.args.bytes.now =
-    ap (λ (k : Geometry). size_of k.block_size now) pushed.geometry ∙ pushed.sum in
+    let size : size_with_pointers now.geometry.block_size now ≡ size_with_pointers c.args.list.now.geometry.block_size was + length c.args.bytes.now =
+    ap (λ (k : Geometry). size_with_pointers k.block_size now) pushed.geometry ∙ pushed.sum in
     record {
       geometry = pushed.geometry;
       growing = pushed.growing;
@@ -76,7 +76,7 @@ returns-clause-extended g c =
       sum = size;
       own = record {
         own = pushed.blocks ∙ sym pushed.kept;
-        many = many c.args.list.now.geometry now.geometry _ (size_of c.args.list.now.geometry.block_size was + length c.args.bytes.now) _ (length (kept_of d was)) c.needed-count.result (length c.as_slice.result.now)
+        many = many c.args.list.now.geometry now.geometry _ (size_with_pointers c.args.list.now.geometry.block_size was + length c.args.bytes.now) _ (length (kept_blocks d was)) c.needed-count.result (length c.as_slice.result.now)
             pushed.geometry size (omega arith) (omega arith) (omega arith) (omega arith);
         listed = waits.listed;
       };

@@ -5,9 +5,9 @@ use Rattle.lfs_model.specs.Blocks.{Blocks}
 use Rattle.lfs_model.specs.SkipLists.{blocks_for, bytes_of}
 use Rattle.lfs_model.proofs.ListSizes.{blocks_for-more}
 use Rattle.lfs_model.proofs.Overwrites.{SameButThese-refl}
-use Rattle.lfs_writer.specs.Based.{list_blocks}
+use Rattle.lfs_writer.specs.Bases.{list_blocks}
 use Rattle.lfs_writer.specs.Hand.{IsListStored}
-use Rattle.lfs_writer.specs.Released.{Releases}
+use Rattle.lfs_writer.specs.Releases.{Releases}
 use Rattle.lfs_writer.proofs.Hands.{Contains-take}
 use Rattle.lfs_writer.proofs.Called.{read_on}
 use Rattle.lfs_writer.proofs.Copies.{base_list}

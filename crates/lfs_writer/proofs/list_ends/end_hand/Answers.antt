@@ -4,11 +4,11 @@ use Rattle.lfs_model.specs.Blocks.{Blocks}
 use Rattle.lfs_model.specs.SkipLists.{blocks_for, bytes_of}
 use Rattle.lfs_ctz.specs.Growing.{pending_of}
 use Rattle.lfs_writer.specs.Hand.{IsListStored}
-use Rattle.lfs_writer.specs.Roomy.{base_blocks}
+use Rattle.lfs_writer.specs.BaseRoom.{base_blocks}
 use Rattle.lfs_writer.proofs.Bases.{blocks_stay}
 use Rattle.lfs_writer.proofs.Owning.{ends_over}
 use Rattle.lfs_writer.proofs.Spared.{after_release}
-use Rattle.lfs_writer.specs.Based.{list_blocks}
+use Rattle.lfs_writer.specs.Bases.{list_blocks}
 use Rattle.lfs_writer.proofs.Called.{apart_end, apart_on, used_of, used_read}
 use Rattle.lfs_writer.proofs.Ends.{base_end, ends_by, used_kept}
 use Rattle.lfs_writer.proofs.Flights.{begun_flying}

@@ -7,25 +7,25 @@ use Rattle.lfs_ctz.specs.Extended.{IsGrown}
 use Rattle.std.specs.Prelude.{All}
 use Rattle.lfs_ctz.specs.declared.rest.Rest.{Rest}
 use Rattle.lfs_ctz.specs.declared.rest.Rest.TheVariants.{Closed, Shared, Handed, Held}
-use Rattle.lfs_ctz.specs.Growing.{pending_in, content_of, size_of, Growing}
+use Rattle.lfs_ctz.specs.Growing.{pending_in, content_of, size_with_pointers, Growing}
 use Rattle.lfs_writer.specs.Hand.{IsListBegun, stored_bytes}
-use Rattle.lfs_writer.specs.Written.{IsAt}
+use Rattle.lfs_writer.specs.HandWrites.{EndsAt}
 use Rattle.lfs_writer.specs.declared.stored_list.Stored.{Stored}
 use Rattle.lfs_writer.proofs.Hands.{begins, none_pending}
 use Rattle.lfs_writer.proofs.list_starts.begin_over.Goals as goal
 
 -- the first bytes and those behind them
 at_by : (map : BlockSets) (d : Blocks) (now : Geometry) (list : Growing) (base : Stored) (shared keep count : ℕ) (front own all : List ℕ) → IsGrown now d list front count own all → front ≡ take keep (stored_bytes d now.block_size base) → count ≡ keep
-    → IsListBegun map d now.block_size list base shared → IsAt map d now (record { list = list; base = base; shared = shared }) keep (stored_bytes d now.block_size base)
+    → IsListBegun map d now.block_size list base shared → EndsAt map d now (record { list = list; base = base; shared = shared }) keep (stored_bytes d now.block_size base)
 at_by map d now list base shared keep count front own all grown first is begun =
     let same : now ≡ list.geometry = sym grown.geometry in
-    let sum : size_of now.block_size list ≡ keep = grown.sum ∙ is in
-    let size : size_of list.geometry.block_size list ≡ keep = ap (λ (k : Geometry). size_of k.block_size list) grown.geometry ∙ sum in
+    let sum : size_with_pointers now.block_size list ≡ keep = grown.sum ∙ is in
+    let size : size_with_pointers list.geometry.block_size list ≡ keep = ap (λ (k : Geometry). size_with_pointers k.block_size list) grown.geometry ∙ sum in
     record {
       begun = record { geometry = same; begun = subst (λ (k : Geometry). IsListBegun map d k.block_size list base shared) same begun };
       size = size;
-      bytes = ap (λ (k : Geometry). content_of d list ++ drop (size_of k.block_size list) (stored_bytes d k.block_size base)) grown.geometry
-          ∙ ap (λ (l : List ℕ). l ++ drop (size_of now.block_size list) (stored_bytes d now.block_size base)) (grown.content ∙ first)
+      bytes = ap (λ (k : Geometry). content_of d list ++ drop (size_with_pointers k.block_size list) (stored_bytes d k.block_size base)) grown.geometry
+          ∙ ap (λ (l : List ℕ). l ++ drop (size_with_pointers now.block_size list) (stored_bytes d now.block_size base)) (grown.content ∙ first)
           ∙ ap (λ n. take keep (stored_bytes d now.block_size base) ++ drop n (stored_bytes d now.block_size base)) sum
           ∙ take-append-drop keep (stored_bytes d now.block_size base);
     }

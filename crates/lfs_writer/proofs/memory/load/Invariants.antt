@@ -2,7 +2,7 @@ use Rattle.std.proofs.Common.{◌≡◌, ◌≤◌, ◌-◌, take}
 use Rattle.lfs_device.specs.Calls.{ReadsOnly}
 use Rattle.lfs_model.specs.History.{faults}
 use Rattle.lfs_ctz.specs.Growing.{end_of}
-use Rattle.lfs_writer.specs.Contents.{IsResting, held_bytes}
+use Rattle.lfs_writer.specs.Contents.{IsInBufferOf, held_bytes}
 use Rattle.lfs_writer.specs.Hand.{stored_bytes}
 use Rattle.lfs_writer.proofs.memory.load.Given as goal
 
@@ -11,7 +11,7 @@ invariant-loading g l =
     let shows = g.D.BlockDevice in
     let now = shows.geometry l.fn.dev in
     record {
-      resting : IsResting now l.list;
+      resting : IsInBufferOf now l.list;
       bytes : held_bytes l.list ≡ take (end_of l.list) (stored_bytes (shows.blocks l.fn.dev) now.block_size l.fn.stored);
       few : end_of l.list ≤ l.fn.keep;
       device : ReadsOnly shows l.fn.dev l.dev;

@@ -5,7 +5,7 @@ use Rattle.lfs_device.specs.declared.geometry.Geometry.{Geometry}
 use Rattle.lfs_model.specs.Blocks.{Blocks}
 use Rattle.lfs_model.specs.SkipLists.{blocks_back}
 use Rattle.lfs_model.proofs.Files.{length_back}
-use Rattle.lfs_writer.specs.Settled.{Puts, settled_as}
+use Rattle.lfs_writer.specs.SettledMaps.{Puts, state_after_settle}
 use Rattle.lfs_writer.proofs.Called.{not_read, quiet, read_on, reported_as, reported_on}
 use Rattle.lfs_writer.proofs.Releasings.{in_range_at, next_is, next_there}
 use Rattle.lfs_writer.proofs.Others.{others_drop, puts_others}
@@ -19,7 +19,7 @@ putting-init g c =
       high = omega arith;
       low = c.requires.within;
       here = λ some. head_is d c.args.count c.args.head (omega arith);
-      done = subst (λ (l : List ℕ). Puts (settled_as c.args.used) c.args.map.now c.args.map.now l) (sym (drop_all c.args.count (blocks_back d c.args.count c.args.head) (let l = length_back d c.args.count c.args.head in omega arith))) (puts_none (settled_as c.args.used) c.args.map.now);
+      done = subst (λ (l : List ℕ). Puts (state_after_settle c.args.used) c.args.map.now c.args.map.now l) (sym (drop_all c.args.count (blocks_back d c.args.count c.args.head) (let l = length_back d c.args.count c.args.head in omega arith))) (puts_none (state_after_settle c.args.used) c.args.map.now);
       device = not_read g.D.BlockDevice c.args.dev.now;
       quiet = refl;
       few = omega arith;
@@ -72,8 +72,8 @@ putting-preserved g c =
       high = omega arith;
       low = omega arith;
       here = λ some. next_is d _ count head (index - 1) c.putting.block _ inv.device.same c.requires.chain (omega arith) (omega arith) here (c.in_ok-block.ensures.word (omega arith));
-      done = puts_here (settled_as c.args.used) c.args.map.now c.putting.map c.put_one.new.map d count head (index - 1) c.putting.block (omega arith) here
-          (subst (λ n. Puts (settled_as c.args.used) c.args.map.now c.putting.map (drop n (blocks_back d count head))) (sym next) inv.done) one;
+      done = puts_here (state_after_settle c.args.used) c.args.map.now c.putting.map c.put_one.new.map d count head (index - 1) c.putting.block (omega arith) here
+          (subst (λ n. Puts (state_after_settle c.args.used) c.args.map.now c.putting.map (drop n (blocks_back d count head))) (sym next) inv.done) one;
       device = read_on g.D.BlockDevice inv.device c.head_before.ensures.reading.device;
       quiet = quiet g.D.BlockDevice c.in_ok-block.ensures.reading.faults ∙ inv.quiet;
       few = omega arith;
@@ -85,7 +85,7 @@ returns-clause-put g c =
     let low = inv.low in
     let test = c.putting-test.false in
     let same : c.putting.index ≡ c.args.from = omega arith in
-    subst (λ n. Puts (settled_as c.args.used) c.args.map.now c.putting.map (drop n (blocks_back (g.D.BlockDevice.blocks c.args.dev.now) c.args.count c.args.head))) same inv.done
+    subst (λ n. Puts (state_after_settle c.args.used) c.args.map.now c.putting.map (drop n (blocks_back (g.D.BlockDevice.blocks c.args.dev.now) c.args.count c.args.head))) same inv.done
 
 pub returns-clause-few : goal.returns-clause-few
 returns-clause-few g c =
@@ -112,5 +112,5 @@ returns-in_err-block-clause-others g c =
     let within = in_range_at d count head (index - 1) c.requires.chain (omega arith) in
     let one = c.put_one.ensures in
     others_drop _ _ (index - 1) (blocks_back d count head)
-    (puts_others (puts_here (settled_as c.args.used) c.args.map.now c.putting.map c.put_one.new.map d count head (index - 1) c.putting.block (omega arith) here
-    (subst (λ n. Puts (settled_as c.args.used) c.args.map.now c.putting.map (drop n (blocks_back d count head))) (sym next) inv.done) one))
+    (puts_others (puts_here (state_after_settle c.args.used) c.args.map.now c.putting.map c.put_one.new.map d count head (index - 1) c.putting.block (omega arith) here
+    (subst (λ n. Puts (state_after_settle c.args.used) c.args.map.now c.putting.map (drop n (blocks_back d count head))) (sym next) inv.done) one))

@@ -2,7 +2,7 @@ use Rattle.std.proofs.Common.{◌≡◌, ◌≤◌, ◌<◌, ◌+◌, ◌-◌, d
 use Rattle.lfs_device.specs.Calls.{ReadsOnly}
 use Rattle.lfs_model.specs.History.{faults, reads}
 use Rattle.lfs_model.specs.SkipLists.{blocks_back}
-use Rattle.lfs_writer.specs.Settled.{Puts, settled_as}
+use Rattle.lfs_writer.specs.SettledMaps.{Puts, state_after_settle}
 use Rattle.lfs_writer.proofs.named_lists.put_blocks.Given as goal
 
 abbrev pub invariant-putting : goal.invariant-putting
@@ -13,7 +13,7 @@ invariant-putting g l =
       high : l.index ≤ l.fn.count;
       low : l.fn.from ≤ l.index;
       here : l.fn.from < l.index → l.block ≡ slice_index blocks (l.index - 1);
-      done : Puts (settled_as l.fn.used) l.fn.map l.map (drop l.index blocks);
+      done : Puts (state_after_settle l.fn.used) l.fn.map l.map (drop l.index blocks);
       device : ReadsOnly g.D.BlockDevice old l.dev;
       quiet : faults (g.D.BlockDevice.history l.dev) ≡ faults (g.D.BlockDevice.history old);
       few : reads (g.D.BlockDevice.history l.dev) + l.index ≤ reads (g.D.BlockDevice.history old) + l.fn.count;

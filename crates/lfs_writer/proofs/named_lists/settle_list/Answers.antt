@@ -5,8 +5,8 @@ use Rattle.lfs_model.specs.BlockSets.{BlockState, BlockSets}
 use Rattle.lfs_model.specs.BlockSets.BlockState.{Free, Used}
 use Rattle.lfs_model.specs.SkipLists.{AreListBlocks, blocks_back, blocks_for}
 use Rattle.lfs_model.proofs.Files.{length_back}
-use Rattle.lfs_writer.specs.Settled.{KeepsOthers, Puts}
-use Rattle.lfs_writer.specs.Shared.{IsSharedCount, apart_count}
+use Rattle.lfs_writer.specs.SettledMaps.{KeepsOthers, Puts}
+use Rattle.lfs_writer.specs.SharedBlocks.{IsSharedCount, apart_count}
 use Rattle.lfs_writer.proofs.Called.{read_on}
 use Rattle.lfs_writer.proofs.Ends.{base_chain}
 use Rattle.lfs_writer.proofs.Others.{others_left, others_more}

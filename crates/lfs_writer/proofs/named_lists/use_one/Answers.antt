@@ -3,7 +3,7 @@ use Rattle.std.specs.Bool.{OnFalse, OnTrue}
 use Rattle.std.specs.Prelude.{IsTrue}
 use Rattle.lfs_model.specs.BlockSets.{BlockSets, IsFree, IsInFlight}
 use Rattle.lfs_model.specs.BlockSets.BlockState.{Used}
-use Rattle.lfs_writer.specs.Settled.{Puts}
+use Rattle.lfs_writer.specs.SettledMaps.{Puts}
 use Rattle.lfs_writer.proofs.Settlings.{puts_kept, puts_one, used_else}
 use Rattle.lfs_writer.proofs.named_lists.use_one.Goals as goal
 

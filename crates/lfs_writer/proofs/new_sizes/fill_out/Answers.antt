@@ -4,7 +4,7 @@ use Rattle.lfs_model.specs.Blocks.{Blocks}
 use Rattle.lfs_model.specs.Writers.{written_into}
 use Rattle.lfs_ctz.specs.Growing.{end_of}
 use Rattle.lfs_writer.specs.Contents.{held_bytes}
-use Rattle.lfs_writer.specs.Written.{bytes_over}
+use Rattle.lfs_writer.specs.HandWrites.{bytes_over}
 use Rattle.lfs_writer.proofs.Memories.{held_size, lengthened, no_base_fits}
 use Rattle.lfs_writer.proofs.new_sizes.fill_out.Goals as goal
 

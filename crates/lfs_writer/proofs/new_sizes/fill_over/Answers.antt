@@ -4,7 +4,7 @@ use Rattle.lfs_device.specs.declared.geometry.Geometry.{Geometry}
 use Rattle.lfs_model.specs.Blocks.{Blocks}
 use Rattle.lfs_ctz.specs.Growing.{end_of}
 use Rattle.lfs_writer.specs.Hand.{stored_bytes}
-use Rattle.lfs_writer.specs.Written.{IsGoing, bytes_over}
+use Rattle.lfs_writer.specs.HandWrites.{IsHandWithBytes, bytes_over}
 use Rattle.lfs_writer.proofs.Owning.{list_from}
 use Rattle.lfs_writer.proofs.Called.{quiet, reported_as, reported_on, used_on, used_reads}
 use Rattle.lfs_writer.proofs.Flights.{length-base, part_fits}
@@ -49,7 +49,7 @@ returns-clause-filled g c =
     let end = zeroed.at.size in
     let all = length-base d now.block_size now.block_count stored.head stored.size now.valid.no_smaller (g.met.D.BlockDevice.shape c.args.dev.now) c.requires.stored.base in
     record {
-      going = subst (λ (k : Geometry). IsGoing c.write_zeros.new.map (g.D.BlockDevice.blocks c.write_zeros.new.dev) k c.write_zeros.new.hand) read.geometry (zeroed.going (omega arith));
+      going = subst (λ (k : Geometry). IsHandWithBytes c.write_zeros.new.map (g.D.BlockDevice.blocks c.write_zeros.new.dev) k c.write_zeros.new.hand) read.geometry (zeroed.going (omega arith));
       size = omega arith;
       bytes = lengthened old (bytes_over (g.D.BlockDevice.blocks c.begin_over.new.dev) hand) _ stored.size (end_of hand.list) c.args.size all (omega arith) (ap (λ (x : Blocks). bytes_over x hand) read.same ∙ at.bytes) sum zeroed.at.bytes;
     }

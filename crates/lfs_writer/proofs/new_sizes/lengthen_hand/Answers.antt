@@ -4,7 +4,7 @@ use Rattle.lfs_model.specs.Blocks.{Blocks}
 use Rattle.lfs_model.specs.SkipLists.{blocks_for}
 use Rattle.lfs_model.proofs.ListSizes.{blocks_for-more}
 use Rattle.lfs_ctz.specs.Growing.{end_of}
-use Rattle.lfs_writer.specs.Written.{IsGoing, bytes_over, length_in}
+use Rattle.lfs_writer.specs.HandWrites.{IsHandWithBytes, bytes_over, length_in}
 use Rattle.std.proofs.lemmas.Result.{err_from_is_err_and}
 use Rattle.lfs_writer.proofs.Owning.{owned_kept}
 use Rattle.lfs_writer.proofs.Called.{quiet, reported_as, reported_on, used_on}
@@ -60,7 +60,7 @@ returns-clause-lengthened g c =
     let end = zeroed.at.size in
     let all = length-hand d geometry.block_size (g.D.BlockDevice.geometry c.args.dev.now).block_count hand.list hand.base geometry.valid.no_smaller (shaped d _ _ going.geometry (g.met.D.BlockDevice.shape c.args.dev.now)) going.list.begun.growing going.list.begun.list in
     record {
-      going = subst (λ (k : Geometry). IsGoing c.write_zeros.new.map (g.D.BlockDevice.blocks c.write_zeros.new.dev) k c.write_zeros.new.hand) c.turn_to.ensures.device.geometry (zeroed.going (omega arith));
+      going = subst (λ (k : Geometry). IsHandWithBytes c.write_zeros.new.map (g.D.BlockDevice.blocks c.write_zeros.new.dev) k c.write_zeros.new.hand) c.turn_to.ensures.device.geometry (zeroed.going (omega arith));
       size = omega arith;
       bytes = lengthened (bytes_over d hand) _ _ c.max-length.result _ c.args.size (all ∙ sym len) (omega arith) at.bytes sum zeroed.at.bytes;
     }

@@ -1,11 +1,11 @@
 use Rattle.std.proofs.Common.{ℕ, List, take, sym, ap, ◌∙◌, subst, arith}
 use Rattle.lfs_device.specs.declared.geometry.Geometry.{Geometry}
 use Rattle.lfs_model.specs.Writers.{zeros_to}
-use Rattle.lfs_writer.specs.Contents.{Stands, bytes_in}
+use Rattle.lfs_writer.specs.Contents.{AreOnDisk, bytes_in}
 use Rattle.lfs_writer.specs.Form.{Finished, truncated}
 use Rattle.lfs_writer.specs.Hand.{IsListStored, stored_bytes}
-use Rattle.lfs_writer.specs.Written.{length_in}
-use Rattle.lfs_writer.specs.Owned.{AreOwned, blocks_held, blocks_in}
+use Rattle.lfs_writer.specs.HandWrites.{length_in}
+use Rattle.lfs_writer.specs.BlockOwners.{AreOwned, blocks_held, blocks_in}
 use Rattle.lfs_writer.proofs.Owning.{owned_on, owned_right}
 use Rattle.lfs_writer.proofs.Called.{used_on}
 use Rattle.lfs_writer.proofs.new_sizes.shorten_hand.Goals as goal
@@ -34,7 +34,7 @@ returns-clause-truncated g c =
     let is = c.end_hand.ensures.device.geometry in
     let d = g.D.BlockDevice.blocks c.end_hand.new.dev in
     record {
-      stands = subst (λ (k : Geometry). Stands c.truncate_finished.new.map (g.D.BlockDevice.blocks c.truncate_finished.new.dev) k c.in_ok-cut.cut) is cut.stands;
+      stands = subst (λ (k : Geometry). AreOnDisk c.truncate_finished.new.map (g.D.BlockDevice.blocks c.truncate_finished.new.dev) k c.in_ok-cut.cut) is cut.stands;
       has = sym (ap (λ (k : Geometry). bytes_in (g.D.BlockDevice.blocks c.truncate_finished.new.dev) k.block_size c.in_ok-cut.cut) is) ∙ cut.has
           ∙ ap (λ (l : List ℕ). take c.args.size (zeros_to c.args.size l)) (ap (λ (k : Geometry). stored_bytes d k.block_size stored) is ∙ ended.bytes);
       form = cut.form ∙ ap (λ k. truncated c.args.limit c.args.size (Finished k stored.in_flight)) ended.count ∙ ap (λ t. truncated c.args.limit c.args.size (Finished (length_in c.args.hand) t)) c.in_ok-stored.ensures.own.flying;

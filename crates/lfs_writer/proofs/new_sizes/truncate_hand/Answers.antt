@@ -3,7 +3,7 @@ use Rattle.lfs_device.specs.declared.geometry.Geometry.{Geometry}
 use Rattle.lfs_model.specs.Blocks.{Blocks}
 use Rattle.lfs_ctz.specs.Growing.{end_of}
 use Rattle.lfs_writer.specs.Form.{InHand}
-use Rattle.lfs_writer.specs.Written.{bytes_over, length_in}
+use Rattle.lfs_writer.specs.HandWrites.{bytes_over, length_in}
 use Rattle.lfs_writer.proofs.Owning.{hand_owned, owned_right}
 use Rattle.lfs_writer.proofs.Flights.{length-hand, shaped}
 use Rattle.lfs_writer.proofs.Truncations.{lengthened_hand, resized_none, room_anew, room_on, room_shorter, truncated_ended, truncated_same}

@@ -1,6 +1,6 @@
 use Rattle.std.proofs.Common.{rules, sym, subst}
 use Rattle.lfs_model.specs.Blocks.{Blocks}
-use Rattle.lfs_writer.specs.Owned.{AreOwned, blocks_in}
+use Rattle.lfs_writer.specs.BlockOwners.{AreOwned, blocks_in}
 use Rattle.lfs_writer.specs.declared.stored_list.Stored.{Stored}
 use Rattle.lfs_writer.proofs.Owning.{owned_all}
 use Rattle.lfs_writer.proofs.Called.{used_read}

@@ -2,7 +2,7 @@ use Rattle.std.proofs.Common.{ℕ, ◌≡◌, ◌+◌, length, max, min, sym, ap
 use Rattle.lfs_device.specs.declared.geometry.Geometry.{Geometry}
 use Rattle.lfs_model.proofs.ListSizes.{blocks_for-more}
 use Rattle.lfs_ctz.specs.Growing.{end_of}
-use Rattle.lfs_writer.specs.Written.{length_in}
+use Rattle.lfs_writer.specs.HandWrites.{length_in}
 use Rattle.lfs_writer.proofs.Owning.{owned_kept}
 use Rattle.std.proofs.lemmas.Result.{err_from_is_err_and}
 use Rattle.lfs_writer.proofs.Called.{quiet, reported_as, reported_on, used_on}

@@ -8,7 +8,7 @@ use Rattle.lfs_model.specs.SkipLists.{blocks_back}
 use Rattle.lfs_model.proofs.Files.{length_back}
 use Rattle.lfs_model.proofs.ListSizes.{head_of_back}
 use Rattle.lfs_writer.proofs.Called.{not_read, quiet, read_on, reported_as, reported_on}
-use Rattle.lfs_writer.specs.Released.{Releases}
+use Rattle.lfs_writer.specs.Releases.{Releases}
 use Rattle.lfs_writer.proofs.Releasings.{releases_none, next_is, next_there, releases_here}
 use Rattle.lfs_writer.proofs.releases.release_from.Goals as goal
 

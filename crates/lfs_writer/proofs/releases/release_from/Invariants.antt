@@ -2,7 +2,7 @@ use Rattle.std.proofs.Common.{◌≡◌, ◌≤◌, ◌<◌, ◌-◌, drop, slic
 use Rattle.lfs_device.specs.Calls.{ReadsOnly}
 use Rattle.lfs_model.specs.History.{faults}
 use Rattle.lfs_model.specs.SkipLists.{blocks_back}
-use Rattle.lfs_writer.specs.Released.{Releases}
+use Rattle.lfs_writer.specs.Releases.{Releases}
 use Rattle.lfs_writer.proofs.releases.release_from.Given as goal
 
 abbrev pub invariant-releasing : goal.invariant-releasing

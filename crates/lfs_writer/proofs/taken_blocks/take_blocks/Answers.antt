@@ -2,7 +2,7 @@ use Rattle.std.proofs.Common.{ℕ, ◌≡◌, ◌+◌, ◌<◌, ◌++◌, List, 
 use Rattle.std.specs.Option.{IfNone, IfSome, IsSome}
 use Rattle.lfs_model.specs.BlockSets.{BlockSets, IsFree, in_flight_count, used_count}
 use Rattle.lfs_model.specs.BlockSets.BlockState.{InFlight}
-use Rattle.lfs_writer.specs.Taken.{Takes}
+use Rattle.lfs_writer.specs.TakenBlocks.{Takes}
 use Rattle.lfs_writer.proofs.Takings.{takes_none, takes_more, some_free, keeps_by}
 use Rattle.lfs_model.proofs.BlockCounts.{in_flight-taken, used-taken}
 use Rattle.lfs_writer.proofs.taken_blocks.take_blocks.Goals as goal

@@ -1,6 +1,6 @@
 use Rattle.std.proofs.Common.{◌≡◌, ◌≤◌, ◌+◌, ◌-◌, length}
 use Rattle.lfs_model.specs.BlockSets.{in_flight_count, used_count}
-use Rattle.lfs_writer.specs.Taken.{Takes}
+use Rattle.lfs_writer.specs.TakenBlocks.{Takes}
 use Rattle.lfs_writer.proofs.taken_blocks.take_blocks.Given as goal
 
 abbrev pub invariant-taking : goal.invariant-taking

@@ -2,7 +2,7 @@ use Rattle.std.proofs.Common.{◌≡◌, ◌+◌, ◌-◌, length, refl, ap, ◌
 use Rattle.lfs_device.specs.declared.geometry.Geometry.{Geometry}
 use Rattle.lfs_model.specs.Writers.{written_into}
 use Rattle.lfs_ctz.specs.Growing.{end_of}
-use Rattle.lfs_writer.specs.Written.{IsGoing, bytes_over, length_in}
+use Rattle.lfs_writer.specs.HandWrites.{IsHandWithBytes, bytes_over, length_in}
 use Rattle.lfs_writer.proofs.Owning.{list_then}
 use Rattle.lfs_writer.proofs.Called.{used_on}
 use Rattle.lfs_writer.proofs.Flights.{length-hand, part_fits, shaped, wrote_all}
@@ -35,7 +35,7 @@ returns-clause-written g c =
     let long = length-hand d geometry.block_size (g.D.BlockDevice.geometry c.args.dev.now).block_count hand.list hand.base geometry.valid.no_smaller (shaped d _ _ begun.geometry (g.met.D.BlockDevice.shape c.args.dev.now)) begun.begun.growing begun.begun.list in
     let gap : c.args.place - c.size.result ≡ c.args.place - end_of hand.list = ap (λ n. c.args.place - n) size in
     record {
-      going = subst (λ (k : Geometry). IsGoing c.write_on.new.map (g.D.BlockDevice.blocks c.write_on.new.dev) k c.write_on.new.hand) c.write_zeros.ensures.device.geometry wrote.going;
+      going = subst (λ (k : Geometry). IsHandWithBytes c.write_on.new.map (g.D.BlockDevice.blocks c.write_on.new.dev) k c.write_on.new.hand) c.write_zeros.ensures.device.geometry wrote.going;
       size = (let sum = wrote.size in omega arith);
       bytes = wrote_all (bytes_over d hand) (bytes_over d hand) _ _ c.args.bytes.now (length_in hand) c.args.place (end_of hand.list) (end_of hand.list) _ long at refl refl
           (zeroed.at.bytes ∙ ap (λ n. written_into (bytes_over d hand) (end_of hand.list) (replicate n 0)) gap) end wrote.bytes;

@@ -2,7 +2,7 @@ use Rattle.std.proofs.Common.{◌+◌, length, sym, ap, ◌∙◌, arith}
 use Rattle.lfs_device.specs.declared.geometry.Geometry.{Geometry}
 use Rattle.lfs_model.specs.SkipLists.{blocks_for}
 use Rattle.lfs_ctz.specs.Growing.{end_of}
-use Rattle.lfs_writer.specs.Roomy.{base_blocks}
+use Rattle.lfs_writer.specs.BaseRoom.{base_blocks}
 use Rattle.lfs_writer.proofs.Owning.{base_kept}
 use Rattle.lfs_writer.proofs.Called.{used_of}
 use Rattle.lfs_writer.proofs.Flights.{begun_flying, length-content, shaped}

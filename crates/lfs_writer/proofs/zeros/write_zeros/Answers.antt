@@ -4,7 +4,7 @@ use Rattle.std.proofs.lemmas.Result.{err_from_is_err_and}
 use Rattle.lfs_device.specs.declared.geometry.Geometry.{Geometry}
 use Rattle.lfs_model.specs.Writers.{written_into}
 use Rattle.lfs_ctz.specs.Growing.{end_of}
-use Rattle.lfs_writer.specs.Written.{HasBegun, IsGoing, IsZeroed, bytes_over}
+use Rattle.lfs_writer.specs.HandWrites.{IsHandBegun, IsHandWithBytes, HasZerosWritten, bytes_over}
 use Rattle.lfs_writer.proofs.Owning.{list_same, list_then}
 use Rattle.lfs_writer.proofs.Called.{not_read, quiet, reported_as, reported_on, used_on, used_reads}
 use Rattle.lfs_writer.proofs.Flights.{in_hand, more_zeros, part_fits, shaped, wrote_none}
@@ -33,7 +33,7 @@ zeroing-init g c =
 pub write_on-requires-clause-begun : goal.write_on-requires-clause-begun
 write_on-requires-clause-begun g c =
     let inv = c.zeroing.invariant in
-    subst (λ (k : Geometry). HasBegun c.zeroing.map (g.D.BlockDevice.blocks c.zeroing.dev) k c.zeroing.hand) (sym inv.device.geometry) inv.zeroed.at.begun
+    subst (λ (k : Geometry). IsHandBegun c.zeroing.map (g.D.BlockDevice.blocks c.zeroing.dev) k c.zeroing.hand) (sym inv.device.geometry) inv.zeroed.at.begun
 
 pub write_on-requires-clause-room : goal.write_on-requires-clause-room
 write_on-requires-clause-room g c =
@@ -69,7 +69,7 @@ zeroing-preserved g c =
     let size = inv.zeroed.at.size in
     let sum = wrote.size in
     let len : length zeros ≡ n = ap length part ∙ length-replicate {A = ℕ} n 0 in
-    let going = subst (λ (k : Geometry). IsGoing c.write_on.new.map (g.D.BlockDevice.blocks c.write_on.new.dev) k c.write_on.new.hand) inv.device.geometry wrote.going in
+    let going = subst (λ (k : Geometry). IsHandWithBytes c.write_on.new.map (g.D.BlockDevice.blocks c.write_on.new.dev) k c.write_on.new.hand) inv.device.geometry wrote.going in
     record {
       few = omega arith;
       zeroed = record {
@@ -96,7 +96,7 @@ returns-clause-zeroed g c =
     let inv = c.zeroing.invariant in
     let hand = c.args.hand.now in
     let all : c.zeroing.done ≡ c.args.count = (let few = inv.few in let test = c.zeroing-test.false in omega arith) in
-    subst (λ n. IsZeroed c.zeroing.map (g.D.BlockDevice.blocks c.zeroing.dev) (g.D.BlockDevice.geometry c.args.dev.now) c.zeroing.hand n (end_of hand.list + n)
+    subst (λ n. HasZerosWritten c.zeroing.map (g.D.BlockDevice.blocks c.zeroing.dev) (g.D.BlockDevice.geometry c.args.dev.now) c.zeroing.hand n (end_of hand.list + n)
     (written_into (bytes_over (g.D.BlockDevice.blocks c.args.dev.now) hand) (end_of hand.list) (replicate n 0))) all inv.zeroed
 
 pub returns-in_err-write_on-clause-base : goal.returns-in_err-write_on-clause-base

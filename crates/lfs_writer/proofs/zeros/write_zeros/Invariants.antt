@@ -4,8 +4,8 @@ use Rattle.lfs_model.specs.Writers.{written_into}
 use Rattle.lfs_ctz.specs.Growing.{end_of}
 use Rattle.lfs_writer.specs.Calls.{LeavesUsed}
 use Rattle.lfs_writer.specs.Hand.{KeepsUsed}
-use Rattle.lfs_writer.specs.Written.{IsZeroed, bytes_over}
-use Rattle.lfs_writer.specs.Owned.{KeepsList}
+use Rattle.lfs_writer.specs.HandWrites.{HasZerosWritten, bytes_over}
+use Rattle.lfs_writer.specs.BlockOwners.{KeepsList}
 use Rattle.lfs_writer.proofs.zeros.write_zeros.Given as goal
 
 abbrev pub invariant-zeroing : goal.invariant-zeroing
@@ -14,7 +14,7 @@ invariant-zeroing g l =
     let shows = g.D.BlockDevice in
     record {
       few : l.done ≤ l.count;
-      zeroed : IsZeroed l.map (shows.blocks l.dev) (shows.geometry l.fn.dev) l.hand l.done (end_of was.list + l.done)
+      zeroed : HasZerosWritten l.map (shows.blocks l.dev) (shows.geometry l.fn.dev) l.hand l.done (end_of was.list + l.done)
           (written_into (bytes_over (shows.blocks l.fn.dev) was) (end_of was.list) (replicate l.done 0));
       base : KeepsList (shows.geometry l.fn.dev).block_size (shows.blocks l.fn.dev) was.base (shows.blocks l.dev) l.hand.base;
       map : KeepsUsed l.fn.map l.map;

@@ -8,8 +8,8 @@ use Rattle.lfs_model.specs.SkipLists.{pointers_of, bytes_before, blocks_back}
 use Rattle.lfs_ctz.specs.declared.extender.Extender.TheInside.{Inside}
 use Rattle.lfs_ctz.specs.Extended.{IsGrown}
 use Rattle.lfs_ctz.specs.Extending.{CanFollow}
-use Rattle.lfs_ctz.specs.Fields.{HasBlock, growing}
-use Rattle.lfs_ctz.specs.Growing.{Growing, content_of, end_of, joined}
+use Rattle.lfs_ctz.specs.Fields.{HasBlock, growing_view}
+use Rattle.lfs_ctz.specs.Growing.{Growing, content_of, end_of, bytes_of_blocks}
 use Rattle.lfs_ctz.proofs.Called.{not_read, only_read}
 use Rattle.lfs_ctz.proofs.Geometries.{shaped}
 use Rattle.lfs_ctz.specs.declared.rest.Rest.TheVariants.{Closed, Handed}
@@ -21,7 +21,7 @@ use Rattle.lfs_ctz.proofs.extender.Extender.fill.Goals as goal
 
 -- the rest, with more bytes after it
 longer : (e : Inside) (bytes new : List ℕ) (n : ℕ) → HasBlock e → n ≤ length bytes → e.filled + n ≤ e.geometry.block_size → new ≡ overwritten e.buffer.items e.filled (take n bytes)
-    → take (e.filled + n - 4 * pointers_of e.full) (drop (4 * pointers_of e.full) new) ≡ (growing e).rest ++ take n bytes
+    → take (e.filled + n - 4 * pointers_of e.full) (drop (4 * pointers_of e.full) new) ≡ (growing_view e).rest ++ take n bytes
 longer e bytes new n has le fits is =
     ap (λ (l : List ℕ). take (e.filled + n - 4 * pointers_of e.full) (drop (4 * pointers_of e.full) l)) is
     ∙ rest_more e.buffer.items (take n bytes) (4 * pointers_of e.full) e.filled n has.in_step.low (length-take-le n bytes le) (omega (arith, has.one_block, fits))
@@ -40,8 +40,8 @@ returns-then-start-n-clause-filled g c =
     let few : n ≤ length bytes = omega (arith, c.min-n.ensures) in
     let rest = longer e bytes c.overwrite.new.all.items n has few (omega (arith, c.min-n.ensures, has.in_step.high)) c.overwrite.ensures in
     let long = length-take-le n bytes few in
-    let all = length-append (growing e).rest (take n bytes) in
-    let new : Growing = growing (record e { buffer = c.overwrite.new.all; filled = e.filled + n; size = e.size + n; stand = Handed c.args.block }) in
+    let all = length-append (growing_view e).rest (take n bytes) in
+    let new : Growing = growing_view (record e { buffer = c.overwrite.new.all; filled = e.filled + n; size = e.size + n; stand = Handed c.args.block }) in
     subst (λ (v : Growing). IsGrown v.geometry old new (content_of old v ++ take n bytes) (end_of v + n) (blocks_back old v.full v.head ++ c.args.block ∷ []) (blocks_back old v.full v.head ++ c.args.block ∷ [])) c.self.view_is
     (is_grown e.geometry old new _ _ _ _ _ (shaped old _ e.geometry (sym same) shape) refl
     (omega (arith, ap length rest, all, long, rest_long e has, c.if-start-n.true))
@@ -53,7 +53,7 @@ returns-then-start-n-clause-filled g c =
         apart = follows.apart;
       };
     })
-    (ap (λ (l : List ℕ). joined old (blocks_back old e.full e.head) ++ l) rest ∙ sym (append_assoc (joined old (blocks_back old e.full e.head)) (growing e).rest (take n bytes)))
+    (ap (λ (l : List ℕ). bytes_of_blocks old (blocks_back old e.full e.head) ++ l) rest ∙ sym (append_assoc (bytes_of_blocks old (blocks_back old e.full e.head)) (growing_view e).rest (take n bytes)))
     (omega (arith, ap length rest, all, long))
     refl refl)
 
@@ -129,20 +129,20 @@ returns-clause-filled g c =
     ∙ ap (λ k. take (k - p) (drop p (overwritten e.buffer.items e.filled (take n c.args.bytes.now)))) (sym whole)
     ∙ rest_more e.buffer.items (take n c.args.bytes.now) p e.filled n has.in_step.low (length-take-le n c.args.bytes.now (omega (arith, c.min-n.ensures))) (omega (arith, has.one_block)) in
     let later : Inside = record e { buffer = with_items c.overwrite.new.all c.write_block.new.buf; full = e.full + 1; head = c.args.block; filled = 4 * c.pointers.result; size = e.size + n; stand = Closed } in
-    let rest : (growing later).rest ≡ [] =
+    let rest : (growing_view later).rest ≡ [] =
     ap (λ k. take k (drop (4 * pointers_of (e.full + 1)) (with_items c.overwrite.new.all c.write_block.new.buf).items)) (let none : 4 * c.pointers.result - 4 * pointers_of (e.full + 1) ≡ 0 = omega (arith, c.pointers.ensures) in none) in
     let appended = c.in_ok-write_block.ensures.appended in
     let device = c.write_block.ensures.device in
     let long = length-take-le n c.args.bytes.now (omega (arith, c.min-n.ensures)) in
     let old_rest = rest_long e has in
-    subst (λ (v : Growing). IsGrown v.geometry new (growing later) (content_of old v ++ take n c.args.bytes.now) (end_of v + n) (blocks_back old v.full v.head ++ c.args.block ∷ []) (blocks_back old v.full v.head ++ c.args.block ∷ [])) c.self.view_is
-    (is_grown e.geometry new (growing later) _ _ _ _ _ (shaped new _ e.geometry (sym (device.geometry ∙ same)) (g.met.D.BlockDevice.shape c.write_block.new.dev)) refl
+    subst (λ (v : Growing). IsGrown v.geometry new (growing_view later) (content_of old v ++ take n c.args.bytes.now) (end_of v + n) (blocks_back old v.full v.head ++ c.args.block ∷ []) (blocks_back old v.full v.head ++ c.args.block ∷ [])) c.self.view_is
+    (is_grown e.geometry new (growing_view later) _ _ _ _ _ (shaped new _ e.geometry (sym (device.geometry ∙ same)) (g.met.D.BlockDevice.shape c.write_block.new.dev)) refl
     (omega (arith, ap length rest, pointers_of-le (e.full + 1), e.geometry.valid.no_smaller))
     (record { chain = appended.chain; stand = rest })
-    (ap (λ (l : List ℕ). joined new (blocks_back new (e.full + 1) c.args.block) ++ l) rest
-    ∙ append-nil (joined new (blocks_back new (e.full + 1) c.args.block))
+    (ap (λ (l : List ℕ). bytes_of_blocks new (blocks_back new (e.full + 1) c.args.block) ++ l) rest
+    ∙ append-nil (bytes_of_blocks new (blocks_back new (e.full + 1) c.args.block))
     ∙ joined_full old new e.full e.head c.args.block size _ appended.back device.others follows.apart sized bytes
-    ∙ sym (append_assoc (joined old (blocks_back old e.full e.head)) (take (e.filled - p) (drop p e.buffer.items)) (take n c.args.bytes.now)))
+    ∙ sym (append_assoc (bytes_of_blocks old (blocks_back old e.full e.head)) (take (e.filled - p) (drop p e.buffer.items)) (take n c.args.bytes.now)))
     (omega (arith, ap length rest, ap (bytes_before size) (add-one e.full), whole, old_rest, has.in_step.low, pointers_of-le e.full, e.geometry.valid.no_smaller))
     (append-nil (blocks_back new (e.full + 1) c.args.block) ∙ appended.back)
     (append-nil (blocks_back new (e.full + 1) c.args.block) ∙ appended.back))

@@ -6,11 +6,11 @@ use Rattle.lfs_model.specs.Blocks.{Blocks, IsDivided, SameBut}
 use Rattle.lfs_model.specs.SkipLists.{blocks_back, AreListBlocks, data_of}
 use Rattle.lfs_ctz.specs.declared.extender.Extender.TheInside.{Inside}
 use Rattle.lfs_ctz.specs.declared.rest.Rest.TheVariants.{Closed, Shared, Handed, Held}
-use Rattle.lfs_ctz.specs.Fields.{growing}
-use Rattle.lfs_ctz.specs.Growing.{Growing, content_of, blocks_of_list, end_of, pending_of, last_in, pending_in, is_held_in, IsGrowing}
+use Rattle.lfs_ctz.specs.Fields.{growing_view}
+use Rattle.lfs_ctz.specs.Growing.{Growing, content_of, blocks_of_list, end_of, pending_of, last_in, pending_in, is_rest_in_buffer, IsGrowing}
 use Rattle.lfs_ctz.proofs.Geometries.{shaped}
 use Rattle.lfs_ctz.proofs.Rests.{IsCounted, counted}
-use Rattle.lfs_ctz.specs.Counts.{Writes}
+use Rattle.lfs_ctz.specs.Counts.{WritesCount}
 use Rattle.lfs_ctz.specs.Finished.{IsEnd}
 use Rattle.lfs_ctz.specs.declared.rest.Rest.{Rest}
 use Rattle.lfs_ctz.proofs.Called.{changes_none, changes_one}
@@ -42,7 +42,7 @@ module _ (d : Blocks) (v : Growing) (size : ℕ) (is_counted : IsCounted v size)
       (let r = is_counted.short in omega arith) is_counted.fits is_counted.sum)
 
 -- where the rest stands
-stood : (e : Inside) (v : Growing) (t : Rest) → growing e ≡ v → e.stand ≡ t → v.stand ≡ t
+stood : (e : Inside) (v : Growing) (t : Rest) → growing_view e ≡ v → e.stand ≡ t → v.stand ≡ t
 stood e v t shown is = sym (ap (λ (g : Growing). g.stand) shown) ∙ is
 
 pub returns-in-Closed-clause-finished : goal.returns-in-Closed-clause-finished
@@ -69,14 +69,14 @@ pub returns-clause-size : goal.returns-clause-size
 returns-clause-size g c = (counted c.self.inside c.args.self c.self.invariant c.self.view_is).sum
 
 -- contents that are in memory alone aren't ended
-never_held : (t : Rest) → is_held_in t ≡ false → t ≡ Held → ⊥
-never_held t listed is = let other : true ≡ false = subst (λ k. is_held_in k ≡ false) is listed in absurd (cc)
+never_held : (t : Rest) → is_rest_in_buffer t ≡ false → t ≡ Held → ⊥
+never_held t listed is = let other : true ≡ false = subst (λ k. is_rest_in_buffer k ≡ false) is listed in absurd (cc)
 
 pub returns-in-Held-clause-finished : goal.returns-in-Held-clause-finished
 returns-in-Held-clause-finished g c = absurd (never_held c.args.self.stand c.requires.listed (stood c.self.inside c.args.self Held c.self.view_is c.in-Held.is))
 
 -- where no block waits, none is written
-none_written : (v : Growing) (old : List Event) → pending_of v ≡ [] → Writes 0 (length (pending_of v)) old old
+none_written : (v : Growing) (old : List Event) → pending_of v ≡ [] → WritesCount 0 (length (pending_of v)) old old
 none_written v old none = record { erased = omega (arith, ap length none); programmed = omega (arith, ap length none) }
 
 pub returns-in-Closed-clause-writes : goal.returns-in-Closed-clause-writes

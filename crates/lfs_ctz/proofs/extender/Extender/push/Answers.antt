@@ -10,7 +10,7 @@ use Rattle.lfs_ctz.proofs.Stands.{is_grown}
 use Rattle.lfs_device.specs.declared.geometry.Geometry.{Geometry}
 use Rattle.lfs_model.specs.Blocks.{Blocks}
 use Rattle.lfs_model.specs.SkipLists.{capacity_of, blocks_back}
-use Rattle.lfs_ctz.specs.Growing.{Growing, IsShort, content_of, kept_of, pending_of, pending_in, end_of, next_of, size_of, needed_of}
+use Rattle.lfs_ctz.specs.Growing.{Growing, HasShortRest, content_of, kept_blocks, pending_of, pending_in, end_of, next_of, size_with_pointers, needed_of}
 use Rattle.lfs_ctz.specs.declared.rest.Rest.{Rest}
 use Rattle.lfs_ctz.proofs.Pushing.{next_among, next_inside, next_apart, next_some, next_kept, still_some, all_used}
 use Rattle.lfs_ctz.proofs.extender.Extender.push.Goals as goal
@@ -36,10 +36,10 @@ loop-done-init g c = record {
 }
 
 -- the size by the geometry as it was
-sum_by : (geometry now : Geometry) (g : Growing) (n : ℕ) → now ≡ geometry → size_of now.block_size g ≡ n → size_of geometry.block_size g ≡ n
-sum_by geometry now g n e is = subst (λ (k : Geometry). size_of k.block_size g ≡ n) e is
+sum_by : (geometry now : Geometry) (g : Growing) (n : ℕ) → now ≡ geometry → size_with_pointers now.block_size g ≡ n → size_with_pointers geometry.block_size g ≡ n
+sum_by geometry now g n e is = subst (λ (k : Geometry). size_with_pointers k.block_size g ≡ n) e is
 
-still : (d e : Blocks) (was now : Growing) (blocks : List ℕ) (used done total : ℕ) → now.geometry ≡ was.geometry → used ≤ length blocks → kept_of e now ≡ kept_of d was ++ take used blocks
+still : (d e : Blocks) (was now : Growing) (blocks : List ℕ) (used done total : ℕ) → now.geometry ≡ was.geometry → used ≤ length blocks → kept_blocks e now ≡ kept_blocks d was ++ take used blocks
     → length blocks ≡ needed_of was total → end_of now ≡ end_of was + done → done < total
     → pending_of now ≡ [] → used < length blocks
 still d e was now blocks used done total same le is count sum lt none =
@@ -81,9 +81,9 @@ returns-in_err-done-clause-io g c =
     let p = err_from_is_err_and c.from_residual.result c.from_residual.ensures.1 in
     rw (p.1, p.2) (record { faults = reported_on g.D.BlockDevice c.loop-done.invariant.quiet (reported_as g.D.BlockDevice reported.faults); errors = reported.errors })
 
-sum_more : (before : Geometry) (size done n all : ℕ) (e : Growing) → e.geometry ≡ before → all ≡ size + done → size_of before.block_size e ≡ all + n
-    → size_of e.geometry.block_size e ≡ size + (done + n)
-sum_more before size done n all e same was is = subst (λ (k : Geometry). size_of k.block_size e ≡ size + (done + n)) (sym same) (omega (arith, was, is))
+sum_more : (before : Geometry) (size done n all : ℕ) (e : Growing) → e.geometry ≡ before → all ≡ size + done → size_with_pointers before.block_size e ≡ all + n
+    → size_with_pointers e.geometry.block_size e ≡ size + (done + n)
+sum_more before size done n all e same was is = subst (λ (k : Geometry). size_with_pointers k.block_size e ≡ size + (done + n)) (sym same) (omega (arith, was, is))
 
 -- more of the bytes
 bytes_more : (front content bytes : List ℕ) (done n : ℕ) → done ≤ length bytes → n ≤ length (take (length bytes - done) (drop done bytes)) → content ≡ front ++ take done bytes
@@ -115,8 +115,8 @@ loop-done-preserved g c =
       kept = now.kept
           ∙ ap (λ r. blocks_back (g.D.BlockDevice.blocks c.loop-done.dev) c.loop-done.self.full c.loop-done.self.head ++ r.0 ∷ []) next
           ∙ next_kept c.loop-done.self.stand _ _ c.args.blocks.now c.loop-done.used some inv.kept
-          ∙ ap (λ r. kept_of (g.D.BlockDevice.blocks c.args.dev.now) c.args.self.now ++ take r.1 c.args.blocks.now) (sym next);
-      own = λ _. (now.blocks ∙ sym now.kept, (c.in_ok-done.ensures.waits.listed, subst (λ (k : Geometry). IsShort k.block_size c.fill.new.self) (sym now.geometry) now.short));
+          ∙ ap (λ r. kept_blocks (g.D.BlockDevice.blocks c.args.dev.now) c.args.self.now ++ take r.1 c.args.blocks.now) (sym next);
+      own = λ _. (now.blocks ∙ sym now.kept, (c.in_ok-done.ensures.waits.listed, subst (λ (k : Geometry). HasShortRest k.block_size c.fill.new.self) (sym now.geometry) now.short));
       pending = λ other apart. c.in_ok-done.ensures.waits.pending other (All-cons (λ b. b ≢ other) _ [] (here other apart) (All-nil (λ b. b ≢ other)));
       same = now.geometry ∙ inv.same;
       device = changes_one g.D.BlockDevice here inv.device c.fill.ensures.device;
@@ -134,7 +134,7 @@ returns-clause-pushed g c =
     let sum = sum_by was.geometry now.geometry now _ inv.same (inv.sum ∙ ap (λ n. end_of was + n) all) in
     let short = subst (λ (k : Geometry). length now.rest < capacity_of k.block_size now.full) inv.same own.1.1 in
     let used = all_used _ _ was.geometry.block_size was now c.args.blocks.now c.loop-done.used _ was.geometry.valid.no_smaller inv.some inv.kept c.requires.count sum inv.growing short own.0 own.1.0 in
-    let kept = inv.kept ∙ ap (λ (l : List ℕ). kept_of (g.D.BlockDevice.blocks c.args.dev.now) was ++ l) (take_all c.loop-done.used c.args.blocks.now used) in
+    let kept = inv.kept ∙ ap (λ (l : List ℕ). kept_blocks (g.D.BlockDevice.blocks c.args.dev.now) was ++ l) (take_all c.loop-done.used c.args.blocks.now used) in
     record {
       grown =
           is_grown was.geometry _ now _ _ _ _ _ (shaped _ _ was.geometry (sym (inv.device.geometry ∙ c.requires.stands.geometry)) (g.met.D.BlockDevice.shape c.loop-done.dev)) inv.same own.1.1 inv.growing

@@ -1,9 +1,9 @@
 use Rattle.std.proofs.Common.{ℕ, false, ◌≡◌, ◌≢◌, ◌≤◌, ◌+◌, ◌-◌, ◌++◌, length, take}
 use Rattle.std.specs.Prelude.{All}
-use Rattle.lfs_ctz.specs.Counts.{Writes}
+use Rattle.lfs_ctz.specs.Counts.{WritesCount}
 use Rattle.lfs_device.specs.Calls.{ChangesOnly}
 use Rattle.lfs_model.specs.History.{faults}
-use Rattle.lfs_ctz.specs.Growing.{IsGrowing, IsShort, blocks_of_list, content_of, end_of, is_held, kept_of, pending_of}
+use Rattle.lfs_ctz.specs.Growing.{IsGrowing, HasShortRest, blocks_of_list, content_of, end_of, is_in_buffer_alone, kept_blocks, pending_of}
 use Rattle.lfs_ctz.proofs.extender.Extender.push.Given as goal
 
 abbrev pub invariant-loop-done : goal.invariant-loop-done
@@ -20,12 +20,12 @@ invariant-loop-done g l =
       growing : IsGrowing (blocks l.dev) now;
       bytes : content_of (blocks l.dev) now ≡ content_of (blocks old) was ++ take l.done l.fn.bytes;
       sum : end_of now ≡ end_of was + l.done;
-      kept : kept_of (blocks l.dev) now ≡ kept_of (blocks old) was ++ take l.used l.fn.blocks;
-      own : 1 ≤ l.done → (blocks_of_list (blocks l.dev) now ≡ kept_of (blocks l.dev) now) × ((is_held now ≡ false) × IsShort now.geometry.block_size now);
+      kept : kept_blocks (blocks l.dev) now ≡ kept_blocks (blocks old) was ++ take l.used l.fn.blocks;
+      own : 1 ≤ l.done → (blocks_of_list (blocks l.dev) now ≡ kept_blocks (blocks l.dev) now) × ((is_in_buffer_alone now ≡ false) × HasShortRest now.geometry.block_size now);
       pending : (other : ℕ) → All (λ b. b ≢ other) handed → All (λ b. b ≢ other) (pending_of now);
       same : now.geometry ≡ was.geometry;
       device : ChangesOnly g.D.BlockDevice handed old l.dev;
-      writes : Writes was.full now.full (history old) (history l.dev);
+      writes : WritesCount was.full now.full (history old) (history l.dev);
       quiet : faults (history l.dev) ≡ faults (history old);
     }
 

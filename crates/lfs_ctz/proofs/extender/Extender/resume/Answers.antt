@@ -6,7 +6,7 @@ use Rattle.lfs_device.specs.declared.error.Error.{Error}
 use Rattle.lfs_device.specs.declared.geometry.Geometry.{Geometry}
 use Rattle.lfs_model.specs.Blocks.{Blocks, IsDivided, block_in}
 use Rattle.lfs_model.specs.SkipLists.{AreListBlocks, IsList, IsBytePlace, pointers_of, bytes_before, blocks_back, blocks_for, bytes_of, word_at}
-use Rattle.lfs_ctz.specs.Growing.{joined, IsShared}
+use Rattle.lfs_ctz.specs.Growing.{bytes_of_blocks, IsShared}
 use Rattle.lfs_ctz.proofs.Sizes.{blocks_for-last, place-lt, pointers_of-le, place-le}
 use Rattle.lfs_ctz.proofs.Chains.{in_range_at, back-pointer0}
 use Rattle.lfs_ctz.proofs.Geometries.{last_is, chain, sized, shaped}
@@ -61,7 +61,7 @@ found_at d geometry made head size n i block e is list found =
 -- a front that ends with a block
 record IsFull (d : Blocks) (geometry made : Geometry) (head size keep i block : ℕ) : Type 0 where
   chain_is : AreListBlocks d (i + 1) block
-  content : joined d (blocks_back d (i + 1) block) ++ [] ≡ take keep (bytes_of d geometry.block_size head size)
+  content : bytes_of_blocks d (blocks_back d (i + 1) block) ++ [] ≡ take keep (bytes_of d geometry.block_size head size)
   blocks_are : blocks_back d (i + 1) block ++ [] ≡ take (blocks_for geometry.block_size keep) (blocks_back d (blocks_for geometry.block_size size) head)
   kept : blocks_back d (i + 1) block ++ [] ≡ take (i + 1) (blocks_back d (blocks_for geometry.block_size size) head)
   sum : keep ≡ bytes_before made.block_size (i + 1)
@@ -89,7 +89,7 @@ record IsOpen (d : Blocks) (geometry made : Geometry) (head size keep i off bloc
   chain_is : AreListBlocks d i before
   shared : IsShared d i before rest block
   kept : blocks_back d i before ++ [] ≡ take i (blocks_back d (blocks_for geometry.block_size size) head)
-  content : joined d (blocks_back d i before) ++ rest ≡ take keep (bytes_of d geometry.block_size head size)
+  content : bytes_of_blocks d (blocks_back d i before) ++ rest ≡ take keep (bytes_of d geometry.block_size head size)
   blocks_are : blocks_back d i before ++ block ∷ [] ≡ take (blocks_for geometry.block_size keep) (blocks_back d (blocks_for geometry.block_size size) head)
   sum : keep ≡ bytes_before made.block_size i + length rest
 
@@ -168,7 +168,7 @@ returns-then-off-block_size-clause-resumed g c =
           is_grown _ old _ _ _ _ _ _ (g.met.D.BlockDevice.shape c.args.dev.now) made
           (omega (arith, ap length rest, pointers_of-le (i + 1), c.geometry-geometry.result.valid.no_smaller))
           (record { chain = full.chain_is; stand = rest })
-          (ap (λ (l : List ℕ). joined old (blocks_back old (i + 1) c.in_ok-block.block) ++ l) rest ∙ full.content)
+          (ap (λ (l : List ℕ). bytes_of_blocks old (blocks_back old (i + 1) c.in_ok-block.block) ++ l) rest ∙ full.content)
           (omega (arith, ap length rest, full.sum, ap (λ (k : Geometry). bytes_before k.block_size (i + 1)) made))
           full.kept full.blocks_are;
       waits = record { listed = refl; pending = λ other apart. apart };

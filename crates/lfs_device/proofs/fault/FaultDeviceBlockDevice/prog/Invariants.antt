@@ -1,6 +1,6 @@
 use Rattle.std.proofs.Common.{◌∷◌, true}
 use Rattle.lfs_model.specs.Blocks.{Blocks}
-use Rattle.lfs_model.specs.History.{event, amended}
+use Rattle.lfs_model.specs.History.{event, with_newest_left}
 use Rattle.lfs_model.specs.History.Call.{Program}
 use Rattle.lfs_device.proofs.fault.FaultDeviceBlockDevice.prog.Given as goal
 
@@ -12,4 +12,4 @@ ghost-from_proof g a =
 
 -- the call as it went
 abbrev pub ghost-from_proof-2 : goal.ghost-from_proof-2
-ghost-from_proof-2 g a = amended a._call.now.0.events (g.D.BlockDevice.blocks a._device.now) a._call.now.1
+ghost-from_proof-2 g a = with_newest_left a._call.now.0.events (g.D.BlockDevice.blocks a._device.now) a._call.now.1

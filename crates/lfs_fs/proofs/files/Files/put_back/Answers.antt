@@ -1,5 +1,5 @@
 use Rattle.std.proofs.Common.{◌≡◌, ◌<◌, ◌≤◌, Some, [], length, ap, arith, subst, sym}
-use Rattle.lfs_fs.specs.FileView.{picked, reader_in, writer_in, writers_in}
+use Rattle.lfs_fs.specs.FileView.{entries_picked, reader_in, writer_in, writers_in}
 use Rattle.lfs_fs.specs.declared.files.OpenFile.TheVariants as file
 use Rattle.lfs_fs.proofs.OpenFiles.{count_set, few_set}
 use Rattle.lfs_fs.proofs.files.Files.put_back.Goals as goal
@@ -14,6 +14,6 @@ invariant_of-self c =
       omega (arith, c.set_in.ensures.len, c.self.invariant.0),
       (
         few_set reader_in fs _ c.args.fd 16 _ c.set_in.ensures.files lt c.self.invariant.1.0 (omega arith),
-        subst (λ xs. length (picked writer_in xs) ≤ 1) (sym c.set_in.ensures.files) (omega (arith, k, l)),
+        subst (λ xs. length (entries_picked writer_in xs) ≤ 1) (sym c.set_in.ensures.files) (omega (arith, k, l)),
       ),
     )

@@ -1,15 +1,15 @@
 use Rattle.std.proofs.Common.{◌≡◌, true, is_some, arith, subst, sym}
-use Rattle.lfs_fs.specs.FileView.{entry_of, reader_in, writer_in}
+use Rattle.lfs_fs.specs.FileView.{open_file_at, reader_in, writer_in}
 use Rattle.lfs_fs.proofs.OpenFiles.{few_set, inside_is, less_moved, reader_moved, writer_moved}
 use Rattle.lfs_fs.proofs.files.Files.seek.Goals as goal
 
 pub invariant_of-self : goal.invariant_of-self
 invariant_of-self c =
     let fs = c.self.inside.entries.items in
-    let lt = inside_is fs c.args.fd (subst (λ fs. is_some (entry_of fs c.args.fd) ≡ true) (sym c.self.view_is) c.requires) in (
+    let lt = inside_is fs c.args.fd (subst (λ fs. is_some (open_file_at fs c.args.fd) ≡ true) (sym c.self.view_is) c.requires) in (
       omega (arith, c.seek_in.ensures.len, c.self.invariant.0),
       (
-        few_set reader_in fs _ c.args.fd 16 _ c.seek_in.ensures.files lt c.self.invariant.1.0 (less_moved reader_in c.args.position (entry_of fs c.args.fd) (reader_moved c.args.position)),
-        few_set writer_in fs _ c.args.fd 1 _ c.seek_in.ensures.files lt c.self.invariant.1.1 (less_moved writer_in c.args.position (entry_of fs c.args.fd) (writer_moved c.args.position)),
+        few_set reader_in fs _ c.args.fd 16 _ c.seek_in.ensures.files lt c.self.invariant.1.0 (less_moved reader_in c.args.position (open_file_at fs c.args.fd) (reader_moved c.args.position)),
+        few_set writer_in fs _ c.args.fd 1 _ c.seek_in.ensures.files lt c.self.invariant.1.1 (less_moved writer_in c.args.position (open_file_at fs c.args.fd) (writer_moved c.args.position)),
       ),
     )

@@ -1,11 +1,11 @@
 use Rattle.std.proofs.Common.{◌≡◌, None, true, is_some, arith, subst, sym}
-use Rattle.lfs_fs.specs.FileView.{entry_of, reader_in, writer_in}
+use Rattle.lfs_fs.specs.FileView.{open_file_at, reader_in, writer_in}
 use Rattle.lfs_fs.proofs.OpenFiles.{few_set, inside_is}
 use Rattle.lfs_fs.proofs.files.Files.take.Goals as goal
 
 pub invariant_of-self : goal.invariant_of-self
 invariant_of-self c =
-    let lt = inside_is c.self.inside.entries.items c.args.fd (subst (λ fs. is_some (entry_of fs c.args.fd) ≡ true) (sym c.self.view_is) c.requires) in (
+    let lt = inside_is c.self.inside.entries.items c.args.fd (subst (λ fs. is_some (open_file_at fs c.args.fd) ≡ true) (sym c.self.view_is) c.requires) in (
       omega (arith, c.take_from.ensures.len, c.self.invariant.0),
       (
         few_set reader_in c.self.inside.entries.items _ c.args.fd 16 None c.take_from.ensures.files lt c.self.invariant.1.0 (omega arith),

@@ -1,8 +1,8 @@
 use Rattle.std.proofs.Common.{◌<◌, ◌∙◌, Some, length, ap, is_some, refl, sym, subst, Ok}
 use Rattle.lfs_model.specs.Operations as ops
 use Rattle.lfs_model.specs.Run.{IsSessionStep}
-use Rattle.lfs_fs.specs.FileView.{entry_of, files_view, writer_in, writer_view, writers_in}
-use Rattle.lfs_fs.specs.Held.{Held, IsReady, held_of, system_state_of}
+use Rattle.lfs_fs.specs.FileView.{open_file_at, files_view, writer_in, writer_view, writers_in}
+use Rattle.lfs_fs.specs.SessionView.{SessionView, IsReady, session_view_of, system_state_of}
 use Rattle.lfs_fs.proofs.Answered.{sound_by, not_failed}
 use Rattle.lfs_fs.proofs.Errors.{given_on}
 use Rattle.lfs_fs.proofs.WriterPaths.{truncate_path}
@@ -27,7 +27,7 @@ put_back-requires-clause-inside g c =
     subst (λ xs. c.args.fd < length xs) (sym c.take.ensures.left) (length_left c.self.inside.files c.args.fd (ap is_some e))
 
 pub put_back-requires-clause-free : goal.put_back-requires-clause-free
-put_back-requires-clause-free g c = ap (λ xs. entry_of xs c.args.fd) c.take.ensures.left ∙ let_go c.self.inside.files c.args.fd
+put_back-requires-clause-free g c = ap (λ xs. open_file_at xs c.args.fd) c.take.ensures.left ∙ let_go c.self.inside.files c.args.fd
 
 pub put_back-requires-clause-none : goal.put_back-requires-clause-none
 put_back-requires-clause-none g c =
@@ -47,10 +47,10 @@ pub returns-then-has_size : goal.returns-then-has_size
 returns-then-has_size g c =
     let h = c.in_ok-check_truncate.ensures in
     let w = some_writer c.self.inside.files c.args.fd h.1 in
-    still_call c.self.inside.tree c.self.inside.files _ (ops.Truncate c.args.fd c.args.size) _ _ c.self.view_is c.self.invariant.ready refl refl (ap (λ (h : Held). h.tree.disk) (sym c.self.view_is))
-    (kept_ends (held_of c.self.inside.tree c.self.inside.files) _ (ops.Truncate c.args.fd c.args.size) ops.Done c.self.view_is c.in_ok-check_truncate.ensures.0)
+    still_call c.self.inside.tree c.self.inside.files _ (ops.Truncate c.args.fd c.args.size) _ _ c.self.view_is c.self.invariant.ready refl refl (ap (λ (h : SessionView). h.tree.disk) (sym c.self.view_is))
+    (kept_ends (session_view_of c.self.inside.tree c.self.inside.files) _ (ops.Truncate c.args.fd c.args.size) ops.Done c.self.view_is c.in_ok-check_truncate.ensures.0)
     (same_size c.self.inside.tree c.self.inside.files c.args.fd c.args.size _ w.0 c.self.view_is c.self.invariant.ready h.0 w.1 (sym (c.has_size.ensures w.0 (ap writer_in w.1)) ∙ c.if-has_size.true))
-    (kept_call (held_of c.self.inside.tree c.self.inside.files) _ (ops.Truncate c.args.fd c.args.size) c.self.view_is (sound_by c.self.inside.tree c.self.inside.files c.self.invariant.ready))
+    (kept_call (session_view_of c.self.inside.tree c.self.inside.files) _ (ops.Truncate c.args.fd c.args.size) c.self.view_is (sound_by c.self.inside.tree c.self.inside.files c.self.invariant.ready))
 
 -- the tree's call ends it
 pub invariant_of-self-2 : goal.invariant_of-self-2
@@ -76,7 +76,7 @@ returns-in_err-writer g c =
     let can = can_now t fs c.args.fd c.args.size c.in-Some-Writing.writer e h.0 (c.self.invariant.ready (works_now t fs c.args.fd c.args.size c.in-Some-Writing.writer e h.0)) (sym (c.has_size.ensures c.in-Some-Writing.writer (ap writer_in e)) ∙ c.if-has_size.false) in
     saving_call c.self.inside.tree c.truncate_by-answer.new.tree c.self.inside.files (files_view c.truncate_by-answer.new.tree c.take.new.self) _ (ops.Truncate c.args.fd c.args.size) (λ u. ops.Done) _ c.from_residual-in_err-writer.result _ c.self.view_is c.self.invariant h.0 refl refl refl refl refl
     (other_needed t fs c.args.fd c.args.size c.in-Some-Writing.writer e can.can.written (sym (c.has_size.ensures c.in-Some-Writing.writer (ap writer_in e)) ∙ c.if-has_size.false)) can.can.written.writable c.device_meets_laws.ensures c.in_err-writer.ensures.broken c.in_err-writer.ensures.errors (given_on _ c.from_residual-in_err-writer.result c.from_residual-in_err-writer.ensures.1)
-    (c.truncate_by-answer.ensures.survives (sound_by c.self.inside.tree c.self.inside.files c.self.invariant.ready (not_failed (held_of c.self.inside.tree c.self.inside.files) (ops.Truncate c.args.fd c.args.size) c.in_ok-check_truncate.ensures.0))) refl
+    (c.truncate_by-answer.ensures.survives (sound_by c.self.inside.tree c.self.inside.files c.self.invariant.ready (not_failed (session_view_of c.self.inside.tree c.self.inside.files) (ops.Truncate c.args.fd c.args.size) c.in_ok-check_truncate.ensures.0))) refl
 
 pub returns : goal.returns
 returns g c =
@@ -86,8 +86,8 @@ returns g c =
     let fs = c.self.inside.files in
     changed_call {A = Unit {0}} c.self.inside.tree c.self.inside.files _ (ops.Truncate c.args.fd c.args.size) (λ u. ops.Done) (Ok tt) _ c.self.view_is c.self.invariant c.device_meets_laws.ensures refl refl
     (beside_others c.self.inside.tree c.truncate_by-answer.new.tree c.self.inside.files _ (ops.Truncate c.args.fd c.args.size) c.self.view_is c.self.invariant.ready c.in_ok-writer.ensures.beside)
-    (answer_ends (held_of c.self.inside.tree c.self.inside.files) _ (ops.Truncate c.args.fd c.args.size) ops.Done _ c.self.view_is c.in_ok-check_truncate.ensures.0 c.in_ok-writer.ensures.beside.no_fault)
-    (subst (λ xs. IsSessionStep (system_state_of c.args.self.now) (ops.Truncate c.args.fd c.args.size) ops.Done (system_state_of (held_of c.truncate_by-answer.new.tree xs))) (sym (put_again fs c.take.new.self c.put_back.new.self c.args.fd c.in_ok-writer.writer c.take.ensures.left c.put_back.ensures))
+    (answer_ends (session_view_of c.self.inside.tree c.self.inside.files) _ (ops.Truncate c.args.fd c.args.size) ops.Done _ c.self.view_is c.in_ok-check_truncate.ensures.0 c.in_ok-writer.ensures.beside.no_fault)
+    (subst (λ xs. IsSessionStep (system_state_of c.args.self.now) (ops.Truncate c.args.fd c.args.size) ops.Done (system_state_of (session_view_of c.truncate_by-answer.new.tree xs))) (sym (put_again fs c.take.new.self c.put_back.new.self c.args.fd c.in_ok-writer.writer c.take.ensures.left c.put_back.ensures))
     (other_size t c.truncate_by-answer.new.tree fs c.args.fd c.args.size _ c.in-Some-Writing.writer c.in_ok-writer.writer c.self.view_is c.self.invariant.ready h.0 e (sym (c.has_size.ensures c.in-Some-Writing.writer (ap writer_in e)) ∙ c.if-has_size.false) c.in_ok-writer.ensures.written c.in_ok-writer.ensures.beside))
-    (tree_changed (held_of c.self.inside.tree c.self.inside.files) _ (ops.Truncate c.args.fd c.args.size) c.truncate_by-answer.new.tree _ c.self.view_is (sound_by c.self.inside.tree c.self.inside.files c.self.invariant.ready) c.in_ok-check_truncate.ensures.0
-    (c.truncate_by-answer.ensures.survives (sound_by c.self.inside.tree c.self.inside.files c.self.invariant.ready (not_failed (held_of c.self.inside.tree c.self.inside.files) (ops.Truncate c.args.fd c.args.size) c.in_ok-check_truncate.ensures.0))) refl)
+    (tree_changed (session_view_of c.self.inside.tree c.self.inside.files) _ (ops.Truncate c.args.fd c.args.size) c.truncate_by-answer.new.tree _ c.self.view_is (sound_by c.self.inside.tree c.self.inside.files c.self.invariant.ready) c.in_ok-check_truncate.ensures.0
+    (c.truncate_by-answer.ensures.survives (sound_by c.self.inside.tree c.self.inside.files c.self.invariant.ready (not_failed (session_view_of c.self.inside.tree c.self.inside.files) (ops.Truncate c.args.fd c.args.size) c.in_ok-check_truncate.ensures.0))) refl)

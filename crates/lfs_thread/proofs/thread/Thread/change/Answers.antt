@@ -5,7 +5,7 @@ use Rattle.lfs_model.proofs.Histories.{LeavesOnly-weaker}
 use Rattle.lfs_thread.specs.Device.{StopsLeave, two_of}
 use Rattle.lfs_thread.specs.Kept.{State, disk_on, kept_view_on}
 use Rattle.lfs_thread.specs.CachedLog.{cached_log, read_if_missing}
-use Rattle.lfs_thread.specs.Steps.{CanChange, HasReported, IsChanged, IsLeftByChange, IsRefused, WritesReading, pair_in}
+use Rattle.lfs_thread.specs.Steps.{CanChange, HasReported, IsChanged, IsLeftByChange, IsCommitRefused, WritesReading, pair_in}
 use Rattle.lfs_thread.proofs.Changing.{at_there, can_commit, device_kept, device_changed, ok_outcome, full_kept, refused, left_in_thread}
 use Rattle.lfs_thread.proofs.CachedPair.{reading_there}
 use Rattle.lfs_thread.proofs.Reported.{reported_from, reading_from}
@@ -50,7 +50,7 @@ returns-clause-full g c full =
     let can = subst (λ (v : State). CanChange v.kept c.args.index (changes_view c.args.changes.now)) (sym c.self.view_is) c.requires.can in
     let a = at_there (disk_on g.D.BlockDevice c.self.inside.device) c.self.inside.pairs.items c.args.index c.index_mut.result.now can.below c.index_mut.ensures.value in
     let e = c.commit_to-outcome.ensures in
-    subst (λ (v : State). IsRefused v.kept c.args.index (changes_view c.args.changes.now) (kept_view_on g.D.BlockDevice c.commit_to-outcome.new.device (set c.self.inside.pairs.items c.args.index c.commit_to-outcome.new.pair) c.self.inside.map)) c.self.view_is
+    subst (λ (v : State). IsCommitRefused v.kept c.args.index (changes_view c.args.changes.now) (kept_view_on g.D.BlockDevice c.commit_to-outcome.new.device (set c.self.inside.pairs.items c.args.index c.commit_to-outcome.new.pair) c.self.inside.map)) c.self.view_is
     (refused _ _ _ _ c.self.inside.pairs.items _ c.args.index _ _ _ can.content a can.made (e.full full).completed (ap₂ disk_of (e.full full).device.geometry (e.full full).device.same) (e.full full).pair (e.full full).device.reads)
 
 pub returns-clause-errors : goal.returns-clause-errors

@@ -4,7 +4,7 @@ use Rattle.std.proofs.lemmas.Result.{IfOk-weaker}
 use Rattle.std.proofs.lemmas.Grind.{common_steps}
 use Rattle.std.specs.Prelude.{Some, find, option_and_then}
 use Rattle.std.specs.Str.{bytes_eq}
-use Rattle.lfs_tool_folders.specs.InMemory.{Item, bytes_at, item_of, items_by}
+use Rattle.lfs_tool_folders.specs.MemorySources.{Item, bytes_at, item_of, items_by}
 use Rattle.lfs_tool_folders.proofs.HeldItems.{found_here, not_here}
 use Rattle.lfs_tool_folders.specs.declared.source_memory.Held.{Held}
 use Rattle.lfs_tool_folders.proofs.source_memory.MemorySourceSource.read.Goals as goal

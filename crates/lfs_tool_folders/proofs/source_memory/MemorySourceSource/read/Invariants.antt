@@ -1,7 +1,7 @@
 use Rattle.std.proofs.Common.{◌≡◌, None, map, take}
 use Rattle.std.specs.Prelude.{find}
 use Rattle.std.specs.Str.{bytes_eq}
-use Rattle.lfs_tool_folders.specs.InMemory.{item_of}
+use Rattle.lfs_tool_folders.specs.MemorySources.{item_of}
 use Rattle.lfs_tool_folders.proofs.source_memory.MemorySourceSource.read.Given as goal
 
 abbrev pub invariant-loop-held : goal.invariant-loop-held

@@ -3,7 +3,7 @@ use Rattle.std.proofs.lemmas.Result.{err_from_is_err_and}
 use Rattle.lfs_model.specs.History.{reads}
 use Rattle.lfs_model.specs.Operations as ops
 use Rattle.lfs_thread.specs.Kept.{State}
-use Rattle.lfs_tree.specs.Allowed.{CanAddImage}
+use Rattle.lfs_tree.specs.Permissions.{CanAddImage}
 use Rattle.lfs_tree.specs.Calls as call
 use Rattle.lfs_tree.specs.Reads.{ReadsToCreate}
 use Rattle.lfs_tree.specs.TreeState.{TreeState, kept_of}

@@ -1,7 +1,7 @@
 use Rattle.std.proofs.Common.{refl}
 use Rattle.std.proofs.lemmas.Result.{err_from_is_err_and}
 use Rattle.lfs_model.specs.Operations as ops
-use Rattle.lfs_tree.specs.Allowed.{CanRemoveAttrImage}
+use Rattle.lfs_tree.specs.Permissions.{CanRemoveAttrImage}
 use Rattle.lfs_tree.specs.Calls as call
 use Rattle.lfs_tree.specs.TreeState.{kept_of}
 use Rattle.lfs_tree.proofs.Operated.{plain_clear}

@@ -3,10 +3,10 @@ use Rattle.lfs_model.specs.Effects.{with_bytes}
 use Rattle.lfs_model.specs.Shown.{tree_in}
 use Rattle.lfs_model.specs.Thread.{gstate_of}
 use Rattle.lfs_model.specs.TreeEdits.{change_at}
-use Rattle.lfs_tree.specs.Held.{IsHeld, IsRooted}
+use Rattle.lfs_tree.specs.RootedThreads.{IsRootedUnlessFailed, IsRooted}
 use Rattle.lfs_tree.specs.OpenContents.{CanStoreAt, bytes_held}
 use Rattle.lfs_tree.specs.TreeState.{TreeState}
-use Rattle.lfs_tree.specs.Storing.{HasStored}
+use Rattle.lfs_tree.specs.Stores.{HasStored}
 use Rattle.lfs_tree.proofs.Asking.{rooted_held, seen_working}
 use Rattle.lfs_tree.proofs.NotedErrors.{noted, noted_failed, noted_held}
 use Rattle.lfs_tree.proofs.StoreContents.{all_stored_working, survives_stored}
@@ -27,7 +27,7 @@ pub invariant_of-self : goal.invariant_of-self
 invariant_of-self g c =
     let t = c.self.inside.thread in
     let writes = ap (λ (s : TreeState). s.writable) c.self.view_is ∙ c.requires.writable in
-    subst (λ a. IsHeld c.note_error.new.thread c.self.inside.root a) (sym writes)
+    subst (λ a. IsRootedUnlessFailed c.note_error.new.thread c.self.inside.root a) (sym writes)
     (noted_held t c.store_at-stored.new.thread c.note_error.new.thread (HasStored t.kept c.args.path.now (bytes_held t.kept c.args.contents)) (change_at c.args.path.now (with_bytes (bytes_held t.kept c.args.contents)) (tree_in t.kept.disk t.kept.pairs)) c.store_at-stored.result c.store_at-stored.ensures c.note_error.ensures c.self.inside.root
     (subst (λ a. IsRooted c.self.inside.thread c.self.inside.root a) writes (rooted_held c.self.inside.thread c.self.inside.root c.self.inside.is_writable c.args.self.now c.self.invariant c.self.view_is c.requires.works)))
 

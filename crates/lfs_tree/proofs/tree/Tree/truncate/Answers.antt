@@ -1,7 +1,7 @@
 use Rattle.std.proofs.Common.{◌∙◌, ◌≤◌, sym, ap, subst}
 use Rattle.std.specs.Prelude.{IfOk}
 use Rattle.lfs_model.specs.Disk.{inline_limit}
-use Rattle.lfs_tree.specs.OpenContents.{CanTruncateBeside, IsOver, IsOverFile}
+use Rattle.lfs_tree.specs.OpenContents.{CanTruncateOpenFile, IsOver, IsOverFile}
 use Rattle.lfs_tree.specs.TreeState.{TreeState}
 use Rattle.lfs_thread.specs.Kept.{State}
 use Rattle.lfs_tree.proofs.Asking.{rooted_held}
@@ -13,7 +13,7 @@ truncate_file-truncated-requires-clause-can g c =
     let held = rooted_held c.self.inside.thread c.self.inside.root c.self.inside.is_writable c.args.self.now c.self.invariant c.self.view_is c.requires.works in
     let size = c.geometry.ensures.block_size ∙ sym (ap (λ (s : TreeState). s.disk.block_size) c.self.view_is) in
     can_truncate c.self.inside.thread.kept c.self.inside.is_writable c.inline_limit-limit.result held.sound (subst (λ n. 1024 ≤ n) size c.geometry.result.valid.no_smaller) (c.inline_limit-limit.ensures ∙ ap inline_limit size)
-    c.self.inside.thread.failed c.args.contents c.args.size (subst (λ (s : TreeState). CanTruncateBeside s c.args.contents c.args.size) (sym c.self.view_is) c.requires)
+    c.self.inside.thread.failed c.args.contents c.args.size (subst (λ (s : TreeState). CanTruncateOpenFile s c.args.contents c.args.size) (sym c.self.view_is) c.requires)
 
 pub invariant_of-self : goal.invariant_of-self
 invariant_of-self g c =

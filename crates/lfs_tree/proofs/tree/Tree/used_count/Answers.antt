@@ -1,6 +1,6 @@
 use Rattle.std.proofs.Common.{◌∙◌, ap, false, length}
 use Rattle.lfs_model.specs.Shown.{used_blocks}
-use Rattle.lfs_tree.specs.Held.{tree_state_of}
+use Rattle.lfs_tree.specs.RootedThreads.{tree_state_of}
 use Rattle.lfs_tree.specs.TreeState.{TreeState}
 use Rattle.lfs_tree.proofs.Asking.{rooted_held}
 use Rattle.lfs_tree.proofs.UsedBlocks.{count_is}

@@ -1,0 +1,151 @@
+// A device that counts its calls and their bytes, and sees in which order blocks are written.
+
+use lfs_device::{BlockDevice, Error, Geometry};
+use std::alloc::Global;
+
+/// How often a device was read, programmed and erased, and how many bytes were read and programmed.
+#[derive(Clone, Copy)]
+pub struct Counts {
+    pub reads: u64,
+    pub read_bytes: u64,
+    pub programs: u64,
+    pub program_bytes: u64,
+    pub erases: u64,
+    /// The programs of a block from its first byte on right after its erase, each of a later block
+    /// than the one before.
+    pub in_turn: u64,
+}
+
+impl Counts {
+    const NONE: Counts = Counts {
+        reads: 0,
+        read_bytes: 0,
+        programs: 0,
+        program_bytes: 0,
+        erases: 0,
+        in_turn: 0,
+    };
+
+    /// The calls since the counts that are given.
+    pub fn since(&self, before: &Counts) -> Counts {
+        Counts {
+            reads: self.reads.saturating_sub(before.reads),
+            read_bytes: self.read_bytes.saturating_sub(before.read_bytes),
+            programs: self.programs.saturating_sub(before.programs),
+            program_bytes: self.program_bytes.saturating_sub(before.program_bytes),
+            erases: self.erases.saturating_sub(before.erases),
+            in_turn: self.in_turn.saturating_sub(before.in_turn),
+        }
+    }
+}
+
+// The calls that were made, and their order.
+#[derive(Clone, Copy)]
+struct Turns {
+    counts: Counts,
+    // The block that was erased last, until it is programmed.
+    erased: Option<u32>,
+    // The block of the last program in order.
+    last: Option<u32>,
+}
+
+impl Turns {
+    fn take_read(&mut self, bytes: usize) {
+        self.counts.reads = self.counts.reads.saturating_add(1);
+        self.counts.read_bytes = self.counts.read_bytes.saturating_add(bytes as u64);
+    }
+
+    fn take_erase(&mut self, block: u32) {
+        self.counts.erases = self.counts.erases.saturating_add(1);
+        self.erased = Some(block);
+    }
+
+    fn take_program(&mut self, block: u32, off: u32, bytes: usize) {
+        self.counts.programs = self.counts.programs.saturating_add(1);
+        self.counts.program_bytes = self.counts.program_bytes.saturating_add(bytes as u64);
+        let is_later = match self.last {
+            Some(last) => last < block,
+            None => true,
+        };
+        if self.erased == Some(block) && off == 0 && is_later {
+            self.counts.in_turn = self.counts.in_turn.saturating_add(1);
+            self.last = Some(block);
+        }
+        self.erased = None;
+    }
+}
+
+/// Makes a device with the counts of its calls.
+#[derive(Drop)]
+pub struct CountingDevice<D: BlockDevice> {
+    inner: D,
+    turns: Turns,
+    // How often each block was erased. Blocks past its end aren't counted.
+    erased: Vec<u32>,
+}
+
+impl<D: BlockDevice> CountingDevice<D> {
+    pub fn new(alloc: Global, inner: D) -> CountingDevice<D> {
+        CountingDevice::with_blocks(inner, Vec::new(alloc))
+    }
+
+    /// Makes a device with the numbers with which the counts of each block's erases begin.
+    pub fn with_blocks(inner: D, erased: Vec<u32>) -> CountingDevice<D> {
+        CountingDevice {
+            inner,
+            turns: Turns {
+                counts: Counts::NONE,
+                erased: None,
+                last: None,
+            },
+            erased,
+        }
+    }
+
+    pub fn counts(&self) -> Counts {
+        self.turns.counts
+    }
+
+    /// Borrows the counts of each block's erases.
+    pub fn erase_counts(&self) -> &[u32] {
+        &self.erased
+    }
+}
+
+impl<D: BlockDevice> BlockDevice for CountingDevice<D> {
+    ghost geometry = { λ d. D.geometry d.inner };
+
+    ghost blocks = { λ d. D.blocks d.inner };
+
+    ghost history = { λ d. D.history d.inner };
+
+    ghost shape = { λ d. D.shape d.inner };
+
+    ghost bytes = { λ d. D.bytes d.inner };
+
+    ghost newest = { λ d. D.newest d.inner };
+
+    ghost conforms = { λ d. D.conforms d.inner };
+
+    fn geometry(&self) -> Geometry {
+        self.inner.geometry()
+    }
+
+    fn read(&mut self, block: u32, off: u32, buf: &mut [u8]) -> Result<(), Error> {
+        self.turns.take_read(buf.len());
+        self.inner.read(block, off, buf)
+    }
+
+    fn prog(&mut self, block: u32, off: u32, bytes: &[u8]) -> Result<(), Error> {
+        self.turns.take_program(block, off, bytes.len());
+        self.inner.prog(block, off, bytes)
+    }
+
+    fn erase(&mut self, block: u32) -> Result<(), Error> {
+        self.turns.take_erase(block);
+        if let Some(count) = self.erased.get_mut(block as usize) {
+            *count = count.saturating_add(1);
+        }
+        self.inner.erase(block)
+    }
+}

@@ -1,0 +1,40 @@
+// What a session answers that has failed.
+
+use crate::answers::Answer::Refused;
+use crate::answers::{Answer, Row};
+use crate::row_runs::first_wrong;
+use lfs_device::{Error, FaultDevice, RamDevice, Which};
+use lfs_fs::Op::{
+    Close, GetAttr, Gstate, IsUsed, List, Mkdir, Open, Read, RemoveAttr, Seek, Stat, UsedCount,
+};
+use lfs_fs::{OpenFlags, Session};
+use std::alloc::Global;
+
+/// A device in memory, one of whose calls fails.
+pub type Faulty = FaultDevice<RamDevice>;
+
+const FAILED: Answer<'static> = Refused(Error::Failed);
+
+// Not even a path is looked at.
+const AFTER: [Row<'static>; 13] = [
+    (Stat(b"/"), FAILED),
+    (Stat(b"d"), FAILED),
+    (List(b"/"), FAILED),
+    (Mkdir(b"/d"), FAILED),
+    (GetAttr(b"/d", 0x41), FAILED),
+    (RemoveAttr(b"/d", 0x41), FAILED),
+    (Open(b"/d", OpenFlags::READ), FAILED),
+    (Read(0, 1), FAILED),
+    (Seek(0, 1), FAILED),
+    (Close(0), FAILED),
+    (Gstate, FAILED),
+    (IsUsed(99), FAILED),
+    (UsedCount, FAILED),
+];
+
+/// Whether a session answers that it has failed, without a call of the device.
+pub fn has_failed(alloc: Global, session: &mut Session<Faulty>) -> Result<bool, Error> {
+    let before = session.device().calls(Which::Any);
+    let wrong = first_wrong(alloc, session, &AFTER)?;
+    Ok(wrong.is_none() && session.device().calls(Which::Any) == before)
+}

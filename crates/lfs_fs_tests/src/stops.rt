@@ -1,0 +1,242 @@
+// Scripts on devices that stop, and one on devices one of whose calls fails.
+
+use crate::answers::Answer::Done;
+use crate::answers::Row;
+use crate::failed_sessions::{Faulty, has_failed};
+use crate::row_runs::first_wrong;
+use crate::scenes::{RECOVERY, RENAMING, others, with_file_to_move};
+use crate::scripts::{
+    LENGTH, Script, carry_out_rows, has_lost_nothing, long_rows, long_script, tree_view,
+};
+use crate::starts::{Start, copy_device, device_of, mount_image};
+use lfs_device::{Erased, Error, FaultDevice, RamDevice, Which};
+use lfs_fs::Op::Remount;
+use lfs_fs::{OpenFlags, mount};
+use std::alloc::Global;
+use std::test::Fail;
+
+// A small device made empty.
+fn small(alloc: Global) -> Result<RamDevice, Error> {
+    device_of(alloc, Start::Fresh(1024, 128, 64))
+}
+
+// A copy of a device, one of whose calls fails, and each later one where it stops.
+fn stopping(
+    alloc: Global,
+    device: &RamDevice,
+    erased: Erased,
+    nth: u64,
+    stops: bool,
+) -> Result<Faulty, Error> {
+    let copy = copy_device(alloc, device)?.erased_as(erased);
+    Ok(FaultDevice::new(copy, Which::Any, nth, stops))
+}
+
+// How many rows are carried out until the device stops, and the device.
+fn run_to_stop(
+    alloc: Global,
+    device: Faulty,
+    rows: &[Row<'_>],
+) -> Result<(usize, RamDevice), Error> {
+    let mut session = match mount(alloc, device) {
+        Ok(session) => session,
+        Err((device, error)) => {
+            return if error == Error::Io {
+                Ok((0, device.into_inner()))
+            } else {
+                Err(error)
+            };
+        }
+    };
+    let (done, error) = carry_out_rows(alloc, &mut session, rows);
+    match error {
+        Some(error) if error != Error::Io => Err(error),
+        _ => Ok((done, session.unmount().into_inner())),
+    }
+}
+
+// How many operations are carried out, and whether a mount of what is left has lost nothing.
+fn survives_stop(
+    alloc: Global,
+    device: Faulty,
+    script: &Script<'_>,
+) -> Result<(usize, bool), Error> {
+    let (done, left) = run_to_stop(alloc, device, script.rows)?;
+    let mut session = mount_image(alloc, left)?;
+    let is_right = has_lost_nothing(alloc, &mut session, script, done)?;
+    Ok((done, is_right))
+}
+
+// Copies that stop before their call of that number, in the middle of it, behind it.
+fn copies(
+    alloc: Global,
+    device: &RamDevice,
+    erased: Erased,
+    nth: u64,
+) -> Result<[Faulty; 3], Error> {
+    let before = stopping(alloc, device, erased, nth, true)?;
+    let within = stopping(alloc, device, erased, nth, true)?.torn(20);
+    let behind = stopping(alloc, device, erased, nth, true)?.whole();
+    Ok([before, within, behind])
+}
+
+// Whether nothing is lost of a script on any of them, and whether all of it is carried out on each.
+fn survived_at(
+    alloc: Global,
+    device: &RamDevice,
+    erased: Erased,
+    script: &Script<'_>,
+    nth: u64,
+) -> Result<(bool, bool), Error> {
+    let mut are_right = true;
+    let mut are_whole = true;
+    for copy in copies(alloc, device, erased, nth)? {
+        let (done, is_right) = survives_stop(alloc, copy, script)?;
+        are_right &= is_right;
+        are_whole &= done == script.rows.len();
+    }
+    Ok((are_right, are_whole))
+}
+
+// At how many calls the device may stop in these ways, and nothing is lost. None where something is.
+fn count_survived_calls(
+    alloc: Global,
+    device: &RamDevice,
+    erased: Erased,
+    script: &Script<'_>,
+) -> Result<Option<u64>, Error> {
+    for nth in 1..1000u64 {
+        let (are_right, are_whole) = survived_at(alloc, device, erased, script, nth)?;
+        if !are_right {
+            return Ok(None);
+        }
+        if are_whole {
+            return Ok(Some(nth));
+        }
+    }
+    Ok(None)
+}
+
+// Whether it survives a stop at each call. The script makes five blocks twice, two of a directory, and
+// eight commits at least, in programs alone.
+fn survives(alloc: Global, erased: Erased) -> Result<bool, Error> {
+    let rows = long_rows(OpenFlags::WRITE | OpenFlags::CREATE);
+    let calls = count_survived_calls(alloc, &small(alloc)?, erased, &long_script(&rows))?;
+    Ok(calls.is_some_and(|calls| calls > 20))
+}
+
+const ERASED: [Erased; 3] = [Erased::Fill(0xff), Erased::Fill(0), Erased::Keep];
+
+#[test]
+fn nothing_is_lost_where_a_device_stops(rt: HostRuntime) -> Result<(), Fail> {
+    for erased in ERASED {
+        assert_eq!(rt; survives(rt.alloc(), erased), Ok(true), "{erased:?}");
+    }
+    Ok(())
+}
+
+// Whether each of the other scripts survives it. They mount, and make two commits at least.
+fn others_survive(alloc: Global, new: OpenFlags) -> Result<bool, Error> {
+    for (device, script) in &others(alloc, new)? {
+        let calls = count_survived_calls(alloc, device, Erased::Fill(0xff), script)?;
+        if !calls.is_some_and(|calls| calls > 4) {
+            return Ok(false);
+        }
+    }
+    Ok(true)
+}
+
+#[test]
+fn nothing_is_lost_in_other_scripts(rt: HostRuntime) -> Result<(), Fail> {
+    let new = OpenFlags::WRITE | OpenFlags::CREATE;
+    assert_eq!(rt; others_survive(rt.alloc(), new), Ok(true));
+    Ok(())
+}
+
+// At how many calls the recovery of a device may stop, and its tree stays. None where it is lost.
+fn count_survived_in_recovery(
+    alloc: Global,
+    left: &RamDevice,
+    script: &Script<'_>,
+    done: usize,
+) -> Result<Option<u64>, Error> {
+    let mut session = mount_image(alloc, copy_device(alloc, left)?)?;
+    let tree = tree_view(alloc, &mut session, script, done)?;
+    let recovery = Script {
+        rows: &RECOVERY,
+        trees: script.trees,
+        behind: &[tree, tree],
+    };
+    count_survived_calls(alloc, left, Erased::Fill(0xff), &recovery)
+}
+
+// The same where a file is moved, and where a recovery of what a stop leaves is stopped in its turn.
+fn count_survived_in_rename(alloc: Global, device: &RamDevice) -> Result<Option<u64>, Error> {
+    let calls = count_survived_calls(alloc, device, Erased::Fill(0xff), &RENAMING)?;
+    for nth in 1..calls.unwrap_or(0) {
+        for copy in copies(alloc, device, Erased::Fill(0xff), nth)? {
+            let (done, left) = run_to_stop(alloc, copy, RENAMING.rows)?;
+            if count_survived_in_recovery(alloc, &left, &RENAMING, done)?.is_none() {
+                return Ok(None);
+            }
+        }
+    }
+    Ok(calls)
+}
+
+#[test]
+fn nothing_is_lost_where_a_recovery_stops(rt: HostRuntime) -> Result<(), Fail> {
+    let device = with_file_to_move(rt.alloc(), OpenFlags::WRITE | OpenFlags::CREATE)?;
+    let calls = count_survived_in_rename(rt.alloc(), &device)?;
+    assert!(rt; calls.is_some_and(|calls| calls > 4), "{calls:?}");
+    Ok(())
+}
+
+// The same of the long script where one call fails: the session has failed, and a remount has lost
+// nothing.
+fn failed_at(
+    alloc: Global,
+    empty: &RamDevice,
+    script: &Script<'_>,
+    nth: u64,
+) -> Result<(usize, bool), Error> {
+    let device = stopping(alloc, empty, Erased::Fill(0xff), nth, false)?;
+    let mut session = match mount(alloc, device) {
+        Ok(session) => session,
+        Err((_, error)) => return Ok((0, error == Error::Io)),
+    };
+    match carry_out_rows(alloc, &mut session, script.rows) {
+        (done, None) => Ok((done, done == LENGTH)),
+        (done, Some(error)) => {
+            let is_right = error == Error::Io
+                && has_failed(alloc, &mut session)?
+                && first_wrong(alloc, &mut session, &[(Remount, Done)])?.is_none()
+                && has_lost_nothing(alloc, &mut session, script, done)?;
+            Ok((done, is_right))
+        }
+    }
+}
+
+// How many calls may fail, one at a time, and nothing is lost. None where something is.
+fn count_reported_failures(alloc: Global) -> Result<Option<u64>, Error> {
+    let rows = long_rows(OpenFlags::WRITE | OpenFlags::CREATE);
+    let script = long_script(&rows);
+    let empty = small(alloc)?;
+    for nth in 1..1000u64 {
+        let (done, is_right) = failed_at(alloc, &empty, &script, nth)?;
+        if !is_right {
+            return Ok(None);
+        }
+        if done == LENGTH {
+            return Ok(Some(nth));
+        }
+    }
+    Ok(None)
+}
+
+#[test]
+fn nothing_is_lost_where_a_call_fails(rt: HostRuntime) -> Result<(), Fail> {
+    let calls = count_reported_failures(rt.alloc())?;
+    assert!(rt; calls.is_some_and(|calls| calls > 20), "{calls:?}");
+    Ok(())
+}

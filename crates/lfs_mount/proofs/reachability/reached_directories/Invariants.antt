@@ -1,0 +1,17 @@
+use Rattle.std.proofs.Common.{◌≡◌, ◌≤◌, ◌-◌, length}
+use Rattle.lfs_mount.specs.DirectoryView.{graph_of}
+use Rattle.lfs_mount.specs.Reaching.{AreMarksOf, found_after, is_sound_at}
+use Rattle.std.specs.Prelude.{All, true, take}
+use Rattle.lfs_mount.proofs.reachability.reached_directories.Given as goal
+
+abbrev pub invariant-loop-next : goal.invariant-loop-next
+invariant-loop-next l = record {
+  found : l.found.items ≡ found_after (graph_of l.order l.directories) l.next;
+  marked : AreMarksOf l.is_found.items l.found.items;
+  len : length l.is_found.items ≡ length l.directories;
+  sound : All (λ v. is_sound_at (graph_of l.order l.directories) v ≡ true) (take l.next l.found.items);
+  passed : l.next ≤ length l.found.items;
+}
+
+abbrev pub decreases-loop-next : goal.decreases-loop-next
+decreases-loop-next l = length l.directories - l.next

@@ -1,0 +1,66 @@
+// The answers of a session to a script's operations.
+
+ghost use Rattle.std.specs.Prelude.{◌≡◌};
+ghost use Rattle.lfs_fs.specs.SessionView.{system_state_of};
+ghost use Rattle.lfs_fs.specs.OpView.{op_view};
+ghost use Rattle.lfs_script.specs.SessionAnswers.{IsSessionAnswer};
+ghost use Rattle.lfs_script.specs.OperationView.{operation_view};
+
+use lfs_device::BlockDevice;
+use lfs_fs::{Op, Session};
+use lfs_script_lines::{Answer, Operation};
+use std::alloc::Global;
+
+// Returns the session's operation.
+fn op_of(operation: &Operation) -> Op<'_>
+    ensures { op_view result ≡ operation_view operation.now }
+{
+    match operation {
+        Operation::Open(path, flags) => Op::Open(path, *flags),
+        Operation::Read(fd, count) => Op::Read(*fd, *count),
+        Operation::Write(fd, bytes) => Op::Write(*fd, bytes),
+        Operation::Seek(fd, position) => Op::Seek(*fd, *position),
+        Operation::Truncate(fd, size) => Op::Truncate(*fd, *size),
+        Operation::Sync(fd) => Op::Sync(*fd),
+        Operation::Close(fd) => Op::Close(*fd),
+        Operation::Mkdir(path) => Op::Mkdir(path),
+        Operation::Remove(path) => Op::Remove(path),
+        Operation::Rename(old, new) => Op::Rename(old, new),
+        Operation::List(path) => Op::List(path),
+        Operation::Stat(path) => Op::Stat(path),
+        Operation::GetAttr(path, kind) => Op::GetAttr(path, *kind),
+        Operation::SetAttr(path, kind, bytes) => Op::SetAttr(path, *kind, bytes),
+        Operation::RemoveAttr(path, kind) => Op::RemoveAttr(path, *kind),
+        Operation::Gstate => Op::Gstate,
+        Operation::IsUsed(block) => Op::IsUsed(*block),
+        Operation::UsedCount => Op::UsedCount,
+        Operation::Recover => Op::Recover,
+        Operation::Remount => Op::Remount,
+    }
+}
+
+// Performs an operation of the session.
+fn perform_op<D: BlockDevice>(alloc: Global, session: &mut Session<D>, op: Op<'_>) -> Answer
+    ensures { IsSessionAnswer (system_state_of session.old) (op_view op.entry) result (system_state_of session.new) }
+{
+    match session.run(alloc, &[op]) {
+        Ok(mut replies) => match replies.pop() {
+            Some(reply) => Answer::Reply(reply),
+            None => unreachable!(),
+        },
+        Err(error) => Answer::Error(error),
+    }
+}
+
+/// Performs an operation.
+///
+/// The answer is the session's reply, a refusal among them, or the error by which the session failed.
+pub fn perform<D: BlockDevice>(
+    alloc: Global,
+    session: &mut Session<D>,
+    operation: &Operation,
+) -> Answer
+    ensures { IsSessionAnswer (system_state_of session.old) (operation_view operation.now) result (system_state_of session.new) }
+{
+    perform_op(alloc, session, op_of(operation))
+}

@@ -1,0 +1,30 @@
+-- The parts of a thread's pairs that the rules are about, without attributes.
+use Rattle.std.specs.Prelude.{List, [], ◌∷◌, map, Option, Some, None}
+use Rattle.std.specs.List.{flat_map}
+use Rattle.std.specs.Option.{option_map}
+use Rattle.lfs_model.specs.Content.{RawSlot, complete}
+use Rattle.lfs_model.specs.Slots.{Content, Slot}
+use Rattle.lfs_model.specs.Thread.{Pair}
+
+abbrev pub without_attributes : Slot → Slot
+without_attributes s = record s { attributes = [] }
+
+abbrev pub content_without_attributes : Content → Content
+content_without_attributes c = record c { slots = map without_attributes c.slots }
+
+abbrev pub pair_without_attributes : Pair → Pair
+pair_without_attributes p = record p { content = content_without_attributes p.content }
+
+abbrev pub pairs_without_attributes : List Pair → List Pair
+pairs_without_attributes ps = map pair_without_attributes ps
+
+abbrev pub slot_list : Option Slot → List Slot
+slot_list None = []
+slot_list (Some s) = s ∷ []
+
+-- a log's slot, where it has a name and a struct
+abbrev pub complete_slot_in : RawSlot → List Slot
+complete_slot_in s = slot_list (option_map without_attributes (complete s))
+
+abbrev pub complete_slots_among : List RawSlot → List Slot
+complete_slots_among slots = flat_map complete_slot_in slots

@@ -1,0 +1,72 @@
+// Slots without their attributes.
+
+ghost use Rattle.std.specs.Prelude.{◌≡◌, ◌<◌, ◌++◌, IfNone, IfOk, IfSome, None, OnOk, is_some, length, map, true};
+ghost use Rattle.std.specs.Option.{option_map};
+ghost use Rattle.lfs_model.specs.Content.{complete, complete_all, slot_of_id};
+ghost use Rattle.lfs_model.specs.LoggedContent.{HasParts, HaveParts};
+ghost use Rattle.lfs_tag.specs.ContentView.{slot_view};
+ghost use Rattle.lfs_tool.specs.OwnedSlots.{without_attributes, complete_slots_among, complete_slot_in};
+ghost use Rattle.lfs_tool.specs.OwnedSlotView.{owned_slot_view};
+
+use crate::owned_parts::OwnedSlot;
+use lfs_lookup::structure_of;
+use lfs_tag::{Kind, Slot};
+use std::alloc::{AllocError, Global};
+
+// Returns a slot, where it has a name and a struct.
+fn own_slot(alloc: Global, slot: &Slot<'_>) -> Result<Option<OwnedSlot>, AllocError>
+    requires { HasParts (slot_view slot.now) }
+    ensures { IfOk result (λ held. option_map owned_slot_view held ≡ option_map without_attributes (complete (slot_view slot.now))) }
+{
+    let (Some(name), Some(part)) = (slot.name, slot.structure) else {
+        return Ok(None);
+    };
+    let structure = structure_of(alloc, &part)?;
+    let kind = Kind::of(&name);
+    let name = Vec::from_slice(alloc, name.bytes)?;
+    Ok(Some(OwnedSlot {
+        kind,
+        name,
+        structure,
+    }))
+}
+
+// Adds a slot, where it has a name and a struct.
+fn push_complete_slot(
+    alloc: Global,
+    all: &mut Vec<OwnedSlot>,
+    slot: &Slot<'_>,
+) -> Result<(), AllocError>
+    requires { HasParts (slot_view slot.now) }
+    ensures { OnOk result (map owned_slot_view all.new.items ≡ map owned_slot_view all.old.items ++ complete_slot_in (slot_view slot.now)) }
+{
+    if let Some(held) = own_slot(alloc, slot)? {
+        all.push(held)?;
+    }
+    Ok(())
+}
+
+// Returns the slots that have a name and a struct.
+pub(crate) fn own_slots(alloc: Global, slots: &[Slot<'_>]) -> Result<Vec<OwnedSlot>, AllocError>
+    requires { HaveParts (map slot_view slots.now) }
+    ensures { IfOk result (λ held. map owned_slot_view held.items ≡ complete_slots_among (map slot_view slots.now)) }
+{
+    let mut all = Vec::new(alloc);
+    for slot in slots {
+        push_complete_slot(alloc, &mut all, slot)?;
+    }
+    Ok(all)
+}
+
+// Returns the number of the first slot that lacks its name or its struct.
+pub(crate) fn first_incomplete(slots: &[Slot<'_>]) -> Option<usize>
+    ensures there { IfSome result (λ id. (id < length slots.now) × (complete (slot_of_id (map slot_view slots.now) id) ≡ None)) }
+    ensures none { IfNone result (is_some (complete_all (map slot_view slots.now)) ≡ true) }
+{
+    for (id, slot) in slots.iter().enumerate() {
+        if slot.name.is_none() || slot.structure.is_none() {
+            return Some(id);
+        }
+    }
+    None
+}

@@ -1,0 +1,180 @@
+// Sources, the images that are made of them, and what comes back.
+
+use crate::sources::{Items, source_of};
+use crate::texts::{list_text, unpack_text, with_error_line};
+use lfs_device::{Error, Geometry};
+use lfs_tool::{Watched, create};
+use lfs_tool_folders::MemorySource;
+use std::alloc::Global;
+use std::test::Fail;
+
+const NO_SPACE: &str = "error: NoSpace (28)\n";
+
+const NAME_TOO_LONG: &str = "error: NameTooLong (36)\n";
+
+// Whether the image of a source lists as these lines and, where they are given, is unpacked by these
+// actions; or whether this error comes and nothing is written.
+fn comes_back(
+    alloc: Global,
+    source: MemorySource,
+    geometry: Geometry,
+    lines: &[u8],
+    actions: Option<&[u8]>,
+) -> Result<bool, Error> {
+    let mut source = source;
+    let mut out = Watched::new(Vec::new(alloc));
+    let result = create(alloc, &mut source, geometry, &mut out);
+    let image = out.into_inner();
+    if result.is_err() {
+        return Ok(with_error_line(alloc, image, result)?.as_slice() == lines);
+    }
+    let (block_size, page) = (geometry.block_size, geometry.page);
+    let mut reader = Watched::new(image.as_slice());
+    let is_listed = list_text(alloc, &mut reader, block_size, page)?.as_slice() == lines;
+    let Some(actions) = actions else {
+        return Ok(is_listed);
+    };
+    let mut reader = Watched::new(image.as_slice());
+    let done = unpack_text(alloc, &mut reader, block_size, page)?;
+    Ok(is_listed && done.as_slice() == actions)
+}
+
+// A file, and a folder with an empty one.
+const FOLDER: Items<'static> = &[(b"/d/x", Some(b"")), (b"/d", None), (b"/a", Some(b"hello"))];
+
+const LONG_NAME: &[u8] =
+    b"/nnnnnnnnnnnnnnnnnnnnnnnnnnnnnnnnnnnnnnnnnnnnnnnnnnnnnnnnnnnnnnnnnnnnnnnnnnnnnnnnnnnnnnnnnnnnnnnnnnnnnnnnnnnnnnnnnnnnnnnnnnnnnnnnnnnnnnnnnnnnnnnnnnnnnnnnnnnnnnnnnnnnnnnnnnnnnnnnnnnnnnnnnnnnnnnnnnnnnnnnnnnnnnnnnnnnnnnnnnnnnnnnnnnnnnnnnnnnnnnnnnnnnnnnnnnnnnn";
+
+const LONG_LINE: &str =
+    "f 0 /nnnnnnnnnnnnnnnnnnnnnnnnnnnnnnnnnnnnnnnnnnnnnnnnnnnnnnnnnnnnnnnnnnnnnnnnnnnnnnnnnnnnnnnnnnnnnnnnnnnnnnnnnnnnnnnnnnnnnnnnnnnnnnnnnnnnnnnnnnnnnnnnnnnnnnnnnnnnnnnnnnnnnnnnnnnnnnnnnnnnnnnnnnnnnnnnnnnnnnnnnnnnnnnnnnnnnnnnnnnnnnnnnnnnnnnnnnnnnnnnnnnnnnnnnnnnnnn\n";
+
+const LONGER_NAME: &[u8] =
+    b"/nnnnnnnnnnnnnnnnnnnnnnnnnnnnnnnnnnnnnnnnnnnnnnnnnnnnnnnnnnnnnnnnnnnnnnnnnnnnnnnnnnnnnnnnnnnnnnnnnnnnnnnnnnnnnnnnnnnnnnnnnnnnnnnnnnnnnnnnnnnnnnnnnnnnnnnnnnnnnnnnnnnnnnnnnnnnnnnnnnnnnnnnnnnnnnnnnnnnnnnnnnnnnnnnnnnnnnnnnnnnnnnnnnnnnnnnnnnnnnnnnnnnnnnnnnnnnnnn";
+
+// A source, how many blocks there are, and what comes of it.
+type Row = (Items<'static>, u32, &'static str);
+
+// Blocks of 4,096 bytes, with pages of 256.
+const SOURCES: [Row; 15] = [
+    (&[], 2, ""),
+    (&[(b"/a", Some(b"hello"))], 16, "f 5 /a\n"),
+    (&[(b"/a", Some(&[7; 512]))], 16, "f 512 /a\n"),
+    (&[(b"/a", Some(&[7; 513]))], 16, "f 513 /a\n"),
+    (FOLDER, 16, "f 5 /a\nd 0 /d\nf 0 /d/x\n"),
+    (
+        &[(b"/d", None), (b"/d/b", Some(&[7; 10000]))],
+        16,
+        "d 0 /d\nf 10000 /d/b\n",
+    ),
+    (&[(b"/a", Some(b""))], 2, NO_SPACE),
+    (&[(b"/a", Some(b""))], 3, NO_SPACE),
+    (&[(b"/d", None)], 5, NO_SPACE),
+    (&[(b"/d", None)], 6, "d 0 /d\n"),
+    // a list of 14 blocks beside the first two, and two more until it is closed
+    (&[(b"/a", Some(&[7; 57000]))], 18, "f 57000 /a\n"),
+    (&[(b"/a", Some(&[7; 57000]))], 17, NO_SPACE),
+    // the longest name, and one that is a byte longer
+    (&[(LONG_NAME, Some(b""))], 16, LONG_LINE),
+    (&[(LONGER_NAME, Some(b""))], 16, NAME_TOO_LONG),
+    // all of the source is read before anything is refused
+    (
+        &[(b"/d", None), (b"/a", Some(b"")), (b"/d/..", Some(b""))],
+        2,
+        "error: input\n",
+    ),
+];
+
+// What the folder's image lists, and what unpacking it does.
+const LINES: &[u8] = b"f 5 /a\nd 0 /d\nf 0 /d/x\n";
+
+const ACTIONS: &[u8] = b"f /a hello\nd /d\nf /d/x \n";
+
+const BYTES: Option<&[u8]> = Some(&[0; 128]);
+
+// Seven files, of which six fill two pairs of an image of four blocks.
+const SEVEN: Items<'static> = &[
+    (b"/a", BYTES),
+    (b"/b", BYTES),
+    (b"/c", BYTES),
+    (b"/d", BYTES),
+    (b"/e", BYTES),
+    (b"/f", BYTES),
+    (b"/g", Some(b"")),
+];
+
+// Blocks of 1,024 bytes, with pages of 128. Beside 40 bytes of the superblock, six files of 8 and a name
+// of 1 beside their bytes: a pair holds 857.
+const SMALL: [Row; 4] = [
+    (
+        &[
+            (b"/a", BYTES),
+            (b"/b", BYTES),
+            (b"/c", BYTES),
+            (b"/d", BYTES),
+            (b"/e", BYTES),
+            (b"/f", Some(&[0; 123])),
+        ],
+        4,
+        "f 128 /a\nf 128 /b\nf 128 /c\nf 128 /d\nf 128 /e\nf 123 /f\n",
+    ),
+    (
+        &[
+            (b"/a", BYTES),
+            (b"/b", BYTES),
+            (b"/c", BYTES),
+            (b"/d", BYTES),
+            (b"/e", BYTES),
+            (b"/f", Some(&[0; 124])),
+        ],
+        4,
+        "f 128 /a\nf 128 /b\nf 128 /c\nf 128 /d\nf 128 /e\nf 124 /f\n",
+    ),
+    (SEVEN, 4, NO_SPACE),
+    (
+        SEVEN,
+        6,
+        "f 128 /a\nf 128 /b\nf 128 /c\nf 128 /d\nf 128 /e\nf 128 /f\nf 0 /g\n",
+    ),
+];
+
+// Sizes of a block and a page, and what is made with them.
+const MADE: [(u32, u32, &[Row]); 2] = [(4096, 256, &SOURCES), (1024, 128, &SMALL)];
+
+#[test]
+fn images_are_made(rt: HostRuntime) -> Result<(), Fail> {
+    for (block_size, page, rows) in MADE {
+        for (items, blocks, text) in rows {
+            let source = source_of(rt.alloc(), items)?;
+            let geometry = Geometry::new(block_size, page, *blocks)?;
+            let comes_back = comes_back(rt.alloc(), source, geometry, text.as_bytes(), None)?;
+            assert!(rt; comes_back, "{text}");
+        }
+    }
+    let source = source_of(rt.alloc(), FOLDER)?;
+    let geometry = Geometry::new(4096, 256, 16)?;
+    assert!(rt; comes_back(rt.alloc(), source, geometry, LINES, Some(ACTIONS))?);
+    Ok(())
+}
+
+// The first 52 bytes of an image of nothing, with 16 blocks of 4,096 bytes. All else is 0xff.
+const FRESH: [u8; 52] = [
+    0x01, 0, 0, 0, 0xf0, 0x0f, 0xff, 0xf7, 0x6c, 0x69, 0x74, 0x74, 0x6c, 0x65, 0x66, 0x73, 0x2f,
+    0xe0, 0x00, 0x10, 0, 0, 0x02, 0, 0, 0x10, 0, 0, 0x10, 0, 0, 0, 0xff, 0, 0, 0, 0xff, 0xff, 0xff,
+    0x7f, 0xfe, 0x03, 0, 0, 0x70, 0x1f, 0xfc, 0xc8, 0x4a, 0x7f, 0x27, 0xf3,
+];
+
+#[test]
+fn an_image_has_these_bytes(rt: HostRuntime) -> Result<(), Fail> {
+    let mut source = source_of(rt.alloc(), &[])?;
+    let mut out = Watched::new(Vec::new(rt.alloc()));
+    let result = create(
+        rt.alloc(),
+        &mut source,
+        Geometry::new(4096, 256, 16)?,
+        &mut out,
+    );
+    let mut wanted = Vec::from_slice(rt.alloc(), &FRESH)?;
+    wanted.resize(65536, 0xff)?;
+    assert!(rt; result == Ok(()) && out.inner().as_slice() == wanted.as_slice());
+    Ok(())
+}

@@ -1,0 +1,208 @@
+// Readers and writers that fail in mid-stream, or that a signal interrupts.
+
+use crate::images::shifting_block;
+use crate::sources::source_of;
+use crate::texts::{list_text, unpack_text, with_error_line};
+use lfs_device::{Error, Geometry};
+use lfs_fixtures::image_of;
+use lfs_tool::{Watched, create, list};
+use std::alloc::{AllocError, Global};
+use std::io;
+use std::io::{ErrorKind, Read, Write};
+use std::test::Fail;
+
+const LINES: &[u8] = b"f 0 /b\n";
+
+const INPUT: &[u8] = b"error: input\n";
+
+const OUTPUT: &[u8] = b"error: output\n";
+
+const INVALID: &[u8] = b"error: Invalid (22)\n";
+
+// Gives or takes at most so many bytes a call, and fails at the call `fails_at`, a flush too.
+#[derive(Drop)]
+struct Faulty<'a> {
+    left: &'a [u8],
+    taken: Vec<u8>,
+    most: usize,
+    calls: u32,
+    fails_at: u32,
+    kind: ErrorKind,
+}
+
+impl Faulty<'_> {
+    fn go_on(&mut self) -> io::Result<()> {
+        self.calls = self.calls.saturating_add(1);
+        if self.calls == self.fails_at {
+            return Err(io::Error::from(self.kind));
+        }
+        Ok(())
+    }
+}
+
+impl Read for Faulty<'_> {
+    fn read(&mut self, buf: &mut [u8]) -> io::Result<usize> {
+        self.go_on()?;
+        let n = self.left.len().min(self.most);
+        let mut part = &self.left[..n];
+        let given = part.read(buf)?;
+        self.left = &self.left[given.min(n)..];
+        Ok(given)
+    }
+}
+
+impl Write for Faulty<'_> {
+    fn write(&mut self, buf: &[u8]) -> io::Result<usize> {
+        self.go_on()?;
+        let n = buf.len().min(self.most);
+        self.taken.extend_from_slice(&buf[..n])?;
+        Ok(n)
+    }
+
+    fn flush(&mut self) -> io::Result<()> {
+        self.go_on()
+    }
+}
+
+fn failing_at<'a>(
+    alloc: Global,
+    left: &'a [u8],
+    most: usize,
+    fails_at: u32,
+    kind: ErrorKind,
+) -> Watched<Faulty<'a>> {
+    Watched::new(Faulty {
+        left,
+        taken: Vec::new(alloc),
+        most,
+        calls: 0,
+        fails_at,
+        kind,
+    })
+}
+
+// How a call fails, and whether that is a failure: one that a signal interrupted is made again.
+const KINDS: [(ErrorKind, bool); 2] = [(ErrorKind::Other, true), (ErrorKind::Interrupted, false)];
+
+// Whether an image is unpacked or listed, with which block size, how many bytes a call gives, how many
+// calls that takes, and what is shown where none fails. Each of 16 blocks is listed by two calls, and the
+// image unpacked by three, which also pass it where no image has such blocks; a further call finds its end.
+const READERS: [(bool, u32, usize, u32, &[u8]); 4] = [
+    (false, 4096, 3000, 33, LINES),
+    (true, 4096, 30000, 4, b"f /b \n"),
+    (false, 3, 30000, 4, INVALID),
+    (true, 3, 30000, 4, INVALID),
+];
+
+// What is shown of an image whose reader fails at a call.
+fn read_badly(
+    alloc: Global,
+    reader: Watched<Faulty<'_>>,
+    is_unpacked: bool,
+    block_size: u32,
+) -> Result<Vec<u8>, AllocError> {
+    let mut reader = reader;
+    if is_unpacked {
+        unpack_text(alloc, &mut reader, block_size, 256)
+    } else {
+        list_text(alloc, &mut reader, block_size, 256)
+    }
+}
+
+#[test]
+fn failing_readers_are_reported(rt: HostRuntime) -> Result<(), Fail> {
+    let block = shifting_block(rt.alloc())?;
+    let image = image_of(rt.alloc(), block.as_slice(), &[])?;
+    for (kind, is_failure) in KINDS {
+        for (is_unpacked, block_size, most, calls, text) in READERS {
+            for fails_at in 0..calls + 3 {
+                let reader = failing_at(rt.alloc(), image.as_slice(), most, fails_at, kind);
+                let told = read_badly(rt.alloc(), reader, is_unpacked, block_size)?;
+                let fails = is_failure && (1..=calls).contains(&fails_at);
+                let wanted = if fails { INPUT } else { text };
+                let is_reported = told.as_slice() == wanted;
+                assert!(rt;
+                    is_reported,
+                    "{kind:?}, {is_unpacked}, {block_size}, {fails_at}"
+                );
+            }
+        }
+    }
+    Ok(())
+}
+
+// Whether an image is made or listed, how many bytes a call takes, at which call that fails, and how
+// many bytes it took before. The last call is the flush.
+const WRITERS: [(bool, usize, u32, usize); 18] = [
+    (false, 1, 1, 0),
+    (false, 1, 2, 1),
+    (false, 1, 3, 2),
+    (false, 1, 4, 3),
+    (false, 1, 5, 4),
+    (false, 1, 6, 5),
+    (false, 1, 7, 6),
+    (false, 1, 8, 7),
+    (false, 3, 1, 0),
+    (false, 3, 2, 3),
+    (false, 3, 3, 6),
+    (false, 3, 4, 7),
+    (true, 40000, 1, 0),
+    (true, 40000, 2, 40000),
+    (true, 40000, 3, 65536),
+    (true, 4096, 2, 4096),
+    (true, 1, 2, 1),
+    (true, 65535, 2, 65535),
+];
+
+// What is written, with the line of an error behind it: an image of nothing, or the lines of this one.
+fn write_badly(
+    alloc: Global,
+    image: &[u8],
+    is_made: bool,
+    writer: Watched<Faulty<'_>>,
+) -> Result<Vec<u8>, Error> {
+    let mut writer = writer;
+    let result = if is_made {
+        let mut source = source_of(alloc, &[])?;
+        create(
+            alloc,
+            &mut source,
+            Geometry::new(4096, 256, 16)?,
+            &mut writer,
+        )
+    } else {
+        list(alloc, &mut Watched::new(image), 4096, 256, &mut writer)
+    };
+    let text = with_error_line(alloc, writer.into_inner().taken, result)?;
+    Ok(text)
+}
+
+// Whether the text is this beginning of the whole one, with the line of an error behind it.
+fn is_broken_off(text: &[u8], whole: &[u8], len: usize) -> bool {
+    match (text.split_at_checked(len), whole.get(..len)) {
+        (Some((beginning, end)), Some(wanted)) => beginning == wanted && end == OUTPUT,
+        _ => false,
+    }
+}
+
+#[test]
+fn failing_writers_are_reported(rt: HostRuntime) -> Result<(), Fail> {
+    let block = shifting_block(rt.alloc())?;
+    let image = image_of(rt.alloc(), block.as_slice(), &[])?;
+    for (is_made, most, fails_at, taken) in WRITERS {
+        let plain = failing_at(rt.alloc(), &[], most, 0, ErrorKind::Other);
+        let whole = write_badly(rt.alloc(), image.as_slice(), is_made, plain)?;
+        assert!(rt; is_made || whole.as_slice() == LINES);
+        for (kind, is_failure) in KINDS {
+            let writer = failing_at(rt.alloc(), &[], most, fails_at, kind);
+            let text = write_badly(rt.alloc(), image.as_slice(), is_made, writer)?;
+            let is_reported = if is_failure {
+                is_broken_off(text.as_slice(), whole.as_slice(), taken)
+            } else {
+                text.as_slice() == whole.as_slice()
+            };
+            assert!(rt; is_reported, "{kind:?}, {is_made}, {most}, {fails_at}");
+        }
+    }
+    Ok(())
+}

@@ -1,0 +1,100 @@
+// What the tool shows, as text.
+
+use lfs_tool::{Fault, Reader, ToolError, Watched, check, list, report, unpack};
+use lfs_tool_folders::{Done, MemoryTarget};
+use std::alloc::{AllocError, Global};
+
+// What is shown of a fault: the status, and what goes to `out` and to `err`.
+#[derive(Drop)]
+pub(crate) struct Report {
+    pub(crate) status: u8,
+    pub(crate) out: Vec<u8>,
+    pub(crate) err: Vec<u8>,
+}
+
+pub(crate) fn report_of(alloc: Global, fault: &Fault) -> Report {
+    let mut out = Watched::new(Vec::new(alloc));
+    let mut err = Watched::new(Vec::new(alloc));
+    let status = report(fault, &mut out, &mut err);
+    Report {
+        status,
+        out: out.into_inner(),
+        err: err.into_inner(),
+    }
+}
+
+// What was written, and behind it the line of an error.
+pub(crate) fn with_error_line(
+    alloc: Global,
+    written: Vec<u8>,
+    answer: Result<(), ToolError>,
+) -> Result<Vec<u8>, AllocError> {
+    let mut text = written;
+    if let Err(error) = answer {
+        let report = report_of(alloc, &Fault::Tool(error));
+        text.extend_from_slice(report.err.as_slice())?;
+    }
+    Ok(text)
+}
+
+// What listing an image prints.
+pub(crate) fn list_text<R: Reader>(
+    alloc: Global,
+    image: &mut R,
+    block_size: u32,
+    page: u32,
+) -> Result<Vec<u8>, AllocError> {
+    let mut out = Watched::new(Vec::new(alloc));
+    let result = list(alloc, image, block_size, page, &mut out);
+    with_error_line(alloc, out.into_inner(), result)
+}
+
+// What checking an image prints.
+pub(crate) fn check_text<R: Reader>(
+    alloc: Global,
+    image: &mut R,
+    block_size: u32,
+    page: u32,
+) -> Result<Vec<u8>, AllocError> {
+    let mut out = Watched::new(Vec::new(alloc));
+    let answer = match check(alloc, image, block_size, page, &mut out) {
+        Ok(_) => Ok(()),
+        Err(error) => Err(error),
+    };
+    with_error_line(alloc, out.into_inner(), answer)
+}
+
+fn push_done(text: &mut Vec<u8>, done: &Done) -> Result<(), AllocError> {
+    match done {
+        Done::Folder(path) => {
+            text.extend_from_slice(b"d ")?;
+            text.extend_from_slice(path)?;
+        }
+        Done::File(path, bytes) => {
+            text.extend_from_slice(b"f ")?;
+            text.extend_from_slice(path)?;
+            text.push(b' ')?;
+            text.extend_from_slice(bytes)?;
+        }
+    }
+    text.push(b'\n')?;
+    Ok(())
+}
+
+// What is done where an image is unpacked, a line for each action.
+pub(crate) fn unpack_text<R: Reader>(
+    alloc: Global,
+    image: &mut R,
+    block_size: u32,
+    page: u32,
+) -> Result<Vec<u8>, AllocError> {
+    let mut target = MemoryTarget {
+        done: Vec::new(alloc),
+    };
+    let result = unpack(alloc, image, block_size, page, &mut target);
+    let mut text = Vec::new(alloc);
+    for done in &target.done {
+        push_done(&mut text, done)?;
+    }
+    with_error_line(alloc, text, result)
+}

@@ -16,7 +16,7 @@ halved_within zero n = 0
 halved_within (suc steps) zero = 0
 halved_within (suc steps) (suc n) = 1 + halved_within steps (suc n / 2)
 
--- The same in any number of steps. It is 0 of 0, and else 1 + log2 n, rounded down.
+-- How often n is halved, rounded down, until nothing is left: 0 of 0, else 1 + log2 n, rounded down.
 abbrev pub halvings : ℕ → ℕ
 halvings n = halved_within n n
 
@@ -24,7 +24,7 @@ halvings n = halved_within n n
 abbrev pub HaveSlots : List Pair → Type 0
 HaveSlots ps = AllByRecursion (λ p. 0 < length p.content.slots) ps
 
--- so has each pair of the directories at these paths
+-- each pair of the directories at these paths has a slot
 abbrev pub HaveSlotsOn : List Pair → List Path → Type 0
 HaveSlotsOn ps paths = AllByRecursion (λ p. HaveSlots (pairs_of_directory_at ps p)) paths
 
@@ -37,10 +37,10 @@ abbrev pub EndsSoft : List Pair → Type 0
 EndsSoft [] = Unit {0}
 EndsSoft (p ∷ ps) = last_is_joined p ps ≡ false
 
--- Where each pair of the directories at these paths has a slot, no more reads are made than their pairs can be halved.
+-- Where each pair of the directories at these paths has a slot, the reads are at most the sum of their halvings.
 abbrev pub ReadsByHalves : State → State → List Path → Type 0
 ReadsByHalves old new paths = HaveSlotsOn old.kept.pairs paths → reads new.kept.history ≤ reads old.kept.history + sum_by (halvings_of_path old.kept.pairs) paths
 
--- the same of the directory that begins with the pair of number `first`
+-- Where each pair of the directory that begins with the pair of number `first` has a slot, the reads are at most its halvings.
 abbrev pub ReadsByHalvesFrom : State → State → ℕ → Type 0
 ReadsByHalvesFrom old new first = HaveSlots (hard_tail_run (drop first old.kept.pairs)) → reads new.kept.history ≤ reads old.kept.history + halvings (run_length (drop first old.kept.pairs))

@@ -206,14 +206,15 @@ fn find_along<D: BlockDevice>(
     }
 }
 
-/// Finds the entry of a name in the directory that begins with the pair of number `first`, where
-/// the slot `moved` counts as deleted: the one that a set move names (DESIGN.md of littlefs, "The
-/// move problem"). Returns None where no entry has the name. The call reads no more pairs than the
-/// directory has, and none where all these are cached. Without a moved slot it goes by halves, by
-/// 1 + log2 n reads of n pairs where each has a slot. The pair that has the name is cached then.
+/// Finds the entry of a name in the directory that begins with the pair of number `first`. The slot
+/// `moved` counts as deleted: the one that a set move names (DESIGN.md of littlefs, "The move
+/// problem"). Returns None where no entry has the name. The call reads no more pairs than the
+/// directory has, and none where all these are cached. Where no slot is moved the search is by
+/// halves: at most 1 + log2 n reads of n pairs that have slots. At Ok the pair that has the name is
+/// cached.
 ///
-/// The caller's condition is that the directory's names rise where no slot is moved, as in an
-/// accepted image.
+/// Where no slot is moved, the caller's condition is that the directory's names rise, as in an
+/// accepted image, and that no later pair of the thread has a superblock.
 ///
 /// Errors: `Io` where a read failed. `NoMemory` where memory for a block isn't granted. The thread
 /// works after either.

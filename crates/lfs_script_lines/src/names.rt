@@ -74,7 +74,7 @@ fn operation_of_word(word: &[u8]) -> Option<OperationName>
     }
 }
 
-// Returns the command that a word names, unless it is an operation.
+// Returns the command that a word names, unless that is `compare-with` or an operation.
 fn device_command_of_word(word: &[u8]) -> Option<CommandName>
     ensures { MatchOption result ((name : CommandName) → word.now ≡ command_text name → IsNamedElsewhere name) (λ name. word.now ≡ command_text name) }
 {

@@ -31,7 +31,7 @@ use Rattle.lfs_tool.specs.declared.writer.Writer.{Ghosts}
 
 -- ---- lines
 
--- the path, and the system's words
+-- the path, and what is wrong there
 abbrev pub fault_text : PlaceFault → List ℕ
 fault_text f = escaped_text f.path.items ++ codes ": " ++ escaped_text f.words.items ++ newline
 
@@ -56,8 +56,8 @@ explanation_text explanation.Nothing = []
 
 -- ---- what is true of them
 
--- the size of the image that is to be made, or of the one at the line's path, of which one byte more than an image may
--- have is read at most
+-- The size of the image that is to be made, or of the one at the line's path. Of that at most one byte more than an image may
+-- have is read.
 abbrev pub IsSizeBy : Mode → Type 0 → Type 0 → Type 0
 IsSizeBy (mode.Create folder) made read = made
 IsSizeBy (mode.Unpack folder) made read = read

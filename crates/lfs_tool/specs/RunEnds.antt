@@ -30,7 +30,7 @@ abbrev pub status_for : Bool → ℕ
 status_for true = 0
 status_for false = 1
 
--- the request is done, as it ends then, and no error is written; or a fault is shown, and this follows
+-- the request is done, as it ends then, and no error is written; or a fault is shown, and `follows` says what comes after it
 abbrev pub IsRequestAnswered : {W : Type 0} → Ghosts W → List (List ℕ) → (Bool → Type 0) → (Fault → W → W → Type 0) → ℕ → W → W → Type 0
 IsRequestAnswered g words ends follows code old new =
     (HasLine words × ((accepted : Bool) × ((code ≡ status_for accepted) × ends accepted)) × (new ≡ old))

@@ -18,7 +18,7 @@ pub enum Explanation {
     Place(PlaceFault),
     /// What a check says of the image.
     Checked(Checked),
-    /// The sizes, and the first rule that they break.
+    /// The sizes, and a rule that they break.
     Sizes(Sizes, Option<SizeRule>),
     /// The blocks are too few.
     Blocks(NeededBlocks),
@@ -26,7 +26,7 @@ pub enum Explanation {
     Nothing,
 }
 
-// Adds the line of a fault: its path, and the system's words.
+// Adds the line of a fault: its path, and what is wrong there.
 fn push_fault(text: &mut Vec<u8>, fault: &PlaceFault) -> Result<(), AllocError>
     ensures { OnOk result (text.new.items ≡ text.old.items ++ fault_text fault.now) }
 {

@@ -111,7 +111,9 @@ fn blocks_at<P: Places>(
 /// Returns the cause for which a command line ended in this error.
 ///
 /// # Errors
-/// Those of `examine` and of `create`, where an image or a folder is read again and that fails.
+/// `Input` where the image or the folder is read again and that fails, or a folder has bad names.
+/// `Fs(NoMemory)` where memory isn't granted. `Fs(Invalid)` where the error is `NoSpace` and no image has
+/// the line's sizes.
 pub fn explanation_of<P: Places>(
     alloc: Global,
     places: &P,

@@ -49,7 +49,7 @@ pub trait Places {
         ensures path { IfOk result (λ f. new_folder_path f ≡ path.now) }
         ensures err { IfErr result (λ e. e ≡ Error.NoMemory) };
 
-    /// Returns the first fault that one of these met, where one is known. It is shown to users alone,
-    /// and no clause says what it is.
+    /// Returns the first fault that one of these met since the last call, where one is known, and forgets
+    /// it. No contract says which it is.
     fn fault(&self) -> Option<PlaceFault>;
 }

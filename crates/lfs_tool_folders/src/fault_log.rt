@@ -10,11 +10,11 @@ use std::io::Write;
 pub struct PlaceFault {
     /// The path of the file or the folder.
     pub path: Vec<u8>,
-    /// The system's words for its fault.
+    /// What is wrong there, in the system's words or the tool's.
     pub words: Vec<u8>,
 }
 
-/// Keeps the first fault that is noted. It is shown to users alone: no clause speaks of it.
+/// Keeps the first fault that is noted. No contract says which that is.
 #[derive(Drop)]
 pub struct FaultLog {
     first: RefCell<Option<PlaceFault>>,

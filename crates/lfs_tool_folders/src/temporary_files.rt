@@ -76,8 +76,8 @@ fn make_beside<R: Files>(files: &R, paths: &mut ImagePaths) -> io::Result<R::Fil
     Err(io::Error::from(ErrorKind::AlreadyExists))
 }
 
-// The same, unless the folder takes no new file: then the file at the path is made, or emptied. Returns
-// whether the file is beside the path.
+// Makes a new file beside a path. Where the folder takes no new file, makes or empties the one at the
+// path. Returns whether the file is beside it.
 fn make_beside_or_there<R: Files>(files: &R, paths: &mut ImagePaths) -> io::Result<(R::File, bool)>
     ensures path { paths.new.path ≡ paths.old.path }
     ensures beside { IfOk result (λ made. made.1 ≡ true → IsTemporaryName (string_bytes paths.old.path) (string_bytes paths.new.beside)) }
@@ -91,8 +91,7 @@ fn make_beside_or_there<R: Files>(files: &R, paths: &mut ImagePaths) -> io::Resu
     }
 }
 
-// The same, for a path at which a file stands that has these permissions. It is refused where that file
-// may not be written.
+// Makes the file that replaces one with these permissions. Fails where the old one may not be written.
 fn make_in_place_of<R: Files>(
     files: &R,
     paths: &mut ImagePaths,

@@ -117,8 +117,8 @@ impl Sizes {
         None
     }
 
-    /// Returns the first rule that the sizes break. None comes exactly where there are images of these
-    /// sizes.
+    /// Returns a rule that the sizes break, the first in the order of `SizeRule`. The order is in no clause.
+    /// None comes exactly where there are images of these sizes.
     pub fn broken_rule(self) -> Option<SizeRule>
         ensures broken { IfSome result (IsBroken self) }
         ensures fits { result ≡ None → Fits self }

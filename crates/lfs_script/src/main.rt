@@ -13,7 +13,7 @@ mod script_run;
 
 use help::HELP;
 use script_run::{End, run};
-use std::io::BufReader;
+use std::io::{BufReader, ErrorKind};
 use std::process::ExitCode;
 use std::{env, io};
 
@@ -78,8 +78,10 @@ fn run_script(rt: &HostRuntime) -> ExitCode {
 }
 
 fn main(rt: HostRuntime) -> ExitCode {
-    let Ok(words) = words(&rt) else {
-        return refuse_words(&rt);
+    let words = match words(&rt) {
+        Ok(words) => words,
+        Err(error) if error.kind() == ErrorKind::OutOfMemory => return report(&rt, End::NoMemory),
+        Err(_) => return refuse_words(&rt),
     };
     match request_of(&words) {
         Request::Script => run_script(&rt),

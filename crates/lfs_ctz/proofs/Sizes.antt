@@ -2,8 +2,8 @@
 use Rattle.std.proofs.Common.{ℕ, zero, suc, ◌≡◌, ◌+◌, ◌*◌, ◌-◌, ◌/◌, ◌%◌, ◌<◌, ◌≤◌, ◌^◌, refl, sym, ap, ap₂, subst, ◌∙◌, arith}
 use Rattle.std.proofs.Common.{⊎_elim, add-one, if◌then◌else◌, ◌==◌, false}
 use Rattle.std.proofs.lemmas.Bool.Decides.{nat_tests}
-use Rattle.std.proofs.Math.Nat.{mul-suc, mul_comm, div-add-mod}
-use Rattle.std.proofs.lemmas.Nat.{mul-le, mod_below, div-mul-add}
+use Rattle.std.proofs.Math.Nat.{mul-suc, div-add-mod}
+use Rattle.std.proofs.lemmas.Nat.{mul-le, mod_below}
 use Rattle.std.proofs.lemmas.Bool.{cases_lt}
 use lib.Count.{ones, ones_step, ones-le, count_trailing_zeros, trailing_le}
 pub use Rattle.lfs_model.proofs.ListSizes.{capacity_of-pos, pointers_of-le}
@@ -69,21 +69,8 @@ module _ (block_size pos : ℕ) (large : 1024 ≤ block_size) where
       let product = mul-suc (block_size - 8) n in
       (omega arith, record { from = omega arith; below = omega arith; at = omega arith })
 
-  -- the block's index by the formula
-  abbrev pub index_by : ℕ → ℕ
-  index_by guess = (pos - 4 * (ones (guess - 1) + 2)) / (block_size - 8)
-
   abbrev pub IsPlaceBy : ℕ → Type 0
   IsPlaceBy i = (4 * ones i ≤ pos - (block_size - 8) * i) × IsBytePlace block_size pos i (pos - (block_size - 8) * i - 4 * ones i)
-
-  place_is : (i j : ℕ) → j ≡ i → i < 2 ^ 32 → bytes_before block_size i ≤ pos → pos < (block_size - 8) * i + block_size + 4 * ones i → IsPlaceBy j
-  place_is i j e h from below = subst IsPlaceBy (sym e) (place_at i h from below)
-
-  -- a guess that is right, or one too great
-  index_is : (g i r : ℕ) → r < block_size - 8 → pos - 4 * (ones g + 2) ≡ i * (block_size - 8) + r → index_by (suc g) ≡ i
-  index_is g i r lt e =
-      let same : suc g - 1 ≡ g = omega arith in
-      ap (λ n. (pos - 4 * (ones n + 2)) / (block_size - 8)) same ∙ ap (λ n. n / (block_size - 8)) e ∙ div-mul-add i (block_size - 8) r lt
 
   bytes_before-le : (g : ℕ) → suc g < 2 ^ 32 → (block_size - 8) * suc g ≤ pos → bytes_before block_size g ≤ pos
   bytes_before-le zero h le = omega arith
@@ -94,27 +81,29 @@ module _ (block_size pos : ℕ) (large : 1024 ≤ block_size) where
       let product_next = mul-suc (block_size - 8) (suc n) in
       omega arith
 
-  pub place_by : pos < 2 ^ 32 → (g : ℕ) → pos / (block_size - 8) ≡ suc g → IsPlaceBy (index_by (suc g))
+  -- a guess that is one too great, or right
+  place_by : pos < 2 ^ 32 → (g : ℕ) → pos / (block_size - 8) ≡ suc g
+      → (pos % (block_size - 8) < 4 * (ones g + 2) → IsPlaceBy g) × (4 * (ones g + 2) ≤ pos % (block_size - 8) → IsPlaceBy (suc g))
   place_by low g e = go (pos % (block_size - 8)) (ap (λ q. (block_size - 8) * q + pos % (block_size - 8)) (sym e) ∙ div-add-mod pos (block_size - 8)) (mod_below pos (block_size - 8) (omega arith))
     where
-      go : (r : ℕ) → (block_size - 8) * suc g + r ≡ pos → r < block_size - 8 → IsPlaceBy (index_by (suc g))
+      go : (r : ℕ) → (block_size - 8) * suc g + r ≡ pos → r < block_size - 8 → (r < 4 * (ones g + 2) → IsPlaceBy g) × (4 * (ones g + 2) ≤ r → IsPlaceBy (suc g))
       go r split lt =
           let product = mul-suc (block_size - 8) g in
           let product_next = mul-suc (block_size - 8) (suc g) in
-          let turned = mul_comm (block_size - 8) g in
-          let turned_next = mul_comm (block_size - 8) (suc g) in
           let guess : suc g < 2 ^ 32 = omega (arith, mul-le 1 (suc g) (block_size - 8) (suc g) (omega arith) (omega arith)) in
           let few = ones-le 32 g (omega arith) in
           let before = bytes_before-suc block_size g large (omega arith) in
-          ⊎_elim
-          (λ less. place_is g (index_by (suc g)) (index_is g g ((block_size - 8) + r - 4 * (ones g + 2)) (omega arith) (omega arith)) (omega arith) (bytes_before-le g guess (omega arith)) (omega arith))
-          (λ more. place_is (suc g) (index_by (suc g)) (index_is g (suc g) (r - 4 * (ones g + 2)) (omega arith) (omega arith)) guess (omega arith) (omega arith))
-          (cases_lt r (8 + 4 * ones g))
+          ((λ less. place_at g (omega arith) (bytes_before-le g guess (omega arith)) (omega arith)), (λ more. place_at (suc g) guess (omega arith) (omega arith)))
 
-  pub place_by_guess : pos < 2 ^ 32 → (pos / (block_size - 8) ≡ 0 → ⊥) → IsPlaceBy (index_by (pos / (block_size - 8)))
-  place_by_guess low some =
-      let is : pos / (block_size - 8) ≡ suc (pos / (block_size - 8) - 1) = omega arith in
-      subst (λ q. IsPlaceBy (index_by q)) (sym is) (place_by low (pos / (block_size - 8) - 1) is)
+  module _ (low : pos < 2 ^ 32) (some : pos / (block_size - 8) ≡ 0 → ⊥) where
+    guessed : pos / (block_size - 8) ≡ suc (pos / (block_size - 8) - 1)
+    guessed = omega arith
+
+    pub place_before_guess : pos % (block_size - 8) < 4 * (ones (pos / (block_size - 8) - 1) + 2) → IsPlaceBy (pos / (block_size - 8) - 1)
+    place_before_guess less = (place_by low (pos / (block_size - 8) - 1) guessed).0 less
+
+    pub place_at_guess : 4 * (ones (pos / (block_size - 8) - 1) + 2) ≤ pos % (block_size - 8) → IsPlaceBy (pos / (block_size - 8))
+    place_at_guess more = subst IsPlaceBy (sym guessed) ((place_by low (pos / (block_size - 8) - 1) guessed).1 more)
 
 -- ---- the blocks that hold so many bytes
 

@@ -211,6 +211,10 @@ impl Extender {
             Rest::Handed(_) => 1,
             _ => 0,
         };
+        // Bytes that fit in the block of the last ones take no further block.
+        if begun == 1 && n <= self.geometry.block_size - self.filled {
+            return 0;
+        }
         blocks_for(self.geometry.block_size, self.size + n) - (self.full + begun)
     }
 

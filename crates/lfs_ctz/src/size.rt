@@ -30,6 +30,11 @@ pub fn place(block_size: u32, pos: u32) -> (u32, u32)
     if guess == 0 {
         return (0, pos);
     }
-    let index = (pos - 4 * ((guess - 1).count_ones() + 2)) / mean;
+    // So the guess is right, or one too great.
+    let index = if pos % mean < 4 * ((guess - 1).count_ones() + 2) {
+        guess - 1
+    } else {
+        guess
+    };
     (index, pos - mean * index - 4 * index.count_ones())
 }

@@ -1,8 +1,12 @@
-use Rattle.std.proofs.Common.{ℕ, ◌+◌, ◌<◌, ◌≤◌, length, ap, arith}
-use Rattle.lfs_ctz.proofs.Sizes.{bytes_before-least, blocks_for-above}
+use Rattle.std.proofs.Common.{ℕ, suc, ◌≡◌, ◌+◌, ◌-◌, ◌*◌, ◌<◌, ◌≤◌, length, drop, ap, subst, arith}
+use Rattle.std.proofs.lemmas.List.{length-take}
+use Rattle.lfs_model.specs.SkipLists.{pointers_of}
+use Rattle.lfs_ctz.proofs.Sizes.{bytes_before-least, blocks_for-above, blocks_for-within}
+use Rattle.lfs_ctz.specs.declared.extender.Extender.TheInside.{Inside}
+use Rattle.lfs_ctz.specs.Fields.{HasBlock, growing_view}
 use Rattle.lfs_ctz.specs.declared.rest.Rest.{Rest}
 use Rattle.lfs_ctz.specs.declared.rest.Rest.TheVariants.{Closed, Shared, Handed, Held}
-use Rattle.lfs_ctz.specs.Growing.{Growing, end_of, pending_in}
+use Rattle.lfs_ctz.specs.Growing.{Growing, end_of, needed_of, pending_in}
 use Rattle.lfs_ctz.proofs.extender.Extender.needed.Goals as goal
 use Rattle.lfs_ctz.proofs.extender.Extender.needed.Goals.{in-Handed, in_default}
 
@@ -31,5 +35,25 @@ overflow_sub-result c =
 
 pub returns-clause-within : goal.returns-clause-within
 returns-clause-within c =
+    let v : Growing = c.args.self.now in
+    few_pending v.stand v.full _ (blocks_for-above v.geometry.block_size (end_of v + c.args.n) v.full v.geometry.valid.no_smaller (let some = c.requires.some in omega arith))
+
+none_needed : (e : Inside) (n : ℕ) → HasBlock e → length (pending_in e.stand) ≡ 1 → n ≤ e.geometry.block_size - e.filled → 0 ≡ needed_of (growing_view e) n
+none_needed e n has one fits =
+    let step = has.in_step in
+    let low = step.low in
+    let high = step.high in
+    let rest = length-take (e.filled - 4 * pointers_of e.full) (drop (4 * pointers_of e.full) e.buffer.items) in
+    let within = blocks_for-within e.geometry.block_size (end_of (growing_view e) + n) (suc e.full) e.geometry.valid.no_smaller (omega arith) in
+    omega arith
+
+pub returns-then-n-self-clause-count : goal.returns-then-n-self-clause-count
+returns-then-n-self-clause-count c =
+    let test = c.if-begun-eq1.true in
+    subst (λ (g : Growing). 0 ≡ needed_of g c.args.n) c.self.view_is
+    (none_needed c.self.inside c.args.n c.self.invariant (elim c.match-self.branch [ in-Handed w ↦ ap (λ t. length (pending_in t)) w.in-Handed.is | in_default w ↦ absurd (omega (arith, w.begun-is)) ]) c.if-n-self.true)
+
+pub returns-then-n-self-clause-within : goal.returns-then-n-self-clause-within
+returns-then-n-self-clause-within c =
     let v : Growing = c.args.self.now in
     few_pending v.stand v.full _ (blocks_for-above v.geometry.block_size (end_of v + c.args.n) v.full v.geometry.valid.no_smaller (let some = c.requires.some in omega arith))

@@ -1,5 +1,6 @@
 -- Checks of a rename.
 use Rattle.std.proofs.Common.{◌≤◌, ℕ, ◌≡◌, ◌&&◌, ◌||◌, Bool, true, false, not, List, [], ◌∷◌, length, nat_lt, Option, Some, None, Result, unwrap_or, refl, sym, ap, ap₂, subst, ◌∙◌}
+use Rattle.std.specs.Prelude.{IfSome}
 use Rattle.lfs_device.specs.declared.error.Error.{Error}
 use Rattle.lfs_model.specs.TreeEdits.{attributes_of, is_beneath, last_name, names_of, same_path}
 use Rattle.lfs_model.specs.BlockSets.{in_flight_count}
@@ -13,7 +14,8 @@ use Rattle.lfs_model.specs.Tree.{Path}
 use Rattle.lfs_tree.specs.Permissions.{CanRename}
 use Rattle.lfs_lookup.specs.AttributeAt.{IsAttributesSize}
 use Rattle.lfs_lookup.specs.Finds.{Finds, has_names, is_absent, is_directory_node, is_file_node}
-use Rattle.lfs_tree.specs.TreeState.{TreeState, surroundings_of, tree_view, WasOnlyRead}
+use Rattle.lfs_tree.specs.RenamePaths.{AreTargets}
+use Rattle.lfs_tree.specs.TreeState.{TreeState, kept_of, surroundings_of, tree_view, WasOnlyRead}
 use Rattle.lfs_lookup.specs.declared.found_entries.FoundNode.{FoundNode}
 use Rattle.lfs_fs.specs.EntryPaths.{entry_path}
 use Rattle.lfs_fs.specs.SessionView.{SessionView, refused_by, Checks}
@@ -42,25 +44,24 @@ rename_refused : (h : SessionView) (old new : List ℕ) (p q : Path) (entry targ
 rename_refused h old new p q entry target works writable is are one two apart f g =
     rw (works, writable, is, are, one, two, apart, f.parents, g.parents, f.nothing, f.directories, g.files, f.files, g.directories) refl
 
-pub rename_checked : (h : SessionView) (old new : List ℕ) (p q : Path) (entry target : FoundNode) (mid later tree : TreeState) (size len other : ℕ) (same absent one two filled three over four lack busy : Bool)
+pub rename_checked : (h : SessionView) (old new : List ℕ) (p q : Path) (entry target : FoundNode) (tree : TreeState) (size len other : ℕ) (same absent one two filled three over four lack busy : Bool)
     (a b c d e f i j : Option Refusal) (r : Result Renaming Error) → (x : Renaming) →
-    false ≡ h.tree.failed → true ≡ h.tree.writable → Some p ≡ entry_path old → Some q ≡ entry_path new → is_beneath (as_path old) (as_path new) ≡ false → WasOnlyRead h.tree mid → WasOnlyRead mid later → WasOnlyRead h.tree tree →
-    Finds (tree_view h.tree) p entry → Finds (tree_view mid) q target → IsAttributesSize (attributes_of (tree_view later p)) size → same ≡ same_path (as_path old) (as_path new) →
+    false ≡ h.tree.failed → true ≡ h.tree.writable → Some p ≡ entry_path old → Some q ≡ entry_path new → is_beneath (as_path old) (as_path new) ≡ false → WasOnlyRead h.tree tree →
+    Finds (tree_view h.tree) p entry → Finds (tree_view h.tree) q target → IsAttributesSize (attributes_of (tree_view h.tree p)) size → same ≡ same_path (as_path old) (as_path new) →
     len ≡ length (last_name q) → a ≡ refuse_if (nat_lt 255 len) ops.NameTooLong →
     absent ≡ is_absent entry.node → b ≡ refuse_if absent ops.NoEnt →
     one ≡ (not same && is_directory_node entry.node && is_file_node target.node) → c ≡ refuse_if one ops.NotDir →
     two ≡ (not same && is_file_node entry.node && is_directory_node target.node) → d ≡ refuse_if two ops.IsDir →
-    filled ≡ has_names (tree_view mid) q → three ≡ (not same && filled) → e ≡ refuse_if three ops.NotEmpty →
+    filled ≡ has_names (tree_view h.tree) q → three ≡ (not same && filled) → e ≡ refuse_if three ops.NotEmpty →
     busy ≡ is_open_at (is_in_the_way (as_path old) (as_path new)) h.files → f ≡ refuse_if busy ops.Busy →
     other ≡ length (last_name q) → ((name : List ℕ) (attributes : Attributes) → length name ≡ other → attributes_size attributes ≡ size → over ≡ is_overcharged (surroundings_of tree) name attributes) → four ≡ (not same && over) → i ≡ refuse_if four ops.EntryFull →
     lack ≡ lacks (surroundings_of tree) h.files 2 → j ≡ refuse_if lack ops.NoSpace →
-    IsRenaming old new x →
-    r ≡ value_unless_refused (first_of (entry.fault ∷ target.fault ∷ a ∷ b ∷ c ∷ d ∷ e ∷ f ∷ i ∷ j ∷ [])) x → Checks h (ops.Rename old new) (IsRenaming old new) r tree
-rename_checked h old new p q entry target mid later tree size len other same absent one two filled three over four lack busy a b c d e f i j r x
-    works writable is are apart first second asked found sought sized same_is len_is a_is absent_is b_is one_is c_is two_is d_is filled_is three_is e_is busy_is f_is other_is over_is four_is i_is lack_is j_is x_is r_is =
-    decided h (ops.Rename old new) (IsRenaming old new) x _ tree r asked (rename_late h old new p q works writable is are apart)
-    (rename_refused h old new p q entry target (sym works) (sym writable) from to (root_false old p is) (root_false new q are) (ap₂ is_beneath (sym from_path) (sym to_path) ∙ apart) found
-    (subst (λ (t : TreeState). Finds (tree_view t) q target) first.same sought) ∙ ap first_of (sym lists))
+    IsRenaming tree old new x →
+    r ≡ value_unless_refused (first_of (entry.fault ∷ target.fault ∷ a ∷ b ∷ c ∷ d ∷ e ∷ f ∷ i ∷ j ∷ [])) x → Checks h (ops.Rename old new) (IsRenaming tree old new) r tree
+rename_checked h old new p q entry target tree size len other same absent one two filled three over four lack busy a b c d e f i j r x
+    works writable is are apart asked found sought sized same_is len_is a_is absent_is b_is one_is c_is two_is d_is filled_is three_is e_is busy_is f_is other_is over_is four_is i_is lack_is j_is x_is r_is =
+    decided h (ops.Rename old new) (IsRenaming tree old new) x _ tree r asked (rename_late h old new p q works writable is are apart)
+    (rename_refused h old new p q entry target (sym works) (sym writable) from to (root_false old p is) (root_false new q are) (ap₂ is_beneath (sym from_path) (sym to_path) ∙ apart) found sought ∙ ap first_of (sym lists))
     (λ none. x_is) r_is
   where
     from : path_of old ≡ Some p
@@ -78,21 +79,18 @@ rename_checked h old new p q entry target mid later tree size len other same abs
     around : surroundings_of tree ≡ surroundings_of h.tree
     around = ap surroundings_of asked.same
 
-    were : attributes_of (tree_view later p) ≡ attributes_of (tree_view h.tree p)
-    were = ap (λ (t : TreeState). attributes_of (tree_view t p)) second.same ∙ ap (λ (t : TreeState). attributes_of (tree_view t p)) first.same
-
     other_is_not : not same ≡ not (same_path p q)
     other_is_not = ap not (same_is ∙ ap₂ same_path from_path to_path)
 
     charge : over ≡ is_overcharged (surroundings_of h.tree) (last_name q) (attributes_of (tree_view h.tree p))
-    charge = over_is (last_name q) (attributes_of (tree_view h.tree p)) (sym other_is) (sym (subst (λ z. IsAttributesSize z size) were sized).is)
+    charge = over_is (last_name q) (attributes_of (tree_view h.tree p)) (sym other_is) (sym sized.is)
         ∙ ap (λ z. is_overcharged z (last_name q) (attributes_of (tree_view h.tree p))) around
 
     lists : (entry.fault ∷ target.fault ∷ a ∷ b ∷ c ∷ d ∷ e ∷ f ∷ i ∷ j ∷ []) ≡ checks_of h p q entry target
     lists = both refl (both refl (both (when ops.NameTooLong a_is (ap (nat_lt 255) len_is)) (both (when ops.NoEnt b_is absent_is)
         (both (when ops.NotDir c_is (one_is ∙ ap (λ z. z && is_directory_node entry.node && is_file_node target.node) other_is_not))
         (both (when ops.IsDir d_is (two_is ∙ ap (λ z. z && is_file_node entry.node && is_directory_node target.node) other_is_not))
-        (both (when ops.NotEmpty e_is (three_is ∙ ap₂ (λ y z. y && z) other_is_not (filled_is ∙ ap (λ (t : TreeState). has_names (tree_view t) q) first.same)))
+        (both (when ops.NotEmpty e_is (three_is ∙ ap₂ (λ y z. y && z) other_is_not filled_is))
         (both (when ops.Busy f_is (busy_is ∙ ap₂ (λ y z. is_open_at (is_in_the_way y z) h.files) from_path to_path))
         (both (when ops.EntryFull i_is (four_is ∙ ap₂ (λ y z. y && z) other_is_not charge))
         (both (when ops.NoSpace j_is (lack_is ∙ ap (λ z. lacks z h.files 2) around)) refl)))))))))
@@ -186,11 +184,12 @@ rename_can h old new from to tree idle asked e is are =
       room = can.room;
     })))
 
-pub renaming_is : (old new : List ℕ) (p q : Path) (x : Renaming) → Some p ≡ entry_path old → Some q ≡ entry_path new → x.from ≡ p → x.to ≡ q → x.is_same ≡ same_path (as_path old) (as_path new) → IsRenaming old new x
-renaming_is old new p q x is are from to same = record {
+pub renaming_is : (t : TreeState) (old new : List ℕ) (p q : Path) (x : Renaming) → Some p ≡ entry_path old → Some q ≡ entry_path new → x.from ≡ p → x.to ≡ q → x.is_same ≡ same_path (as_path old) (as_path new) → IfSome x.targets (AreTargets (kept_of t) x.from x.to) → IsRenaming t old new x
+renaming_is t old new p q x is are from to same targets = record {
   from = from ∙ sym (ap (λ o. unwrap_or o []) (is_entry old p is).0);
   to = to ∙ sym (ap (λ o. unwrap_or o []) (is_entry new q are).0);
   same = same;
+  targets = targets;
 }
 
 pub three_of : (r inner a b c d e : Bool) → r ≡ (a && inner) → inner ≡ (b && c) → b ≡ d → c ≡ e → r ≡ (a && d && e)

@@ -1,9 +1,11 @@
 -- The two paths of a rename.
-use Rattle.std.specs.Prelude.{ℕ, ◌≡◌, ◌==◌, ◌&&◌, ◌||◌, Bool, true, false, List, [], ◌∷◌, is_some}
+use Rattle.std.specs.Prelude.{ℕ, ◌≡◌, ◌==◌, ◌&&◌, ◌||◌, Bool, true, false, List, [], ◌∷◌, IfSome, is_some}
 use Rattle.lfs_model.specs.TreeEdits.{rest_after, same_path}
 use Rattle.lfs_model.specs.Names.{slash}
 use Rattle.lfs_model.specs.Refusals.{as_path}
 use Rattle.lfs_model.specs.Tree.{Path}
+use Rattle.lfs_tree.specs.RenamePaths.{AreTargets}
+use Rattle.lfs_tree.specs.TreeState.{TreeState, kept_of}
 use Rattle.lfs_fs.specs.declared.rename_checks.Renaming.{Renaming}
 
 -- the second bytes begin with the first, and end there or continue with a slash
@@ -17,8 +19,9 @@ is_path_prefix (a ∷ xs) (b ∷ ys) = (a == b) && is_path_prefix xs ys
 abbrev pub is_in_the_way : Path → Path → Path → Bool
 is_in_the_way from to p = is_some (rest_after from p) || same_path to p
 
--- the paths of these bytes, and whether they are the same
-pub record IsRenaming (old new : List ℕ) (r : Renaming) : Type 0 where
+-- the paths of these bytes, whether they are the same, and where they lead to
+pub record IsRenaming (t : TreeState) (old new : List ℕ) (r : Renaming) : Type 0 where
   pub from : r.from ≡ as_path old
   pub to : r.to ≡ as_path new
   pub same : r.is_same ≡ same_path (as_path old) (as_path new)
+  pub targets : IfSome r.targets (AreTargets (kept_of t) r.from r.to)

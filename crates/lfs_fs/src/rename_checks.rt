@@ -17,7 +17,7 @@ use crate::owned_path::is_same;
 use lfs_device::{BlockDevice, Error};
 use lfs_lookup::{Path, Refusal, refuse_if};
 use lfs_tag::Superblock;
-use lfs_tree::Tree;
+use lfs_tree::{RenameFindings, RenameTargets, Tree};
 use std::alloc::Global;
 
 // Returns whether the other bytes begin with these, and end there or continue with a slash.
@@ -73,6 +73,8 @@ pub struct Renaming<'a> {
     pub to: Path<'a>,
     /// Whether both paths are the same.
     pub is_same: bool,
+    /// Where the paths lead to. None where something is to recover first.
+    pub targets: Option<RenameTargets>,
 }
 
 /// The two paths of a rename.
@@ -84,7 +86,7 @@ pub fn check_rename<'a, D: BlockDevice>(
     new: &'a [u8],
 ) -> Result<Renaming<'a>, Error>
     requires { tree.old.failed ≡ false → IsReady tree.old files.now }
-    ensures { Checks (session_view_of tree.old files.now) (ops.Rename old.now new.now) (IsRenaming old.now new.now) result tree.new }
+    ensures { Checks (session_view_of tree.old files.now) (ops.Rename old.now new.now) (IsRenaming tree.new old.now new.now) result tree.new }
 {
     if tree.has_failed() {
         return Err(Error::Failed);
@@ -101,26 +103,36 @@ pub fn check_rename<'a, D: BlockDevice>(
     if is_beneath(old, new) {
         return Err(Error::Invalid);
     }
-    let entry = tree.look_up(alloc, &from)?;
-    let inside = tree.look_inside(alloc, &to)?;
-    let taken = tree.attributes_size(alloc, &from)?;
+    let found = tree.look_up_rename(alloc, &from, &to)?;
+    let RenameFindings {
+        entry,
+        target,
+        attributes_size,
+        targets,
+    } = found;
     let is_same = is_same_path(old, new);
-    let replaces = inside.finding.node;
+    let replaces = target.finding.node;
     let name_len = to.name_len();
     let puts_directory = both(entry.node.is_directory(), replaces.is_file());
     let puts_file = both(entry.node.is_file(), replaces.is_directory());
-    let overfills = is_overcharged_with(tree, name_len, taken);
+    let overfills = is_overcharged_with(tree, name_len, attributes_size);
     let checks = [
         entry.fault,
-        inside.finding.fault,
+        target.finding.fault,
         refuse_if(name_len > Superblock::NAME_MAX as usize, Error::NameTooLong),
         refuse_if(entry.node.is_nothing(), Error::NoEnt),
         refuse_replacing(is_same, puts_directory, Error::NotDir),
         refuse_replacing(is_same, puts_file, Error::IsDir),
-        refuse_replacing(is_same, inside.has_entries, Error::NotEmpty),
+        refuse_replacing(is_same, target.has_entries, Error::NotEmpty),
         refuse_if(files.is_in_the_way(old, new), Error::Busy),
         refuse_replacing(is_same, overfills, Error::EntryFull),
         refuse_if(lacks(tree, files, 2), Error::NoSpace),
     ];
-    unless_refused(&checks, Renaming { from, to, is_same })
+    let renaming = Renaming {
+        from,
+        to,
+        is_same,
+        targets,
+    };
+    unless_refused(&checks, renaming)
 }

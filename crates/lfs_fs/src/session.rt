@@ -216,7 +216,9 @@ impl<D: BlockDevice> Session<D> {
         if renaming.is_same {
             return Ok(());
         }
-        let answer = self.tree.rename(alloc, &renaming.from, &renaming.to);
+        let answer = self
+            .tree
+            .rename(alloc, &renaming.from, &renaming.to, renaming.targets);
         device_meets_laws(&self.tree);
         answer
     }

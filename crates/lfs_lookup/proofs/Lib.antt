@@ -6,7 +6,7 @@ mod RecentBlocks
 mod ShownAlong
 mod ShownSlots
 mod HiddenSlots
-mod Entered
+pub mod Entered
 pub mod Descended
 pub mod LoadedDown
 pub mod ItemsShown
@@ -22,7 +22,7 @@ pub mod AtPaths
 mod ListAtNames
 mod ListAtShort
 mod ListAtItems
-mod ShownFindings
+pub mod ShownFindings
 pub mod BytesAtSlots
 pub mod AttributeAtSlots
 mod AttributesPut

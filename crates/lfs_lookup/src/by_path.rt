@@ -100,8 +100,8 @@ fn found_directory() -> FoundNode
     }
 }
 
-// Returns the finding of what was shown: the parent's refusal, or the entry.
-pub(crate) fn found_node_of(shown: Shown) -> FoundNode
+/// Returns the finding of what was shown: the parent's refusal, or the entry.
+pub fn found_node_of(shown: Shown) -> FoundNode
     requires { IsInEntryIfFile shown }
     ensures { result ≡ found_node_of shown }
 {
@@ -115,8 +115,9 @@ pub(crate) fn found_node_of(shown: Shown) -> FoundNode
     }
 }
 
-// Returns the number of the first pair of the directory that was shown.
-pub(crate) fn first_of(root: usize, shown: Shown) -> Option<usize>
+/// Returns the number of the first pair of the directory that was shown. `root` is the number of
+/// the root directory's first pair.
+pub fn first_of(root: usize, shown: Shown) -> Option<usize>
     ensures { result ≡ first_pair_shown root shown }
 {
     match shown {

@@ -145,8 +145,11 @@ pub(crate) fn entries_from<D: BlockDevice>(
     }
 }
 
-// Returns whether the directory has an entry.
-pub(crate) fn has_entries<D: BlockDevice>(
+/// Returns whether the directory that begins with the pair of number `from` has an entry. Without
+/// a number there is no directory. The call reads no more pairs than the directory has.
+///
+/// Errors are those of [`items_of`].
+pub fn has_entries<D: BlockDevice>(
     alloc: Global,
     thread: &mut Thread<D>,
     from: Option<usize>,

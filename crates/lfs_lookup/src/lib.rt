@@ -25,9 +25,9 @@ mod walks;
 
 pub use attribute_sizes::attributes_size_at;
 pub use attributes::attribute_at;
-pub use by_path::{find_at, look_inside_at, shown_at};
+pub use by_path::{find_at, first_of, found_node_of, look_inside_at, shown_at};
 pub use bytes::{file_of, inline_at};
-pub use directory::{entries, entries_under, items_of};
+pub use directory::{entries, entries_under, has_entries, items_of};
 pub use entry::{Entry, FileStorage, entry_of};
 pub use file_bytes::contents_of;
 pub use file_contents::{FileContents, FoundFile, bytes_of, file_at};

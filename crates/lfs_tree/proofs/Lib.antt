@@ -46,3 +46,4 @@ pub mod WritersStay
 pub mod TakenBlocks
 pub mod TakenEdits
 pub mod LeftAlone
+pub mod RenamePaths

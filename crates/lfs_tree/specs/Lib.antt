@@ -15,3 +15,4 @@ pub mod Stores
 pub mod Orphans
 pub mod Recoveries
 pub mod Reads
+pub mod RenamePaths

@@ -1,6 +1,6 @@
 // Entries at paths that get another one, in a thread that has nothing to recover.
 
-ghost use Rattle.std.specs.Prelude.{◌≡◌, ◌≢◌, false, true, OnOk};
+ghost use Rattle.std.specs.Prelude.{◌≡◌, ◌≢◌, false, true, IfSome, OnOk};
 ghost use Rattle.lfs_model.specs.TreeEdits.{renamed, same_path};
 ghost use Rattle.lfs_model.specs.Tree.{Path};
 ghost use Rattle.lfs_model.specs.Shown.{tree_in};
@@ -12,10 +12,13 @@ ghost use Rattle.lfs_tree.specs.TreeChanges.{IsAtRest, IsOperationOn, SurvivesTo
 ghost use Rattle.lfs_tree.specs.SlotChanges.{has_slot};
 ghost use Rattle.lfs_tree.specs.RootedThreads.{tree_state_of};
 ghost use Rattle.lfs_tree.specs.Moves.{CanMoveToTarget, CanMoveOntoFile, CanMoveOntoDirectory, HasMovedEntry, HasMovedOntoFile, IsSourceIn, ReportsOfWork};
+ghost use Rattle.lfs_tree.specs.RenamePaths.{AreTargets};
+ghost use Rattle.lfs_tree.specs.TreeState.{kept_of};
 
 use crate::answers::note_error;
-use crate::entries_at::{find_target, know_device};
+use crate::entries_at::{know_device, last_of};
 use crate::removals_at::free_list;
+use crate::rename_paths::{RenameTargets, targets_at};
 use crate::tree::Tree;
 use lfs_device::{BlockDevice, Error};
 use lfs_lookup::{FileStorage, Found, Path, Spot};
@@ -171,6 +174,7 @@ fn move_to_target<D: BlockDevice>(
 }
 
 // Gives an entry another path. At that path is no entry, a file, or a directory without entries.
+// The paths are looked up, unless it is known where they lead to.
 //
 // Errors: `Io` where a call of the device failed. `NoMemory` where memory isn't granted.
 pub(crate) fn rename_at<D: BlockDevice>(
@@ -179,37 +183,47 @@ pub(crate) fn rename_at<D: BlockDevice>(
     root: usize,
     from: &Path<'_>,
     to: &Path<'_>,
+    known: Option<RenameTargets>,
 ) -> Result<(), Error>
     requires rests { IsAtRest thread.old root }
     requires can { CanRename (tree_state_of thread.old.kept true false) from.now to.now }
     requires apart { same_path from.now to.now ≡ false }
+    requires known { IfSome known (AreTargets thread.old.kept from.now to.now) }
     ensures { IsOperationOn thread.old (call.Rename from.now to.now) result thread.new }
 {
     from.know_bytes();
     to.know_bytes();
     to.know_names();
     know_device(thread);
-    let entry = find_target(alloc, thread, root, from)?;
-    let source = source_in(entry.found);
-    let target = find_target(alloc, thread, root, to)?;
-    move_to_target(alloc, thread, source, target.found, target.name)
+    let names = to.names(alloc)?;
+    let targets = targets_at(alloc, thread, root, from, to, known)?;
+    let source = source_in(targets.entry);
+    move_to_target(alloc, thread, source, targets.target, last_of(&names))
 }
 
 impl<D: BlockDevice> Tree<D> {
     /// Gives an entry another path. At that path is no entry, a file, or an empty directory, which
     /// is replaced. The entries beneath a directory move with it.
     ///
-    /// A recovery comes first.
+    /// A recovery comes first. The paths are looked up then, unless
+    /// [`look_up_rename`](Tree::look_up_rename) has just found where they lead to.
     ///
     /// Errors: `Io` where a call of the device failed. `NoMemory` where memory isn't granted. The
     /// tree has failed after either.
-    pub fn rename(&mut self, alloc: Global, from: &Path<'_>, to: &Path<'_>) -> Result<(), Error>
+    pub fn rename(
+        &mut self,
+        alloc: Global,
+        from: &Path<'_>,
+        to: &Path<'_>,
+        known: Option<RenameTargets>,
+    ) -> Result<(), Error>
         requires can { CanRename self.old from.now to.now }
         requires apart { same_path from.now to.now ≡ false }
+        requires known { IfSome known (AreTargets (kept_of self.old) from.now to.now) }
         ensures { IsOperation self.old (call.Rename from.now to.now) result self.new }
     {
         self.recover(alloc)?;
-        let renamed = rename_at(alloc, &mut self.thread, self.root, from, to);
+        let renamed = rename_at(alloc, &mut self.thread, self.root, from, to, known);
         note_error(&mut self.thread, &renamed);
         renamed
     }

@@ -9,42 +9,28 @@ use Rattle.lfs_fs.proofs.Checked.{lookup_failed}
 use Rattle.lfs_fs.proofs.Errors.{given_on}
 use Rattle.lfs_fs.proofs.Late.{rename_late}
 use Rattle.lfs_fs.proofs.OpenFiles.{lacks_is}
-use Rattle.lfs_fs.proofs.Questions.{asked_twice, broken_twice, error_twice}
 use Rattle.lfs_fs.proofs.RenameChecks.{rename_checked, renaming_is, three_of}
 use Rattle.lfs_fs.proofs.rename_checks.check_rename.Goals as goal
 
 pub returns : goal.returns
 returns g c =
-    let one = c.in_ok-entry.ensures.asks.asked in
-    let two = c.in_ok-inside.ensures.asks.asked in
-    let asked = asked_twice _ _ _ (asked_twice _ _ _ one two) c.in_ok-taken.ensures.asks.asked in
-    rename_checked (session_view_of c.args.tree.now c.args.files.now) c.args.old.now c.args.new.now c.in-Some.from c.in-Some-parse_entry.to c.in_ok-entry.entry c.in_ok-inside.inside.finding c.look_up.new.self c.look_inside.new.self c.attributes_size.new.self
-    c.in_ok-taken.taken c.name_len-name_len.result c.name_len-name_len.result c.is_same_path-is_same.result c.is_nothing.result _ _ c.in_ok-inside.inside.has_entries _ c.is_overcharged_with-overfills.result _ c.lacks.result c.is_in_the_way.result
+    let asked = c.in_ok-found.ensures.asks.asked in
+    let both = c.in_ok-found.ensures.found in
+    let found = c.in_ok-found.found in
+    rename_checked (session_view_of c.args.tree.now c.args.files.now) c.args.old.now c.args.new.now c.in-Some.from c.in-Some-parse_entry.to found.entry found.target.finding c.look_up_rename.new.self
+    found.attributes_size c.name_len-name_len.result c.name_len-name_len.result c.is_same_path-is_same.result c.is_nothing.result _ _ found.target.has_entries _ c.is_overcharged_with-overfills.result _ c.lacks.result c.is_in_the_way.result
     c.refuse_if.result c.refuse_if-2.result c.refuse_replacing.result c.refuse_replacing-2.result c.refuse_replacing-3.result c.refuse_if-3.result c.refuse_replacing-4.result c.refuse_if-4.result c.unless_refused.result _
-    c.if-has_failed.ensures c.if-not-is_writable.ensures c.in-Some.ensures c.in-Some-parse_entry.ensures (sym c.if-is_beneath.ensures) one two asked
-    c.in_ok-entry.ensures.found c.in_ok-inside.ensures.found c.in_ok-taken.ensures.size c.is_same_path-is_same.ensures
+    c.if-has_failed.ensures c.if-not-is_writable.ensures c.in-Some.ensures c.in-Some-parse_entry.ensures (sym c.if-is_beneath.ensures) asked
+    both.entry both.target both.size c.is_same_path-is_same.ensures
     c.name_len-name_len.ensures.len c.refuse_if.ensures c.is_nothing.ensures c.refuse_if-2.ensures
     (three_of _ _ _ _ _ _ _ refl c.both-puts_directory.ensures c.is_directory.ensures c.is_file.ensures) c.refuse_replacing.ensures (three_of _ _ _ _ _ _ _ refl c.both-puts_file.ensures c.is_file-2.ensures c.is_directory-2.ensures) c.refuse_replacing-2.ensures
-    c.in_ok-inside.ensures.has refl c.refuse_replacing-3.ensures (c.is_in_the_way.ensures c.args.tree.now) c.refuse_if-3.ensures
+    both.has refl c.refuse_replacing-3.ensures (c.is_in_the_way.ensures c.args.tree.now) c.refuse_if-3.ensures
     c.name_len-name_len.ensures.len c.is_overcharged_with-overfills.ensures refl c.refuse_replacing-4.ensures
-    (c.lacks.ensures ∙ lacks_is c.attributes_size.new.self c.args.files.now 2 (ready_later _ _ c.args.files.now (c.requires (sym c.if-has_failed.ensures)) asked) ∙ ap (λ z. lacks (surroundings_of c.attributes_size.new.self) (files_view z c.args.files.now) 2) asked.same) c.refuse_if-4.ensures
-    (renaming_is c.args.old.now c.args.new.now c.in-Some.from c.in-Some-parse_entry.to _ c.in-Some.ensures c.in-Some-parse_entry.ensures refl refl c.is_same_path-is_same.ensures)
+    (c.lacks.ensures ∙ lacks_is c.look_up_rename.new.self c.args.files.now 2 (ready_later _ _ c.args.files.now (c.requires (sym c.if-has_failed.ensures)) asked) ∙ ap (λ z. lacks (surroundings_of c.look_up_rename.new.self) (files_view z c.args.files.now) 2) asked.same) c.refuse_if-4.ensures
+    (renaming_is c.look_up_rename.new.self c.args.old.now c.args.new.now c.in-Some.from c.in-Some-parse_entry.to _ c.in-Some.ensures c.in-Some-parse_entry.ensures refl refl c.is_same_path-is_same.ensures c.in_ok-found.ensures.targets)
     c.unless_refused.ensures
 
-pub returns-in_err-entry : goal.returns-in_err-entry
-returns-in_err-entry g c =
-    lookup_failed (session_view_of c.args.tree.now c.args.files.now) (ops.Rename c.args.old.now c.args.new.now) _ c.in_err-entry.field-0.0 _ c.from_residual.result c.if-has_failed.ensures c.in_err-entry.ensures.asks.broken c.in_err-entry.ensures.asks.errors (rename_late (session_view_of c.args.tree.now c.args.files.now) c.args.old.now c.args.new.now c.in-Some.from c.in-Some-parse_entry.to c.if-has_failed.ensures c.if-not-is_writable.ensures c.in-Some.ensures c.in-Some-parse_entry.ensures (sym c.if-is_beneath.ensures))
+pub returns-in_err-found : goal.returns-in_err-found
+returns-in_err-found g c =
+    lookup_failed (session_view_of c.args.tree.now c.args.files.now) (ops.Rename c.args.old.now c.args.new.now) _ c.in_err-found.field-0.0 _ c.from_residual.result c.if-has_failed.ensures c.in_err-found.ensures.asks.broken c.in_err-found.ensures.asks.errors (rename_late (session_view_of c.args.tree.now c.args.files.now) c.args.old.now c.args.new.now c.in-Some.from c.in-Some-parse_entry.to c.if-has_failed.ensures c.if-not-is_writable.ensures c.in-Some.ensures c.in-Some-parse_entry.ensures (sym c.if-is_beneath.ensures))
     (given_on _ c.from_residual.result c.from_residual.ensures.1)
-
-pub returns-in_err-inside : goal.returns-in_err-inside
-returns-in_err-inside g c =
-    lookup_failed (session_view_of c.args.tree.now c.args.files.now) (ops.Rename c.args.old.now c.args.new.now) _ c.in_err-inside.field-0.0 _ c.from_residual-in_err-inside.result c.if-has_failed.ensures
-    (broken_twice _ _ _ c.in_ok-entry.ensures.asks.asked c.in_err-inside.ensures.asks.broken) (error_twice _ _ _ _ c.in_ok-entry.ensures.asks.asked c.in_err-inside.ensures.asks.errors) (rename_late (session_view_of c.args.tree.now c.args.files.now) c.args.old.now c.args.new.now c.in-Some.from c.in-Some-parse_entry.to c.if-has_failed.ensures c.if-not-is_writable.ensures c.in-Some.ensures c.in-Some-parse_entry.ensures (sym c.if-is_beneath.ensures))
-    (given_on _ c.from_residual-in_err-inside.result c.from_residual-in_err-inside.ensures.1)
-
-pub returns-in_err-taken : goal.returns-in_err-taken
-returns-in_err-taken g c =
-    let asked = asked_twice _ _ _ c.in_ok-entry.ensures.asks.asked c.in_ok-inside.ensures.asks.asked in
-    lookup_failed (session_view_of c.args.tree.now c.args.files.now) (ops.Rename c.args.old.now c.args.new.now) _ c.in_err-taken.field-0.0 _ c.from_residual-in_err-taken.result c.if-has_failed.ensures
-    (broken_twice _ _ _ asked c.in_err-taken.ensures.asks.broken) (error_twice _ _ _ _ asked c.in_err-taken.ensures.asks.errors) (rename_late (session_view_of c.args.tree.now c.args.files.now) c.args.old.now c.args.new.now c.in-Some.from c.in-Some-parse_entry.to c.if-has_failed.ensures c.if-not-is_writable.ensures c.in-Some.ensures c.in-Some-parse_entry.ensures (sym c.if-is_beneath.ensures))
-    (given_on _ c.from_residual-in_err-taken.result c.from_residual-in_err-taken.ensures.1)

@@ -25,6 +25,9 @@ rename-answer-requires-clause-apart g c =
     let h = c.in_ok-renaming.ensures in
     ap₂ same_path h.2.from h.2.to ∙ sym h.2.same ∙ c.if-renaming.false
 
+pub rename-answer-requires-clause-known : goal.rename-answer-requires-clause-known
+rename-answer-requires-clause-known g c = c.in_ok-renaming.ensures.2.targets
+
 pub invariant_of-self : goal.invariant_of-self
 invariant_of-self g c = between_checked c.self.inside.tree c.self.inside.files (ops.Rename c.args.from.now c.args.to.now) _ c.check_rename.result c.check_rename.new.tree c.self.invariant c.check_rename.ensures
 

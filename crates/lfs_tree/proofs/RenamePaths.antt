@@ -1,0 +1,114 @@
+-- What is found at the two paths of a rename.
+use Rattle.std.proofs.Common.{ℕ, ◌≡◌, ◌≤◌, ◌+◌, ◌∙◌, ◌++◌, List, [], ◌∷◌, Option, Some, None, Result, Ok, Err, sym, ap, subst, arith}
+use Rattle.std.specs.Prelude.{IfOk, IfSome, sum_by}
+use Rattle.std.proofs.lemmas.List.Sums.{sum_by-append}
+use Rattle.lfs_device.specs.declared.error.Error.{Error}
+use Rattle.lfs_model.specs.Disk.{Disk}
+use Rattle.lfs_model.specs.Frame.{pairs_of_path, parents}
+use Rattle.lfs_model.specs.History.{Event, reads}
+use Rattle.lfs_model.specs.Names.{Name}
+use Rattle.lfs_model.specs.SlotEdits.{slot_of_path}
+use Rattle.lfs_model.specs.Slots.{no_gstate}
+use Rattle.lfs_model.specs.Thread.{Pair, gstate_of}
+use Rattle.lfs_model.specs.Tree.{Path}
+use Rattle.lfs_model.specs.View.{IsAccepted}
+use Rattle.lfs_model.specs.Shown.{tree_in}
+use Rattle.lfs_thread.specs.Kept.{Kept, State}
+use Rattle.lfs_thread.specs.Steps.{IsOnlyRead}
+use Rattle.lfs_lookup.specs.AtPath.{ShowsAt}
+use Rattle.lfs_lookup.specs.Paths.{BeginsOnPath, IsSlotOf, IsSlotOnPath, LeadsTo, ShowsTo}
+use Rattle.lfs_lookup.specs.declared.paths.Found.{Found}
+use Rattle.lfs_lookup.specs.declared.paths.Found.TheVariants as found
+use Rattle.lfs_lookup.specs.declared.paths.Shown.{Shown}
+use Rattle.lfs_lookup.specs.declared.search.Spot.{Spot}
+use Rattle.lfs_lookup.proofs.Entered.{hiding_none}
+use Rattle.lfs_lookup.proofs.ShownFindings.{few_own}
+use Rattle.lfs_tree.specs.RenamePaths.{AreTargets, directories_of_rename, shown_in}
+use Rattle.lfs_tree.specs.TreeState.{TreeState, kept_of}
+use Rattle.lfs_tree.specs.declared.rename_paths.RenameFindings.{RenameFindings}
+use Rattle.lfs_tree.specs.declared.rename_paths.RenameTargets.{RenameTargets}
+use Rattle.lfs_tree.proofs.Carried.{read_is, with_history}
+
+-- ---- where the paths lead to, after reads
+
+leads_on : (t : Kept) (h : List Event) (path : Path) (f : Found) → LeadsTo t path f → LeadsTo (with_history t h) path f
+leads_on t h path found.Root l = record { parents = l.parents; there = l.there }
+leads_on t h path found.ParentIsFile l = record { parents = l.parents; there = l.there }
+leads_on t h path found.ParentIsMissing l = record { parents = l.parents; there = l.there }
+leads_on t h path (found.Nothing parent place) l = record { parents = l.parents; there = l.there }
+leads_on t h path (found.Directory parent slot first) l = record { parents = l.parents; there = l.there }
+leads_on t h path (found.File parent slot contents) l = record { parents = l.parents; there = l.there }
+
+pub leads_since : (a b : Kept) (path : Path) (f : Found) → IsOnlyRead a b → LeadsTo a path f → LeadsTo b path f
+leads_since a b path f only l = subst (λ z. LeadsTo z path f) (sym (read_is a b only)) (leads_on a b.history path f l)
+
+targets_since : (a b : Kept) (from to : Path) (r : RenameTargets) → IsOnlyRead a b → AreTargets a from to r → AreTargets b from to r
+targets_since a b from to r only k = record {
+  settled = ap gstate_of only.pairs ∙ k.settled;
+  entry = leads_since a b from r.entry only k.entry;
+  target = leads_since a b to r.target only k.target;
+}
+
+-- the tree stays
+pub same_tree : (a b : Kept) → IsOnlyRead a b → tree_in b.disk b.pairs ≡ tree_in a.disk a.pairs
+same_tree a b only = ap (λ (d : Disk). tree_in d b.pairs) only.disk ∙ ap (λ (ps : List Pair). tree_in a.disk ps) only.pairs
+
+-- so do those of what was found, if they are known
+pub found_since : (a b : Kept) (from to : Path) (r : Result RenameFindings Error) → IsOnlyRead a b → IfOk r (λ found. IfSome found.targets (AreTargets a from to)) → IfOk r (λ found. IfSome found.targets (AreTargets b from to))
+found_since a b from to (Err e) only k = tt
+found_since a b from to (Ok x) only k = go x.targets k
+  where
+    go : (o : Option RenameTargets) → IfSome o (AreTargets a from to) → IfSome o (AreTargets b from to)
+    go None k = tt
+    go (Some x) k = targets_since a b from to x only k
+
+-- a recovery before it did nothing
+pub known_behind : (old mid : TreeState) (t : State) (from to : Path) (o : Option RenameTargets) → (gstate_of old.pairs ≡ no_gstate → mid ≡ old) → t.kept ≡ kept_of mid → IfSome o (AreTargets (kept_of old) from to) → IfSome o (AreTargets t.kept from to)
+known_behind old mid t from to None idle is k = tt
+known_behind old mid t from to (Some x) idle is k = subst (λ z. AreTargets z from to x) (sym (is ∙ ap kept_of (idle k.settled))) k
+
+-- ---- what is there
+
+-- no slot counts as deleted
+not_deleted : (id : ℕ) → ◌≡◌ {A = Option ℕ} None (Some id) → ⊥
+not_deleted id k = absurd (cc)
+
+abbrev slot_of : (ps : List Pair) (path above : Path) (name : Name) (parent : ℕ) (slot : Spot) → path ≡ above ++ name ∷ [] → IsSlotOnPath ps above name parent slot → IsSlotOf ps None path slot
+slot_of ps path above name parent slot e s = record {
+  above = above;
+  name = name;
+  is = e;
+  first = parent;
+  on = s.on;
+  stands = s.stands;
+  kept = λ k. not_deleted slot.id k;
+  slot = ap (slot_of_path ps) e ∙ s.slot;
+}
+
+shows_to : (t : Kept) (path : Path) (f : Found) → LeadsTo t path f → ShowsTo t None path (shown_in f)
+shows_to t path found.Root l = l.there
+shows_to t path found.ParentIsFile l = l.parents
+shows_to t path found.ParentIsMissing l = l.parents
+shows_to t path (found.Nothing parent place) l = (l.parents, ap (slot_of_path t.pairs) l.there.is ∙ l.there.there.nothing)
+shows_to t path (found.Directory parent slot first) l =
+    (l.parents, (slot_of t.pairs path l.there.above l.there.name parent slot l.there.is l.there.there.0, subst (λ (p : Path). BeginsOnPath t.pairs p first) (sym l.there.is) l.there.there.1))
+shows_to t path (found.File parent slot contents) l = (l.parents, (slot_of t.pairs path l.there.above l.there.name parent slot l.there.is l.there.there.0, l.there.there.1))
+
+pub shows_found : (t : Kept) (path : Path) (f : Found) (s : Shown) → IsAccepted t.disk t.pairs → gstate_of t.pairs ≡ no_gstate → LeadsTo t path f → s ≡ shown_in f → ShowsAt t path s
+shows_found t path f s ok settled l is =
+    subst (λ z. ShowsAt t path z) (sym is) (record { moved = None; hides = (hiding_none t (record { accepted = ok; settled = settled })).hides; shows = shows_to t path f l })
+
+-- ---- how many reads that takes
+
+pub sum_of_rename : (f : Path → ℕ) (from to : Path) → sum_by f (directories_of_rename from to) ≡ sum_by f (parents from) + (sum_by f (parents from) + (sum_by f (parents to) + f to))
+sum_of_rename f from to =
+    let a = sum_by-append f (parents from) (parents from ++ (parents to ++ to ∷ [])) in
+    let b = sum_by-append f (parents from) (parents to ++ to ∷ []) in
+    let c = few_own f to in
+    omega (arith, a, b, c)
+
+pub few_since : (a b : Kept) (paths : List Path) (n : ℕ) → IsOnlyRead a b → n ≤ reads b.history + sum_by (pairs_of_path b.pairs) paths → n ≤ reads b.history + sum_by (pairs_of_path a.pairs) paths
+few_since a b paths n only h = subst (λ (ps : List Pair). n ≤ reads b.history + sum_by (pairs_of_path ps) paths) only.pairs h
+
+pub own_since : (a b : Kept) (path : Path) (n : ℕ) → IsOnlyRead a b → n ≤ reads b.history + pairs_of_path b.pairs path → n ≤ reads b.history + pairs_of_path a.pairs path
+own_since a b path n only h = subst (λ (ps : List Pair). n ≤ reads b.history + pairs_of_path ps path) only.pairs h

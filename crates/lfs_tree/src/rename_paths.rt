@@ -1,0 +1,227 @@
+// What is at the two paths of a rename, before anything is written.
+
+ghost use Rattle.std.specs.Prelude.{◌≡◌, ◌≤◌, ◌+◌, ◌++◌, true, false, IfOk, IfSome, sum_by};
+ghost use Rattle.lfs_model.specs.Frame.{pairs_of_path, parents};
+ghost use Rattle.lfs_model.specs.History.{reads};
+ghost use Rattle.lfs_model.specs.Shown.{tree_in};
+ghost use Rattle.lfs_lookup.specs.Finds.{Finds, has_names};
+ghost use Rattle.lfs_lookup.specs.Paths.{LeadsTo};
+ghost use Rattle.lfs_lookup.specs.Reading.{IsReading};
+ghost use Rattle.lfs_tree.specs.TreeChanges.{IsAtRest};
+ghost use Rattle.lfs_tree.specs.RootedThreads.{IsRooted};
+ghost use Rattle.lfs_tree.specs.RenamePaths.{AreTargets, HasFoundBoth, directories_of_rename, shown_in};
+ghost use Rattle.lfs_tree.specs.TreeState.{IsReadOnlyCall, kept_of, tree_view};
+
+use crate::answers::note_error;
+use crate::entries_at::find_target;
+use crate::tree::Tree;
+use lfs_device::{BlockDevice, Error};
+use lfs_lookup::{
+    Found, FoundNode, Inside, Path, Shown, attributes_size_at, find_at, first_of, found_node_of,
+    has_entries, look_inside_at,
+};
+use lfs_thread::Thread;
+use std::alloc::Global;
+
+/// Where the two paths of a rename lead to, in an image that has nothing to recover. A rename takes
+/// it in place of two look-ups.
+#[derive(Clone, Copy, Drop)]
+pub struct RenameTargets {
+    pub(crate) entry: Found,
+    pub(crate) target: Found,
+}
+
+/// What is at the two paths of a rename.
+#[derive(Drop)]
+pub struct RenameFindings {
+    /// What is at the old path.
+    pub entry: FoundNode,
+    /// What is at the new path.
+    pub target: Inside,
+    /// How many bytes of its pair the attributes at the old path take, each with its tag of 4
+    /// bytes.
+    pub attributes_size: usize,
+    /// Where the paths lead to. None where something is to recover first.
+    pub targets: Option<RenameTargets>,
+}
+
+// Returns what was found, but for where a name belongs and in which directory it is.
+fn shown_in(found: Found) -> Shown
+    ensures { result ≡ shown_in found }
+{
+    match found {
+        Found::Root => Shown::Root,
+        Found::Directory { slot, first, .. } => Shown::Directory { slot, first },
+        Found::File { slot, contents, .. } => Shown::File { slot, contents },
+        Found::Nothing { .. } => Shown::Nothing,
+        Found::ParentIsFile => Shown::ParentIsFile,
+        Found::ParentIsMissing => Shown::ParentIsMissing,
+    }
+}
+
+// Looks up the two paths.
+fn find_targets<D: BlockDevice>(
+    alloc: Global,
+    thread: &mut Thread<D>,
+    root: usize,
+    from: &Path<'_>,
+    to: &Path<'_>,
+) -> Result<RenameTargets, Error>
+    requires { IsAtRest thread.old root }
+    ensures targets { IfOk result (AreTargets thread.old.kept from.now to.now) }
+    ensures few { reads thread.new.kept.history ≤ reads thread.old.kept.history + sum_by (pairs_of_path thread.old.kept.pairs) (parents from.now ++ parents to.now) }
+    ensures reading { IsReading thread.old thread.new result }
+{
+    let entry = find_target(alloc, thread, root, from)?;
+    let target = find_target(alloc, thread, root, to)?;
+    Ok(RenameTargets {
+        entry: entry.found,
+        target: target.found,
+    })
+}
+
+// Returns where the two paths lead to: what is known, or else what a look-up finds.
+pub(crate) fn targets_at<D: BlockDevice>(
+    alloc: Global,
+    thread: &mut Thread<D>,
+    root: usize,
+    from: &Path<'_>,
+    to: &Path<'_>,
+    known: Option<RenameTargets>,
+) -> Result<RenameTargets, Error>
+    requires rests { IsAtRest thread.old root }
+    requires known { IfSome known (AreTargets thread.old.kept from.now to.now) }
+    ensures targets { IfOk result (AreTargets thread.old.kept from.now to.now) }
+    ensures reading { IsReading thread.old thread.new result }
+{
+    match known {
+        Some(targets) => Ok(targets),
+        None => find_targets(alloc, thread, root, from, to),
+    }
+}
+
+// Returns what is at a path by what was found there, and whether it is a directory that has
+// entries.
+fn inside_of<D: BlockDevice>(
+    alloc: Global,
+    thread: &mut Thread<D>,
+    root: usize,
+    _path: &Path<'_>,
+    found: Found,
+) -> Result<Inside, Error>
+    requires rests { IsAtRest thread.old root }
+    requires leads { LeadsTo thread.old.kept _path.now found }
+    ensures found { IfOk result (λ inside. Finds (tree_in thread.old.kept.disk thread.old.kept.pairs) _path.now inside.finding) }
+    ensures has { IfOk result (λ inside. inside.has_entries ≡ has_names (tree_in thread.old.kept.disk thread.old.kept.pairs) _path.now) }
+    ensures few { reads thread.new.kept.history ≤ reads thread.old.kept.history + pairs_of_path thread.old.kept.pairs _path.now }
+    ensures reading { IsReading thread.old thread.new result }
+{
+    let shown = shown_in(found);
+    let has_entries = has_entries(alloc, thread, first_of(root, shown))?;
+    // By the sizes of its blocks a list has as many bytes as its entry says.
+    let _device = thread.device();
+    Ok(Inside {
+        finding: found_node_of(shown),
+        has_entries,
+    })
+}
+
+// Looks up the two paths of a rename where nothing is to recover.
+fn find_both<D: BlockDevice>(
+    alloc: Global,
+    thread: &mut Thread<D>,
+    root: usize,
+    from: &Path<'_>,
+    to: &Path<'_>,
+) -> Result<RenameFindings, Error>
+    requires { IsAtRest thread.old root }
+    ensures found { IfOk result (HasFoundBoth (tree_in thread.old.kept.disk thread.old.kept.pairs) from.now to.now) }
+    ensures targets { IfOk result (λ found. IfSome found.targets (AreTargets thread.old.kept from.now to.now)) }
+    ensures few { reads thread.new.kept.history ≤ reads thread.old.kept.history + sum_by (pairs_of_path thread.old.kept.pairs) (directories_of_rename from.now to.now) }
+    ensures reading { IsReading thread.old thread.new result }
+{
+    let targets = find_targets(alloc, thread, root, from, to)?;
+    let attributes_size = attributes_size_at(alloc, thread, root, from)?;
+    let target = inside_of(alloc, thread, root, to, targets.target)?;
+    // By the sizes of its blocks a list has as many bytes as its entry says.
+    let _device = thread.device();
+    Ok(RenameFindings {
+        entry: found_node_of(shown_in(targets.entry)),
+        target,
+        attributes_size,
+        targets: Some(targets),
+    })
+}
+
+// Looks up the two paths of a rename where something is to recover first.
+fn show_both<D: BlockDevice>(
+    alloc: Global,
+    thread: &mut Thread<D>,
+    root: usize,
+    from: &Path<'_>,
+    to: &Path<'_>,
+) -> Result<RenameFindings, Error>
+    requires { IsRooted thread.old root true }
+    ensures found { IfOk result (HasFoundBoth (tree_in thread.old.kept.disk thread.old.kept.pairs) from.now to.now) }
+    ensures targets { IfOk result (λ found. IfSome found.targets (AreTargets thread.old.kept from.now to.now)) }
+    ensures few { reads thread.new.kept.history ≤ reads thread.old.kept.history + sum_by (pairs_of_path thread.old.kept.pairs) (directories_of_rename from.now to.now) }
+    ensures reading { IsReading thread.old thread.new result }
+{
+    let entry = find_at(alloc, thread, root, from)?;
+    let target = look_inside_at(alloc, thread, root, to)?;
+    let attributes_size = attributes_size_at(alloc, thread, root, from)?;
+    Ok(RenameFindings {
+        entry,
+        target,
+        attributes_size,
+        targets: None,
+    })
+}
+
+// Looks up the two paths of a rename.
+fn look_up_both<D: BlockDevice>(
+    alloc: Global,
+    thread: &mut Thread<D>,
+    root: usize,
+    from: &Path<'_>,
+    to: &Path<'_>,
+) -> Result<RenameFindings, Error>
+    requires { IsRooted thread.old root true }
+    ensures found { IfOk result (HasFoundBoth (tree_in thread.old.kept.disk thread.old.kept.pairs) from.now to.now) }
+    ensures targets { IfOk result (λ found. IfSome found.targets (AreTargets thread.old.kept from.now to.now)) }
+    ensures few { reads thread.new.kept.history ≤ reads thread.old.kept.history + sum_by (pairs_of_path thread.old.kept.pairs) (directories_of_rename from.now to.now) }
+    ensures reading { IsReading thread.old thread.new result }
+{
+    let state = thread.state();
+    if state.is_none() {
+        find_both(alloc, thread, root, from, to)
+    } else {
+        show_both(alloc, thread, root, from, to)
+    }
+}
+
+impl<D: BlockDevice> Tree<D> {
+    /// Looks up the two paths of a rename. Where nothing is to recover, the rename needs no other
+    /// look-up. The call reads no more pairs than the directories above the old path have, twice,
+    /// those above the new path and the one at it.
+    ///
+    /// Errors: `Io` where a read failed. `NoMemory` where memory isn't granted. The tree has failed
+    /// after either.
+    pub fn look_up_rename(
+        &mut self,
+        alloc: Global,
+        from: &Path<'_>,
+        to: &Path<'_>,
+    ) -> Result<RenameFindings, Error>
+        requires works { self.old.failed ≡ false }
+        requires writable { self.old.writable ≡ true }
+        ensures asks { IsReadOnlyCall self.old result self.new }
+        ensures found { IfOk result (HasFoundBoth (tree_view self.old) from.now to.now) }
+        ensures targets { IfOk result (λ found. IfSome found.targets (AreTargets (kept_of self.new) from.now to.now)) }
+        ensures few { reads self.new.history ≤ reads self.old.history + sum_by (pairs_of_path self.old.pairs) (directories_of_rename from.now to.now) }
+    {
+        let found = look_up_both(alloc, &mut self.thread, self.root, from, to);
+        note_error(&mut self.thread, &found);
+        found
+    }
+}

@@ -20,6 +20,7 @@ pub mod ExcerptBlocks
 pub mod ExcerptView
 pub mod ExcerptShape
 pub mod WatchedStreams
+pub mod StandardStreams
 pub mod Reports
 pub mod KnownBytes
 pub mod Blocks

@@ -1,33 +1,81 @@
-use crate::{NewImage, Noted, OldImage, Places, Watched};
+ghost use Rattle.std.specs.Prelude.{◌≡◌, IfOk};
+ghost use Rattle.lfs_tool_folders.specs.Paths.{image_path};
+ghost use Rattle.lfs_tool.specs.Paths.{old_path};
+ghost use Rattle.lfs_tool.specs.StandardStreams.{is_standard, names_standard, path_by};
+
+use crate::file_or_standard::names_standard;
+use crate::{FileOrStandard, NewImage, Noted, OldImage, Places, Watched};
 use lfs_device::Error;
 use lfs_tool_folders::{FaultLog, Folder, PlaceFault, TargetFolder};
-use std::io::BufReader;
+use std::alloc::AllocError;
+use std::cell::Cell;
+use std::io::{BufReader, Read, Write};
 use std::rt::Files;
 
 // How many bytes of an image are read at once.
 const READ_AHEAD: usize = 65_536;
 
-/// The files and folders of the real file system. What they meet is noted in a log.
+/// The files and folders of the real file system, and for the image `-` standard input or output. Each of
+/// these two is used once: the image of a second call fails. What files, folders and streams meet is
+/// noted in a log.
 #[derive(Drop)]
-pub struct RealPlaces<'a, R> {
+pub struct RealPlaces<'a, R, I, O> {
     rt: &'a R,
     log: &'a FaultLog,
+    // The standard streams, until they are used.
+    input: Cell<Option<I>>,
+    output: Cell<Option<O>>,
 }
 
-impl<'a, R: Files + AllocGlobal + Clone + Drop> RealPlaces<'a, R> {
-    /// Makes the places of a runtime.
-    pub fn new(rt: &'a R, log: &'a FaultLog) -> RealPlaces<'a, R> {
-        RealPlaces { rt, log }
+impl<'a, R: Files + AllocGlobal + Clone + Drop, I: Read + Drop, O: Write + Drop> RealPlaces<
+    'a,
+    R,
+    I,
+    O,
+> {
+    /// Makes the places of a runtime, with its standard input and output.
+    pub fn new(rt: &'a R, log: &'a FaultLog, input: I, output: O) -> RealPlaces<'a, R, I, O> {
+        RealPlaces {
+            rt,
+            log,
+            input: Cell::new(Some(input)),
+            output: Cell::new(Some(output)),
+        }
+    }
+
+    // Returns what is read at a path.
+    fn old_image(&self, path: &str) -> Result<FileOrStandard<OldImage<'a, R>, I>, AllocError>
+        ensures path { IfOk result (λ i. path_by old_path i ≡ path.now) }
+        ensures kind { IfOk result (λ i. is_standard i ≡ names_standard path.now) }
+    {
+        if names_standard(path) {
+            return Ok(FileOrStandard::Standard(self.input.replace(None)));
+        }
+        let file = OldImage::new(self.rt.alloc(), self.rt, path)?;
+        Ok(FileOrStandard::File(file))
+    }
+
+    // Returns what is written at a path.
+    fn made_image(&self, path: &str) -> Result<FileOrStandard<NewImage<'a, R>, O>, AllocError>
+        ensures path { IfOk result (λ i. path_by image_path i ≡ path.now) }
+        ensures kind { IfOk result (λ i. is_standard i ≡ names_standard path.now) }
+    {
+        if names_standard(path) {
+            return Ok(FileOrStandard::Standard(self.output.replace(None)));
+        }
+        let file = NewImage::new(self.rt.alloc(), self.rt, path)?;
+        Ok(FileOrStandard::File(file))
     }
 }
 
-impl<'a, R: Files + AllocGlobal + Clone + Drop> Places for RealPlaces<'a, R> {
+impl<'a, R: Files + AllocGlobal + Clone + Drop, I: Read + Drop, O: Write + Drop> Places
+    for RealPlaces<'a, R, I, O> {
     ghost use Rattle.lfs_tool_folders.specs.Roots.{folder_root, target_root};
     ghost use Rattle.lfs_tool.specs.Paths.{new_image_at, old_image_at};
 
-    type Image = Watched<BufReader<Noted<'a, OldImage<'a, R>>>>;
+    type Image = Watched<BufReader<Noted<'a, FileOrStandard<OldImage<'a, R>, I>>>>;
 
-    type NewImage = Watched<Noted<'a, NewImage<'a, R>>>;
+    type NewImage = Watched<Noted<'a, FileOrStandard<NewImage<'a, R>, O>>>;
 
     type Folder = Folder<'a, R>;
 
@@ -41,19 +89,25 @@ impl<'a, R: Files + AllocGlobal + Clone + Drop> Places for RealPlaces<'a, R> {
 
     ghost new_folder_path = { target_root };
 
-    fn image(&self, path: &str) -> Result<Watched<BufReader<Noted<'a, OldImage<'a, R>>>>, Error> {
-        let file = OldImage::new(self.rt.alloc(), self.rt, path)?;
-        let file = Noted::new(self.rt.alloc(), file, path, self.log)?;
-        let Ok(reader) = BufReader::with_capacity(self.rt.alloc(), READ_AHEAD, file) else {
+    fn image(
+        &self,
+        path: &str,
+    ) -> Result<Watched<BufReader<Noted<'a, FileOrStandard<OldImage<'a, R>, I>>>>, Error> {
+        let image = self.old_image(path)?;
+        let image = Noted::new(self.rt.alloc(), image, path, self.log)?;
+        let Ok(reader) = BufReader::with_capacity(self.rt.alloc(), READ_AHEAD, image) else {
             return Err(Error::NoMemory);
         };
         Ok(Watched::new(reader))
     }
 
-    fn new_image(&self, path: &str) -> Result<Watched<Noted<'a, NewImage<'a, R>>>, Error> {
-        let file = NewImage::new(self.rt.alloc(), self.rt, path)?;
-        let file = Noted::new(self.rt.alloc(), file, path, self.log)?;
-        Ok(Watched::new(file))
+    fn new_image(
+        &self,
+        path: &str,
+    ) -> Result<Watched<Noted<'a, FileOrStandard<NewImage<'a, R>, O>>>, Error> {
+        let image = self.made_image(path)?;
+        let image = Noted::new(self.rt.alloc(), image, path, self.log)?;
+        Ok(Watched::new(image))
     }
 
     fn folder(&self, path: &str, size: u32) -> Result<Folder<'a, R>, Error> {

@@ -24,6 +24,8 @@ Examples:
   mklittlefs -l -b 1024 -p 128 disk.img  one of 256 KiB with other blocks
   mklittlefs -c settings --order shorter-first disk.img
   mklittlefs --explain -l disk.img       says why where it isn't listed
+  mklittlefs -c settings - > disk.img    writes the image to standard output
+  mklittlefs -l - < disk.img             reads the image from standard input
 
 Sizes:
   -b  from 1024 to 65536, a multiple of -p
@@ -173,7 +175,7 @@ fn image_arg<'a>(alloc: Global) -> Arg<'a>
         .action(ArgAction::Set)
         .value_name("IMAGE")
         .required(true)
-        .help("The file with the image")
+        .help("The file with the image, or - for standard input or output")
 }
 
 fn with_image<'a>(alloc: Global, command: Command<'a>) -> Result<Command<'a>, AllocError>

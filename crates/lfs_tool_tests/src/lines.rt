@@ -7,7 +7,7 @@ use std::alloc::{AllocError, Global};
 use std::test::Fail;
 
 // The words of command lines, and what they say.
-const LINES: [(&[&str], Line<'static>); 6] = [
+const LINES: [(&[&str], Line<'static>); 7] = [
     (
         &["mklittlefs", "--check", "-b1024", "disk.img"],
         Line {
@@ -18,6 +18,19 @@ const LINES: [(&[&str], Line<'static>); 6] = [
             order: NameOrder::LongerFirst,
             explain: false,
             image: "disk.img",
+        },
+    ),
+    // a standard stream's name is no option
+    (
+        &["mklittlefs", "-c", "dir", "-", "-s", "8192"],
+        Line {
+            mode: Mode::Create("dir"),
+            block_size: 4096,
+            page: 256,
+            size: 8192,
+            order: NameOrder::LongerFirst,
+            explain: false,
+            image: "-",
         },
     ),
     (
@@ -133,7 +146,7 @@ Creates, unpacks, lists or checks an image of a littlefs file system.
 Usage: mklittlefs (-c DIR | -u DIR | -l | --check) [-b N] [-p N] [-s N] [--order ORDER] [--explain] IMAGE
 
 Arguments:
-  <IMAGE>  The file with the image
+  <IMAGE>  The file with the image, or - for standard input or output
 
 Options:
   -c, --create <DIR>   Create IMAGE from the folder DIR
@@ -157,6 +170,8 @@ Examples:
   mklittlefs -l -b 1024 -p 128 disk.img  one of 256 KiB with other blocks
   mklittlefs -c settings --order shorter-first disk.img
   mklittlefs --explain -l disk.img       says why where it isn't listed
+  mklittlefs -c settings - > disk.img    writes the image to standard output
+  mklittlefs -l - < disk.img             reads the image from standard input
 
 Sizes:
   -b  from 1024 to 65536, a multiple of -p

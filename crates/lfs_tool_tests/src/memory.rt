@@ -77,7 +77,7 @@ fn is_run<R: Files + AllocGlobal + Clone + Drop>(
     let log = FaultLog::new();
     match answer(
         rt.alloc(),
-        &RealPlaces::new(rt, &log),
+        &RealPlaces::new(rt, &log, io::empty(), io::sink()),
         Ok(words),
         &mut out,
         &mut err,

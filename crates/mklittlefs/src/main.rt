@@ -15,6 +15,6 @@ fn main(rt: HostRuntime) -> ExitCode {
     let mut out = Watched::new(rt.stdout());
     let mut err = Watched::new(rt.stderr());
     let log = FaultLog::new();
-    let places = RealPlaces::new(&rt, &log);
+    let places = RealPlaces::new(&rt, &log, rt.stdin(), rt.stdout());
     ExitCode::from(answer(rt.alloc(), &places, words(&rt), &mut out, &mut err))
 }

@@ -1,0 +1,23 @@
+-- What the path of an image names: a file, or for `-` a standard stream.
+use Rattle.std.specs.Prelude.{ℕ, Bool, true, false, List, Option, codes, option_and_then}
+use Rattle.std.specs.Str.{bytes_eq}
+use Rattle.lfs_tool.specs.declared.file_or_standard.FileOrStandard.{FileOrStandard}
+use Rattle.lfs_tool.specs.declared.file_or_standard.FileOrStandard.TheVariants.{File, Standard}
+
+-- the path is `-`
+abbrev pub names_standard : List ℕ → Bool
+names_standard path = bytes_eq path (codes "-")
+
+abbrev pub is_standard : {F S : Type 0} → FileOrStandard F S → Bool
+is_standard (File f) = false
+is_standard (Standard s) = true
+
+-- the path of the file, or `-`
+abbrev pub path_by : {F S : Type 0} → (F → List ℕ) → FileOrStandard F S → List ℕ
+path_by of_file (File f) = of_file f
+path_by of_file (Standard s) = codes "-"
+
+-- the bytes of the file or the stream, where they are known
+abbrev pub bytes_by : {F S : Type 0} → (F → Option (List ℕ)) → (S → Option (List ℕ)) → FileOrStandard F S → Option (List ℕ)
+bytes_by of_file of_stream (File f) = of_file f
+bytes_by of_file of_stream (Standard s) = option_and_then of_stream s

@@ -262,6 +262,8 @@ impl Files {
     }
 
     /// Puts a writer back under the number that it had.
+    // Inlined, a write moves the writer once instead of twice.
+    #[inline(always)]
     pub fn put_back(&mut self, fd: u32, writer: Writer)
         requires inside { fd < length self.old }
         requires free { open_file_at self.old fd ≡ None }
@@ -363,6 +365,7 @@ fn take_from(entries: &mut Vec<Option<OpenFile>>, index: usize) -> Option<OpenFi
     entries[index].take()
 }
 
+#[inline(always)]
 fn set_in(entries: &mut Vec<Option<OpenFile>>, index: usize, file: OpenFile)
     requires { index < vec_len entries.old }
     ensures files { entries.new.items ≡ slice_set entries.old.items index (Some file) }

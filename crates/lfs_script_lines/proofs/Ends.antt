@@ -1,5 +1,5 @@
 -- The ends of lines.
-use Rattle.std.proofs.Common.{◌≡◌, ◌∙◌, ◌++◌, ◌∷◌, ℕ, List, [], ap, arith, cond, false, nat_eq, refl, sym, true}
+use Rattle.std.proofs.Common.{◌≡◌, ◌∙◌, ◌++◌, ◌∷◌, ℕ, List, [], ap, arith, cond, false, nat_eq, refl, true}
 use Rattle.std.proofs.lemmas.Bool.Decides.{nat_tests}
 use Rattle.lfs_script_lines.specs.Lines.{before_spaces, without_end, without_spaces_before, without_spaces_behind}
 

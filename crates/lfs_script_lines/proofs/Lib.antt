@@ -1,7 +1,9 @@
 mod Decimals
 mod Ends
+mod Misfits
 mod Named
 mod Numerals
+mod OptionKinds
 mod Refusals
 mod Spelling
 mod Stars

@@ -1,5 +1,5 @@
 -- Numerals in a base.
-use Rattle.std.proofs.Common.{◌≡◌, ◌<◌, ◌≤◌, ◌^◌, ℕ, zero, suc, List, [], ◌∷◌, Result, Ok, Err, drop, get_or, length, cond, nat_eq, subst, sym, arith, ap, refl, ◌∙◌, false, true, MatchOption}
+use Rattle.std.proofs.Common.{◌≡◌, ◌<◌, ◌≤◌, ◌^◌, ℕ, zero, suc, List, [], ◌∷◌, Result, Ok, Err, drop, get_or, length, cond, nat_eq, subst, arith, ap, false, true, MatchOption}
 use Rattle.std.specs.Char.{digit_value}
 use Rattle.std.specs.Str.{IsAscii, IsUtf8}
 use Rattle.std.specs.Str.Parse.{AllDigits, IsNumeral, ParsesUnsigned, digits_value, without_leading_plus}

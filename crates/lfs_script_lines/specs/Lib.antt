@@ -1,4 +1,5 @@
 pub mod Words
 pub mod Answers
+pub mod Kinds
 pub mod Lines
 pub mod Names

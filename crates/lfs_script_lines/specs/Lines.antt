@@ -1,9 +1,9 @@
 -- Lines, their words, and why they are refused.
-use Rattle.std.specs.Prelude.{◌≡◌, ◌≢◌, ℕ, ◌+◌, ◌<◌, ◌≤◌, ◌^◌, ◌==◌, Bool, if◌then◌else◌, List, [], ◌∷◌, Option, IsSome, IsSomeAnd, IsTrue, false, length, map, slice_get, slice_index}
+use Rattle.std.specs.Prelude.{◌≡◌, ℕ, ◌+◌, ◌<◌, ◌≤◌, ◌==◌, Bool, if◌then◌else◌, List, [], ◌∷◌, Option, IsSomeAnd, IsTrue, Some, drop, false, length, map, slice_get}
 use Rattle.std.specs.List.{list_any, slice_split}
 use denote.Ref.{Bor}
+use Rattle.lfs_script_lines.specs.Kinds.{Kind, IsOfKind, kinds_of, refusal_of}
 use Rattle.lfs_script_lines.specs.Names.{command_text, least_count, most_count}
-use Rattle.lfs_script_lines.specs.Words.{IsNumber, IsSpelling}
 use Rattle.lfs_script_lines.specs.declared.lines.LineError.{LineError}
 use Rattle.lfs_script_lines.specs.declared.lines.LineError.TheVariants.{NoMemory, Refused}
 use Rattle.lfs_script_lines.specs.declared.names.CommandName.{CommandName}
@@ -59,28 +59,32 @@ IsNamed words name = IsSomeAnd (word_at words 0) (λ word. word ≡ command_text
 
 -- ---- refusals
 
--- why the words behind a command's name are refused
-abbrev pub IsWordFault : List (List ℕ) → LineError → Type 0
-IsWordFault words NoMemory = Unit {0}
-IsWordFault words (Refused (refusal.Number place)) = IsSomeAnd (word_at words place) (λ word. ¬ IsNumber 10 (2 ^ 32) word)
-IsWordFault words (Refused (refusal.Flags place)) = IsSomeAnd (word_at words place) (λ word. ¬ IsNumber 16 (2 ^ 32) word)
-IsWordFault words (Refused (refusal.Byte place)) = IsSomeAnd (word_at words place) (λ word. ¬ IsNumber 16 (2 ^ 8) word)
-IsWordFault words (Refused (refusal.Spelling place)) = IsSomeAnd (word_at words place) (λ word. ¬ IsSpelling word)
-IsWordFault words (Refused (refusal.Options place)) = IsSome (word_at words place)
-IsWordFault words _ = ⊥
+-- A word isn't as it is wanted at its place. The kinds are those of the words from a place on.
+pub record IsMisfit (words : List (List ℕ)) (from : ℕ) (kinds : List Kind) (reason : Refusal) : Type 0 where
+  pub behind : ℕ
+  pub kind : Kind
+  pub wanted : slice_get kinds behind ≡ Some kind
+  pub word : IsSomeAnd (word_at words (from + behind)) (λ word. ¬ IsOfKind kind word)
+  pub cited : reason ≡ refusal_of kind (from + behind)
+
+-- why words from a place on are refused, where words of these kinds are wanted
+abbrev pub IsWordFault : List (List ℕ) → ℕ → List Kind → LineError → Type 0
+IsWordFault words from kinds NoMemory = Unit {0}
+IsWordFault words from kinds (Refused reason) = IsMisfit words from kinds reason
 
 -- the first word is this command's name, and as many stand behind it as the command takes, with one space between two
 abbrev pub IsCommandLine : List (List ℕ) → CommandName → Type 0
 IsCommandLine words name = IsNamed words name × (least_count name < length words) × (length words ≤ most_count name + 1) × (has_gap words ≡ false)
 
-abbrev pub HasCommand : List (List ℕ) → Type 0
-HasCommand words = (name : CommandName) × IsCommandLine words name
+-- the words are those of a command, but that one behind its name isn't as the command wants it there
+abbrev pub HasWordFault : List (List ℕ) → LineError → Type 0
+HasWordFault words error = (name : CommandName) × IsCommandLine words name × IsWordFault words 1 (kinds_of name (drop 1 words)) error
 
--- why words are no command; only where they have one is a word behind its name to blame
+-- why words are no command
 abbrev pub IsRefused : List (List ℕ) → LineError → Type 0
 IsRefused words NoMemory = Unit {0}
 IsRefused words (Refused refusal.Spaces) = IsTrue (has_gap words)
 IsRefused words (Refused refusal.Name) = (name : CommandName) → ¬ IsNamed words name
 IsRefused words (Refused (refusal.TooFew name)) = IsNamed words name × (length words ≤ least_count name)
 IsRefused words (Refused (refusal.TooMany name)) = IsNamed words name × (most_count name + 1 < length words)
-IsRefused words error = HasCommand words × IsWordFault words error
+IsRefused words error = HasWordFault words error

@@ -1,5 +1,9 @@
 -- The names of commands, and how many words stand behind each.
 use Rattle.std.specs.Prelude.{ℕ, List, codes}
+use Rattle.lfs_script_lines.specs.declared.command.Command.{Command}
+use Rattle.lfs_script_lines.specs.declared.command.Command.TheVariants as made
+use Rattle.lfs_script_lines.specs.declared.command.Operation.{Operation}
+use Rattle.lfs_script_lines.specs.declared.command.Operation.TheVariants as op
 use Rattle.lfs_script_lines.specs.declared.names.CommandName.{CommandName}
 use Rattle.lfs_script_lines.specs.declared.names.CommandName.TheVariants as command
 use Rattle.lfs_script_lines.specs.declared.names.OperationName.{OperationName}
@@ -85,6 +89,41 @@ most_count command.Calls = 0
 most_count command.Compare = 1
 most_count command.CompareWith = 1
 most_count (command.Perform name) = operation_count name
+
+-- the name of an operation
+abbrev pub name_of_operation : Operation → OperationName
+name_of_operation (op.Open path flags) = operation.Open
+name_of_operation (op.Read fd count) = operation.Read
+name_of_operation (op.Write fd bytes) = operation.Write
+name_of_operation (op.Seek fd position) = operation.Seek
+name_of_operation (op.Truncate fd size) = operation.Truncate
+name_of_operation (op.Sync fd) = operation.Sync
+name_of_operation (op.Close fd) = operation.Close
+name_of_operation (op.Mkdir path) = operation.Mkdir
+name_of_operation (op.Remove path) = operation.Remove
+name_of_operation (op.Rename old new) = operation.Rename
+name_of_operation (op.List path) = operation.List
+name_of_operation (op.Stat path) = operation.Stat
+name_of_operation (op.GetAttr path kind) = operation.GetAttr
+name_of_operation (op.SetAttr path kind bytes) = operation.SetAttr
+name_of_operation (op.RemoveAttr path kind) = operation.RemoveAttr
+name_of_operation op.Gstate = operation.Gstate
+name_of_operation (op.IsUsed block) = operation.IsUsed
+name_of_operation op.UsedCount = operation.UsedCount
+name_of_operation op.Recover = operation.Recover
+name_of_operation op.Remount = operation.Remount
+
+-- the name of a command
+abbrev pub name_of_command : Command → CommandName
+name_of_command (made.Fresh block_size page block_count order erased) = command.Fresh
+name_of_command (made.Image block_size page file erased) = command.Image
+name_of_command made.Unmount = command.Unmount
+name_of_command (made.Mount fault) = command.Mount
+name_of_command (made.Save path) = command.Save
+name_of_command made.Calls = command.Calls
+name_of_command (made.Compare scope) = command.Compare
+name_of_command (made.CompareWith path) = command.CompareWith
+name_of_command (made.Perform op) = command.Perform (name_of_operation op)
 
 -- a command that another test finds by its name: `compare-with`, or an operation
 abbrev pub IsNamedElsewhere : CommandName → Type 0

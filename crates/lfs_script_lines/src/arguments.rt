@@ -1,6 +1,8 @@
 // The words behind a command's name.
 
-ghost use Rattle.std.specs.Prelude.{◌≡◌, ◌<◌, ◌≤◌, IfErr, Some, length};
+ghost use Rattle.std.specs.Prelude.{◌≡◌, ◌<◌, ◌∷◌, IfErr, Some, [], length};
+ghost use Rattle.std.specs.Str.{bytes_eq};
+ghost use Rattle.lfs_script_lines.specs.Kinds.{Byte, Bytes, Flags, NoOption, Number};
 ghost use Rattle.lfs_script_lines.specs.Lines.{IsWordFault, texts, word_at};
 
 use crate::lines::LineError;
@@ -19,10 +21,18 @@ pub(crate) fn word_at<'a>(words: &[&'a [u8]], place: usize) -> &'a [u8]
     words[place]
 }
 
+// Returns whether a word is this keyword.
+pub(crate) fn is_keyword(word: &[u8], keyword: &[u8]) -> bool
+    ensures { result ≡ bytes_eq word.now keyword.now }
+{
+    word == keyword
+}
+
 // Returns the refusal of a word that is no option.
+#[tactic(auto, using(crate::proofs::Misfits::here))]
 pub(crate) fn no_options(words: &[&[u8]], place: usize) -> LineError
     requires { place < length words.now }
-    ensures { IsWordFault (texts words.now) result }
+    ensures { IsWordFault (texts words.now) place (NoOption ∷ []) result }
 {
     let _word = word_at(words, place);
     LineError::Refused(Refusal::Options(place))
@@ -31,7 +41,7 @@ pub(crate) fn no_options(words: &[&[u8]], place: usize) -> LineError
 // Returns the bytes of the word at a place.
 pub(crate) fn bytes(alloc: Global, words: &[&[u8]], place: usize) -> Result<Vec<u8>, LineError>
     requires { place < length words.now }
-    ensures { IfErr result (IsWordFault (texts words.now)) }
+    ensures { IfErr result (IsWordFault (texts words.now) place (Bytes ∷ [])) }
 {
     let found = read_word(alloc, word_at(words, place))?;
     match found {
@@ -41,9 +51,10 @@ pub(crate) fn bytes(alloc: Global, words: &[&[u8]], place: usize) -> Result<Vec<
 }
 
 // Returns the decimal number at a place.
+#[tactic(auto, using(crate::proofs::Misfits::here))]
 pub(crate) fn number(words: &[&[u8]], place: usize) -> Result<u32, LineError>
     requires { place < length words.now }
-    ensures { IfErr result (IsWordFault (texts words.now)) }
+    ensures { IfErr result (IsWordFault (texts words.now) place (Number ∷ [])) }
 {
     match read_decimal(word_at(words, place)) {
         Some(value) => Ok(value),
@@ -52,9 +63,10 @@ pub(crate) fn number(words: &[&[u8]], place: usize) -> Result<u32, LineError>
 }
 
 // Returns the flags at a place, in hexadecimal.
+#[tactic(auto, using(crate::proofs::Misfits::here))]
 pub(crate) fn flags(words: &[&[u8]], place: usize) -> Result<OpenFlags, LineError>
     requires { place < length words.now }
-    ensures { IfErr result (IsWordFault (texts words.now)) }
+    ensures { IfErr result (IsWordFault (texts words.now) place (Flags ∷ [])) }
 {
     match read_hex(word_at(words, place)) {
         Some(bits) => Ok(OpenFlags::from_bits_retain(bits)),
@@ -63,9 +75,10 @@ pub(crate) fn flags(words: &[&[u8]], place: usize) -> Result<OpenFlags, LineErro
 }
 
 // Returns the byte at a place, in hexadecimal.
+#[tactic(auto, using(crate::proofs::Misfits::here))]
 pub(crate) fn byte(words: &[&[u8]], place: usize) -> Result<u8, LineError>
     requires { place < length words.now }
-    ensures { IfErr result (IsWordFault (texts words.now)) }
+    ensures { IfErr result (IsWordFault (texts words.now) place (Byte ∷ [])) }
 {
     let Some(value) = read_hex(word_at(words, place)) else {
         return Err(LineError::Refused(Refusal::Byte(place)));

@@ -9,6 +9,8 @@ mod line_text;
 mod lines;
 mod names;
 mod numbers;
+mod operations;
+mod options;
 mod refusal;
 mod word_text;
 mod words;

@@ -1,17 +1,19 @@
 // Lines that are commands.
 
-ghost use Rattle.std.specs.Prelude.{◌≡◌, ◌+◌, ◌<◌, ◌≤◌, IfErr, IfOk, MatchOption, OnOk, OnSome, is_none, length, true};
-ghost use Rattle.lfs_script_lines.specs.Lines.{HasCommand, IsCommandLine, IsNamed, IsRefused, IsWordFault, content_of, texts, words_of};
-ghost use Rattle.lfs_script_lines.specs.Names.{least_count, most_count, operation_count};
+ghost use Rattle.std.specs.Prelude.{◌≡◌, ◌+◌, ◌<◌, ◌≤◌, IfErr, IfOk, IfSome, MatchOption, OnOk, drop, is_none, length, true};
+ghost use Rattle.lfs_script_lines.specs.Kinds.{kinds_of};
+ghost use Rattle.lfs_script_lines.specs.Lines.{IsCommandLine, IsNamed, IsRefused, IsWordFault, content_of, texts, words_of};
+ghost use Rattle.lfs_script_lines.specs.Names.{least_count, most_count, name_of_command};
 ghost use Rattle.lfs_script_lines.specs.declared.names.CommandName.{CommandName};
 ghost use Rattle.lfs_script_lines.specs.Words.{is_silent};
 
-use crate::arguments::{byte, bytes, flags, no_options, number, word_at};
-use crate::command::{Command, Operation, Scope};
+use crate::arguments::{bytes, number, word_at};
+use crate::command::Command;
 use crate::line_text::{content_of, has_gap, words_of};
-use crate::names::{CommandName, OperationName, command_of_word, least_count, most_count};
+use crate::names::{CommandName, command_of_word, least_count, most_count};
+use crate::operations::operation_of;
+use crate::options::{erased, fault, order_and_erased, scope};
 use crate::refusal::Refusal;
-use lfs_device::{Erased, Extent, Fault, NameOrder, Which};
 use std::alloc::{AllocError, AllocFailed, Global};
 
 /// The cause for which there is no command of a line.
@@ -45,177 +47,48 @@ impl<T: Drop> From<AllocFailed<T>> for LineError {
     }
 }
 
-// Returns the operation of a line. It has as many words as the operation takes.
-fn operation_of(alloc: Global, name: OperationName, words: &[&[u8]]) -> Result<Operation, LineError>
-    requires { operation_count name < length words.now }
-    ensures { IfErr result (IsWordFault (texts words.now)) }
-{
-    let operation = match name {
-        OperationName::Open => Operation::Open(bytes(alloc, words, 1)?, flags(words, 2)?),
-        OperationName::Read => Operation::Read(number(words, 1)?, number(words, 2)?),
-        OperationName::Write => Operation::Write(number(words, 1)?, bytes(alloc, words, 2)?),
-        OperationName::Seek => Operation::Seek(number(words, 1)?, number(words, 2)?),
-        OperationName::Truncate => Operation::Truncate(number(words, 1)?, number(words, 2)?),
-        OperationName::Sync => Operation::Sync(number(words, 1)?),
-        OperationName::Close => Operation::Close(number(words, 1)?),
-        OperationName::Mkdir => Operation::Mkdir(bytes(alloc, words, 1)?),
-        OperationName::Remove => Operation::Remove(bytes(alloc, words, 1)?),
-        OperationName::Rename => {
-            Operation::Rename(bytes(alloc, words, 1)?, bytes(alloc, words, 2)?)
-        }
-        OperationName::List => Operation::List(bytes(alloc, words, 1)?),
-        OperationName::Stat => Operation::Stat(bytes(alloc, words, 1)?),
-        OperationName::GetAttr => Operation::GetAttr(bytes(alloc, words, 1)?, byte(words, 2)?),
-        OperationName::SetAttr => {
-            let path = bytes(alloc, words, 1)?;
-            Operation::SetAttr(path, byte(words, 2)?, bytes(alloc, words, 3)?)
-        }
-        OperationName::RemoveAttr => {
-            Operation::RemoveAttr(bytes(alloc, words, 1)?, byte(words, 2)?)
-        }
-        OperationName::Gstate => Operation::Gstate,
-        OperationName::IsUsed => Operation::IsUsed(number(words, 1)?),
-        OperationName::UsedCount => Operation::UsedCount,
-        OperationName::Recover => Operation::Recover,
-        OperationName::Remount => Operation::Remount,
-    };
-    Ok(operation)
-}
-
-// Returns how much of two sessions is compared.
-fn scope(words: &[&[u8]]) -> Result<Scope, LineError>
-    ensures { IfErr result (IsWordFault (texts words.now)) }
-{
-    if words.len() < 2 {
-        return Ok(Scope::Whole);
-    }
-    match word_at(words, 1) {
-        b"entries" => Ok(Scope::Entries),
-        _ => Ok(Scope::Kind(byte(words, 1)?)),
-    }
-}
-
-// Returns the kind of the calls of which one fails.
-fn which(words: &[&[u8]]) -> Result<Which, LineError>
-    requires { 1 < length words.now }
-    ensures { IfErr result (IsWordFault (texts words.now)) }
-{
-    match word_at(words, 1) {
-        b"any" => Ok(Which::Any),
-        b"read" => Ok(Which::Read),
-        b"program" => Ok(Which::Program),
-        b"erase" => Ok(Which::Erase),
-        _ => Err(no_options(words, 1)),
-    }
-}
-
-// Returns what a failing call leaves, by the words from a place on.
-fn extent(words: &[&[u8]], place: usize) -> Result<Extent, LineError>
-    requires { place ≤ length words.now }
-    ensures { IfErr result (IsWordFault (texts words.now)) }
-{
-    if place == words.len() {
-        return Ok(Extent::Nothing);
-    }
-    match (word_at(words, place), words.len() - place) {
-        (b"whole", 1) => Ok(Extent::Whole),
-        (b"torn", 2) => Ok(Extent::FirstBytes(number(words, place + 1)?)),
-        _ => Err(no_options(words, place)),
-    }
-}
-
-// A device none of whose calls fails.
-const NO_FAULT: Fault = Fault {
-    which: Which::Any,
-    nth: 0,
-    stops: false,
-    extent: Extent::Nothing,
-};
-
-// Returns at which call a device fails.
-fn fault(words: &[&[u8]]) -> Result<Fault, LineError>
-    ensures { IfErr result (IsWordFault (texts words.now)) }
-{
-    if words.len() < 2 {
-        return Ok(NO_FAULT);
-    }
-    let which = which(words)?;
-    if words.len() < 3 {
-        return Err(no_options(words, 1));
-    }
-    let nth = u64::from(number(words, 2)?);
-    let stops = words.len() > 3 && words[3] == b"stop".as_slice();
-    let extent = extent(words, if stops { 4 } else { 3 })?;
-    Ok(Fault {
-        which,
-        nth,
-        stops,
-        extent,
-    })
-}
-
-// Returns what a device's erases leave, by the words from a place on.
-fn erased(words: &[&[u8]], place: usize) -> Result<Erased, LineError>
-    requires { place ≤ length words.now }
-    ensures { IfErr result (IsWordFault (texts words.now)) }
-{
-    if place == words.len() {
-        return Ok(Erased::Fill(0xff));
-    }
-    match (word_at(words, place), words.len() - place) {
-        (b"keep", 1) => Ok(Erased::Keep),
-        (b"fill", 2) => Ok(Erased::Fill(byte(words, place + 1)?)),
-        _ => Err(no_options(words, place)),
-    }
-}
-
-// Returns the order of names that the word at a place gives, if it gives one.
-fn order(words: &[&[u8]], place: usize) -> Option<NameOrder>
-    ensures { OnSome result (place < length words.now) }
-{
-    if place >= words.len() {
-        return None;
-    }
-    match word_at(words, place) {
-        b"longer-first" => Some(NameOrder::LongerFirst),
-        b"shorter-first" => Some(NameOrder::ShorterFirst),
-        _ => None,
-    }
-}
-
-// Returns a blank device. Without a word for the order the longer names come first.
+// Returns a blank device.
 fn fresh(words: &[&[u8]]) -> Result<Command, LineError>
     requires { 3 < length words.now }
-    ensures { IfErr result (IsWordFault (texts words.now)) }
+    ensures name { IfOk result (λ command. name_of_command command ≡ CommandName.Fresh) }
+    ensures err { IfErr result (IsWordFault (texts words.now) 1 (kinds_of CommandName.Fresh (drop 1 (texts words.now)))) }
 {
-    let order = order(words, 4);
-    let options = if order.is_some() { 5 } else { 4 };
+    let block_size = number(words, 1)?;
+    let page = number(words, 2)?;
+    let block_count = number(words, 3)?;
+    let (order, erased) = order_and_erased(words)?;
     Ok(Command::Fresh {
-        block_size: number(words, 1)?,
-        page: number(words, 2)?,
-        block_count: number(words, 3)?,
-        order: order.unwrap_or(NameOrder::LongerFirst),
-        erased: erased(words, options)?,
+        block_size,
+        page,
+        block_count,
+        order,
+        erased,
     })
 }
 
 // Returns a device with the bytes of a file.
 fn image(alloc: Global, words: &[&[u8]]) -> Result<Command, LineError>
     requires { 3 < length words.now }
-    ensures { IfErr result (IsWordFault (texts words.now)) }
+    ensures name { IfOk result (λ command. name_of_command command ≡ CommandName.Image) }
+    ensures err { IfErr result (IsWordFault (texts words.now) 1 (kinds_of CommandName.Image (drop 1 (texts words.now)))) }
 {
+    let block_size = number(words, 1)?;
+    let page = number(words, 2)?;
+    let file = bytes(alloc, words, 3)?;
+    let erased = erased(words, 4)?;
     Ok(Command::Image {
-        block_size: number(words, 1)?,
-        page: number(words, 2)?,
-        file: bytes(alloc, words, 3)?,
-        erased: erased(words, 4)?,
+        block_size,
+        page,
+        file,
+        erased,
     })
 }
 
 // Returns the command of that name. The line has as many words as the command takes.
 fn command_named(alloc: Global, name: CommandName, words: &[&[u8]]) -> Result<Command, LineError>
     requires { least_count name < length words.now }
-    ensures { IfErr result (IsWordFault (texts words.now)) }
+    ensures err { IfErr result (IsWordFault (texts words.now) 1 (kinds_of name (drop 1 (texts words.now)))) }
+    ensures name { IfOk result (λ command. name_of_command command ≡ name) }
 {
     let command = match name {
         CommandName::Fresh => fresh(words)?,
@@ -279,7 +152,7 @@ fn name_of(words: &[&[u8]]) -> Result<CommandName, LineError>
 fn command_of(alloc: Global, words: &[&[u8]]) -> Result<Command, LineError>
     requires { 0 < length words.now }
     ensures err { IfErr result (IsRefused (texts words.now)) }
-    ensures ok { OnOk result (HasCommand (texts words.now)) }
+    ensures ok { IfOk result (λ command. IsCommandLine (texts words.now) (name_of_command command)) }
 {
     let name = name_of(words)?;
     let command = command_named(alloc, name, words)?;
@@ -306,7 +179,7 @@ pub fn read_line(alloc: Global, line: &[u8]) -> Result<Option<Command>, LineErro
     ensures silent { is_silent (content_of line.now) ≡ true → result ≡ Ok None }
 
     // A command has one space between its words, its name first, and as many words as it takes.
-    ensures command { IfOk result (λ found. OnSome found (HasCommand (words_of (content_of line.now)))) }
+    ensures command { IfOk result (λ found. IfSome found (λ command. IsCommandLine (words_of (content_of line.now)) (name_of_command command))) }
     // The reason says what the line lacks.
     ensures refused { IfErr result (IsRefused (words_of (content_of line.now))) }
 {

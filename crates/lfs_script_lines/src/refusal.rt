@@ -31,6 +31,11 @@ fn number(place: usize) -> usize {
     place.saturating_add(1)
 }
 
+// Writes what the word at a place is instead of what is wanted.
+fn write_word<W: fmt::Write>(f: &mut fmt::Formatter<W>, place: usize, fault: &str) -> fmt::Result {
+    write!(f, "word {} is {}", number(place), fault)
+}
+
 impl fmt::Display for Refusal {
     fn fmt<W: fmt::Write>(&self, f: &mut fmt::Formatter<W>) -> fmt::Result {
         match self {
@@ -39,32 +44,14 @@ impl fmt::Display for Refusal {
             Refusal::TooFew(name) => write!(f, "too few words: {}", name.usage()),
             Refusal::TooMany(name) => write!(f, "too many words: {}", name.usage()),
             Refusal::Number(place) => {
-                write!(
-                    f,
-                    "word {} is no decimal number up to 4294967295",
-                    number(*place)
-                )
+                write_word(f, *place, "no decimal number up to 4294967295")
             }
             Refusal::Flags(place) => {
-                write!(
-                    f,
-                    "word {} is no hexadecimal number up to ffffffff",
-                    number(*place)
-                )
+                write_word(f, *place, "no hexadecimal number up to ffffffff")
             }
-            Refusal::Byte(place) => {
-                write!(
-                    f,
-                    "word {} is no hexadecimal number up to ff",
-                    number(*place)
-                )
-            }
+            Refusal::Byte(place) => write_word(f, *place, "no hexadecimal number up to ff"),
             Refusal::Spelling(place) => {
-                write!(
-                    f,
-                    "word {} is not spelled as bytes are (--help says how)",
-                    number(*place)
-                )
+                write_word(f, *place, "not spelled as bytes are (--help says how)")
             }
             Refusal::Options(place) => {
                 write!(

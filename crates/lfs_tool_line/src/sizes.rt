@@ -3,7 +3,7 @@
 ghost use Rattle.std.specs.Prelude.{◌≡◌, ◌≤◌, ◌*◌, ◌++◌, ◌/◌, ◌%◌, IfSome, None, OnOk};
 ghost use Rattle.std.specs.Fmt.{decimal};
 ghost use Rattle.lfs_model.specs.Geometry.{is_page};
-ghost use Rattle.lfs_tool_line.specs.Sizes.{Fits, IsBroken, number_text, rule_words, sizes_text, subject_text};
+ghost use Rattle.lfs_tool_line.specs.Sizes.{Fits, IsFirstBroken, IsUnbrokenBefore, number_text, place_of, rule_words, sizes_text, subject_text};
 
 use std::alloc::AllocError;
 use std::io::Write;
@@ -16,23 +16,23 @@ pub struct Sizes {
     pub page: u32,
 }
 
-/// A rule for the sizes of an image.
+/// A rule for the sizes of an image. `Sizes::broken_rule` tries them in this order.
 #[derive(Clone, Copy, Debug, PartialEq, Eq, Drop)]
 pub enum SizeRule {
     /// A page has 8, 16, 32, 64, 128, 256 or 512 bytes.
-    Page,
+    PageSize,
     /// A block has from 1024 to 65536 bytes.
-    Block,
+    BlockSize,
     /// A page is at most an eighth of a block.
-    Eighth,
+    EightPages,
     /// A block is a whole number of pages.
-    Pages,
+    WholePages,
     /// An image has at most 268435456 bytes.
-    Most,
+    ImageSize,
     /// An image is a whole number of blocks.
-    Blocks,
+    WholeBlocks,
     /// An image has from 2 to 65536 blocks.
-    Count,
+    BlockCount,
 }
 
 fn is_page(page: u32) -> bool
@@ -57,13 +57,13 @@ fn words_of(rule: SizeRule) -> &'static str
     ensures { result.now ≡ rule_words rule }
 {
     match rule {
-        SizeRule::Page => ": a page has 8, 16, 32, 64, 128, 256 or 512 bytes\n",
-        SizeRule::Block => ": a block has from 1024 to 65536 bytes\n",
-        SizeRule::Eighth => ": a page is at most an eighth of a block\n",
-        SizeRule::Pages => ": a block is a whole number of pages\n",
-        SizeRule::Most => "an image has at most 268435456 bytes\n",
-        SizeRule::Blocks => ": an image is a whole number of blocks\n",
-        SizeRule::Count => ": an image has from 2 to 65536 blocks\n",
+        SizeRule::PageSize => ": a page has 8, 16, 32, 64, 128, 256 or 512 bytes\n",
+        SizeRule::BlockSize => ": a block has from 1024 to 65536 bytes\n",
+        SizeRule::EightPages => ": a page is at most an eighth of a block\n",
+        SizeRule::WholePages => ": a block is a whole number of pages\n",
+        SizeRule::ImageSize => "an image has at most 268435456 bytes\n",
+        SizeRule::WholeBlocks => ": an image is a whole number of blocks\n",
+        SizeRule::BlockCount => ": an image has from 2 to 65536 blocks\n",
     }
 }
 
@@ -74,17 +74,17 @@ impl Sizes {
     {
         let (block_size, page) = (self.block_size as usize, self.page as usize);
         match rule {
-            SizeRule::Page => push_number(text, "page ", page),
-            SizeRule::Block => push_number(text, "block ", block_size),
-            SizeRule::Eighth | SizeRule::Pages => {
+            SizeRule::PageSize => push_number(text, "page ", page),
+            SizeRule::BlockSize => push_number(text, "block ", block_size),
+            SizeRule::EightPages | SizeRule::WholePages => {
                 push_number(text, "block ", block_size)?;
                 push_number(text, ", page ", page)
             }
-            SizeRule::Blocks | SizeRule::Count => {
+            SizeRule::WholeBlocks | SizeRule::BlockCount => {
                 push_number(text, "size ", self.size)?;
                 push_number(text, ", block ", block_size)
             }
-            SizeRule::Most => Ok(()),
+            SizeRule::ImageSize => Ok(()),
         }
     }
 
@@ -99,42 +99,42 @@ impl Sizes {
 
     // Returns the first rule that the image's size breaks, where those of blocks and pages break none.
     fn broken_count(self) -> Option<SizeRule>
-        requires { 1024 ≤ self.block_size }
-        ensures broken { IfSome result (IsBroken self) }
-        ensures whole { result ≡ None → (self.size % self.block_size ≡ 0) × (2 ≤ self.size / self.block_size) × (self.size / self.block_size ≤ 65536) × (self.size ≤ 268435456) }
+        requires { IsUnbrokenBefore self (place_of SizeRule.ImageSize) }
+        ensures broken { IfSome result (IsFirstBroken self) }
+        ensures fits { result ≡ None → Fits self }
     {
         let block_size = self.block_size as usize;
         if self.size > 268_435_456 {
-            return Some(SizeRule::Most);
+            return Some(SizeRule::ImageSize);
         }
         if self.size % block_size != 0 {
-            return Some(SizeRule::Blocks);
+            return Some(SizeRule::WholeBlocks);
         }
         let count = self.size / block_size;
         if count < 2 || count > 65536 {
-            return Some(SizeRule::Count);
+            return Some(SizeRule::BlockCount);
         }
         None
     }
 
-    /// Returns a rule that the sizes break, the first in the order of `SizeRule`. The order is in no clause.
-    /// None comes exactly where there are images of these sizes.
+    /// Returns the first rule that the sizes break, in the order of `SizeRule`. None comes exactly
+    /// where there are images of these sizes.
     pub fn broken_rule(self) -> Option<SizeRule>
-        ensures broken { IfSome result (IsBroken self) }
+        ensures broken { IfSome result (IsFirstBroken self) }
         ensures fits { result ≡ None → Fits self }
     {
         let (block_size, page) = (self.block_size as usize, self.page as usize);
         if !is_page(self.page) {
-            return Some(SizeRule::Page);
+            return Some(SizeRule::PageSize);
         }
         if block_size < 1024 || block_size > 65536 {
-            return Some(SizeRule::Block);
+            return Some(SizeRule::BlockSize);
         }
         if 8 * page > block_size {
-            return Some(SizeRule::Eighth);
+            return Some(SizeRule::EightPages);
         }
         if block_size % page != 0 {
-            return Some(SizeRule::Pages);
+            return Some(SizeRule::WholePages);
         }
         self.broken_count()
     }

@@ -53,10 +53,10 @@ ChecksAt path_of bytes line accepted old new =
     (checked : Checked) × (IsCheckedAs line.block_size line.page image checked × (accepted ≡ is_accepted checked) × Appends old new (checked_text checked))))
 
 -- the image at the line's path is made of the folder, and flushed: what it is known to hold grew by an image of what the
--- folder shows
-abbrev pub MakesAt : {F N : Type 0} → (F → List ℕ) → (F → Option Source) → (N → List ℕ) → (N → Option (List ℕ)) → (N → ℕ) → Line → List ℕ → Type 0
-MakesAt folder_of shown path_of contents pending line folder =
-    HoldsAtPath folder_of folder (λ f. HoldsAtPath path_of line.image.now (λ i. (after : _)
+-- folder shows; no file of it is left unread that the image might hold
+abbrev pub MakesAt : {F N : Type 0} → (F → List ℕ) → (F → ℕ) → (F → Option Source) → (N → List ℕ) → (N → Option (List ℕ)) → (N → ℕ) → Line → List ℕ → Type 0
+MakesAt folder_of limit_of shown path_of contents pending line folder =
+    HoldsAtPath folder_of folder (λ f. (limit_of f ≡ line.size) × HoldsAtPath path_of line.image.now (λ i. (after : _)
     × (((g : _) × (HasSizesOfLine line g × HasWrittenImageOf g (shown f) (contents i) (contents after))) × (pending after ≡ 0))))
 
 -- the image at the line's path is unpacked into the folder: what was done there grew by what unpacks the image
@@ -69,8 +69,9 @@ abbrev pub RefusesAt : {I : Type 0} → (I → List ℕ) → (I → Option (List
 RefusesAt path_of bytes line e = HoldsAtPath path_of line.image.now (λ i. IfSome (bytes i) (λ image. RefusesToList line.block_size line.page image e))
 
 -- no image has the line's sizes, or what the folder shows is refused so
-abbrev pub RefusesToMake : {F : Type 0} → (F → List ℕ) → (F → Option Source) → Line → Error → List ℕ → Type 0
-RefusesToMake folder_of shown line e folder = HasNoGeometry line e ⊎ HoldsAtPath folder_of folder (λ f. (g : _) × (HasSizesOfLine line g × HasRefusal g (shown f) e))
+abbrev pub RefusesToMake : {F : Type 0} → (F → List ℕ) → (F → ℕ) → (F → Option Source) → Line → Error → List ℕ → Type 0
+RefusesToMake folder_of limit_of shown line e folder =
+    HasNoGeometry line e ⊎ HoldsAtPath folder_of folder (λ f. (limit_of f ≡ line.size) × ((g : _) × (HasSizesOfLine line g × HasRefusal g (shown f) e)))
 
 -- the file or folder at the path fails
 abbrev pub FailsAt : {X : Type 0} → (X → List ℕ) → (X → ℕ) → List ℕ → Type 0

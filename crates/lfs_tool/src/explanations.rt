@@ -1,11 +1,11 @@
 // The cause for which a command line wasn't carried out.
 
-ghost use Rattle.std.specs.Prelude.{◌≡◌, ◌⊎◌, IfOk, IfSome, length, map, take};
+ghost use Rattle.std.specs.Prelude.{◌≡◌, ◌⊎◌, IfErr, IfOk, IfSome, length, map, take};
 ghost use Rattle.std.specs.Io.KnownBytes.{Appends};
 ghost use Rattle.std.specs.String.{string_bytes};
-ghost use Rattle.lfs_tool.specs.Explained.{HasBlocks, HasBroken, HasChecked, HasSize, IsExplained, IsExplanation, IsFaultOrNothing, IsFollowed, NeedsBlocks};
+ghost use Rattle.lfs_tool.specs.Explained.{FailsToCount, FailsToReadImage, HasBlocks, HasBroken, HasChecked, HasSize, IsExplained, IsExplanation, IsFaultOrNothing, IsFollowed, IsUnexplained, NeedsBlocks};
 ghost use Rattle.lfs_tool.specs.KnownBytes.{AppendsBeginning};
-ghost use Rattle.lfs_tool.specs.RunsAtPaths.{HoldsAtPath};
+ghost use Rattle.lfs_tool.specs.RunsAtPaths.{HoldsAtPath, HoldsForMode};
 
 use crate::creation::read_source;
 use crate::explanation::{Explanation, explanation_lines};
@@ -19,8 +19,10 @@ use lfs_tool_line::Sizes;
 use std::alloc::Global;
 
 // Returns the size in bytes of the image at a line's path.
+#[tactic(auto, using(crate::proofs::Placing::image_fails))]
 fn image_size<P: Places>(alloc: Global, places: &P, line: &Line<'_>) -> Result<usize, ToolError>
-    ensures { IfOk result (λ size. HoldsAtPath P.image_path line.now.image.now (λ i. IfSome (P.Image.remaining i) (λ image. size ≡ length (take 268435457 image)))) }
+    ensures size { IfOk result (λ size. HoldsAtPath P.image_path line.now.image.now (λ i. IfSome (P.Image.remaining i) (λ image. size ≡ length (take 268435457 image)))) }
+    ensures err { IfErr result (FailsToReadImage P.image_path P.Image.faults line.now) }
 {
     let mut image = places.image(line.image)?;
     let bytes = read_image(alloc, &mut image)?;
@@ -29,19 +31,19 @@ fn image_size<P: Places>(alloc: Global, places: &P, line: &Line<'_>) -> Result<u
 
 // Returns the size in bytes of a line's image: of the one to be made, or of the one that is there.
 fn size_at<P: Places>(alloc: Global, places: &P, line: &Line<'_>) -> Result<usize, ToolError>
-    ensures { IfOk result (HasSize P.image_path P.Image.remaining line.now) }
+    ensures size { IfOk result (HasSize P.image_path P.Image.remaining line.now) }
+    ensures err { IfErr result (λ e. HoldsForMode line.now.mode (FailsToReadImage P.image_path P.Image.faults line.now e) (FailsToReadImage P.image_path P.Image.faults line.now e) (λ _. ⊥) (λ _. FailsToReadImage P.image_path P.Image.faults line.now e)) }
 {
     match line.mode {
         Mode::Create(_) => Ok(line.size as usize),
-        Mode::Unpack(_) => image_size(alloc, places, line),
-        Mode::List => image_size(alloc, places, line),
-        Mode::Check => image_size(alloc, places, line),
+        Mode::Unpack(_) | Mode::List | Mode::Check => image_size(alloc, places, line),
     }
 }
 
 // Returns the sizes of that image, and the rule that they break.
 fn sizes_at<P: Places>(alloc: Global, places: &P, line: &Line<'_>) -> Result<Explanation, ToolError>
-    ensures { IfOk result (HasBroken P.image_path P.Image.remaining line.now) }
+    ensures sizes { IfOk result (HasBroken P.image_path P.Image.remaining line.now) }
+    ensures err { IfErr result (λ e. HoldsForMode line.now.mode (FailsToReadImage P.image_path P.Image.faults line.now e) (FailsToReadImage P.image_path P.Image.faults line.now e) (λ _. ⊥) (λ _. FailsToReadImage P.image_path P.Image.faults line.now e)) }
 {
     let size = size_at(alloc, places, line)?;
     let sizes = Sizes {
@@ -53,12 +55,14 @@ fn sizes_at<P: Places>(alloc: Global, places: &P, line: &Line<'_>) -> Result<Exp
 }
 
 // Returns what a check says of the image.
+#[tactic(auto, using(crate::proofs::Placing::image_fails))]
 fn checked_at<P: Places>(
     alloc: Global,
     places: &P,
     line: &Line<'_>,
 ) -> Result<Explanation, ToolError>
-    ensures { IfOk result (HasChecked P.image_path P.Image.remaining line.now) }
+    ensures checked { IfOk result (HasChecked P.image_path P.Image.remaining line.now) }
+    ensures err { IfErr result (FailsToReadImage P.image_path P.Image.faults line.now) }
 {
     let mut image = places.image(line.image)?;
     let checked = examine(alloc, &mut image, line.block_size, line.page)?;
@@ -76,13 +80,15 @@ fn fault_at<P: Places>(places: &P) -> Explanation
 }
 
 // Returns how many blocks the image of a folder takes.
+#[tactic(auto, using(crate::proofs::Placing::folder_fails))]
 fn needed_at<P: Places>(
     alloc: Global,
     places: &P,
     line: &Line<'_>,
     folder: &str,
 ) -> Result<Explanation, ToolError>
-    ensures { IfOk result (NeedsBlocks P.folder_path P.Folder.shown line.now folder.now) }
+    ensures blocks { IfOk result (NeedsBlocks P.folder_path P.folder_limit P.Folder.shown line.now folder.now) }
+    ensures err { IfErr result (FailsToCount P.folder_path P.Folder.faults P.Folder.shown line.now folder.now) }
 {
     let geometry = geometry_for(line.size, line.block_size, line.page)?;
     let mut source = places.folder(folder, IMAGE_MAX as u32)?;
@@ -98,13 +104,12 @@ fn blocks_at<P: Places>(
     places: &P,
     line: &Line<'_>,
 ) -> Result<Explanation, ToolError>
-    ensures { IfOk result (HasBlocks P.folder_path P.Folder.shown line.now) }
+    ensures blocks { IfOk result (HasBlocks P.folder_path P.folder_limit P.Folder.shown line.now) }
+    ensures err { IfErr result (λ e. HoldsForMode line.now.mode ⊥ ⊥ (λ folder. FailsToCount P.folder_path P.Folder.faults P.Folder.shown line.now folder e) (λ _. ⊥)) }
 {
     match line.mode {
         Mode::Create(folder) => needed_at(alloc, places, line, folder),
-        Mode::Unpack(_) => Ok(Explanation::Nothing),
-        Mode::List => Ok(Explanation::Nothing),
-        Mode::Check => Ok(Explanation::Nothing),
+        Mode::Unpack(_) | Mode::List | Mode::Check => Ok(Explanation::Nothing),
     }
 }
 
@@ -113,14 +118,16 @@ fn blocks_at<P: Places>(
 /// # Errors
 /// `Input` where the image or the folder is read again and that fails, or a folder has bad names.
 /// `Fs(NoMemory)` where memory isn't granted. `Fs(Invalid)` where the error is `NoSpace` and no image has
-/// the line's sizes.
+/// the line's sizes. None of them comes where the error is another one than `Invalid`, `Corrupt` and
+/// `NoSpace`.
 pub fn explanation_of<P: Places>(
     alloc: Global,
     places: &P,
     line: &Line<'_>,
     error: ToolError,
 ) -> Result<Explanation, ToolError>
-    ensures { IfOk result (IsExplanation P.image_path P.Image.remaining P.folder_path P.Folder.shown line.now error) }
+    ensures ok { IfOk result (IsExplanation P.image_path P.Image.remaining P.folder_path P.folder_limit P.Folder.shown line.now error) }
+    ensures err { IfErr result (IsUnexplained P.image_path P.Image.faults P.folder_path P.Folder.faults P.Folder.shown line.now error) }
 {
     match error {
         ToolError::Input | ToolError::Output => Ok(fault_at(places)),
@@ -147,7 +154,7 @@ fn explain_error<P: Places, E: Writer>(
     error: ToolError,
     err: &mut E,
 )
-    ensures { (err.new ≡ err.old) ⊎ IsExplained P.image_path P.Image.remaining P.folder_path P.Folder.shown E.Writer line.now error err.old err.new }
+    ensures { (err.new ≡ err.old) ⊎ IsExplained P.image_path P.Image.remaining P.folder_path P.folder_limit P.Folder.shown E.Writer line.now error err.old err.new }
 {
     let Ok(explanation) = explanation_of(alloc, places, line, error) else {
         return;
@@ -166,7 +173,7 @@ pub(crate) fn explain<P: Places, E: Writer>(
     fault: &Fault,
     err: &mut E,
 )
-    ensures { IsFollowed P.image_path P.Image.remaining P.folder_path P.Folder.shown E.Writer (map string_bytes words.now) fault.now err.old err.new }
+    ensures { IsFollowed P.image_path P.Image.remaining P.folder_path P.folder_limit P.Folder.shown E.Writer (map string_bytes words.now) fault.now err.old err.new }
 {
     let Fault::Tool(error) = fault else {
         return;

@@ -54,8 +54,8 @@ fn create_at<P: Places>(
     line: &Line<'_>,
     folder: &str,
 ) -> Result<(), ToolError>
-    ensures made { OnOk result (MakesAt P.folder_path P.Folder.shown P.new_image_path P.NewImage.contents P.NewImage.pending line.now folder.now) }
-    ensures refused { (e : _) → IsErrOf result (ToolError.Fs e) → e ≢ Error.NoMemory → RefusesToMake P.folder_path P.Folder.shown line.now e folder.now }
+    ensures made { OnOk result (MakesAt P.folder_path P.folder_limit P.Folder.shown P.new_image_path P.NewImage.contents P.NewImage.pending line.now folder.now) }
+    ensures refused { (e : _) → IsErrOf result (ToolError.Fs e) → e ≢ Error.NoMemory → RefusesToMake P.folder_path P.folder_limit P.Folder.shown line.now e folder.now }
     ensures input { IsErrOf result ToolError.Input → FailsToReadFolder P.folder_path P.Folder.faults P.Folder.shown folder.now }
     ensures output { IsErrOf result ToolError.Output → FailsAt P.new_image_path P.NewImage.faults line.now.image.now }
 {
@@ -94,12 +94,12 @@ pub(crate) fn carry_out<P: Places, W: Writer>(
     ensures done { IfOk result (λ accepted. MayEndWith line.now.mode accepted × HoldsForMode line.now.mode
         (ListsAt P.image_path P.Image.remaining line.now (W.contents out.old) (W.contents out.new) × (W.pending out.new ≡ 0))
         (ChecksAt P.image_path P.Image.remaining line.now accepted (W.contents out.old) (W.contents out.new) × (W.pending out.new ≡ 0))
-        (MakesAt P.folder_path P.Folder.shown P.new_image_path P.NewImage.contents P.NewImage.pending line.now)
+        (MakesAt P.folder_path P.folder_limit P.Folder.shown P.new_image_path P.NewImage.contents P.NewImage.pending line.now)
         (UnpacksAt P.image_path P.Image.remaining P.new_folder_path P.NewFolder.done line.now)) }
     ensures refused { (e : _) → IsErrOf result (ToolError.Fs e) → e ≢ Error.NoMemory → HoldsForMode line.now.mode
         (RefusesAt P.image_path P.Image.remaining line.now e)
         ⊥
-        (RefusesToMake P.folder_path P.Folder.shown line.now e)
+        (RefusesToMake P.folder_path P.folder_limit P.Folder.shown line.now e)
         (λ _. RefusesAt P.image_path P.Image.remaining line.now e) }
     ensures input { IsErrOf result ToolError.Input → HoldsForMode line.now.mode
         (FailsAt P.image_path P.Image.faults line.now.image.now)

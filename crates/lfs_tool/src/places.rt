@@ -27,6 +27,9 @@ pub trait Places {
 
     ghost folder_path: { Self.Folder → List ℕ };
 
+    // The most bytes of a file of such a folder that is read.
+    ghost folder_limit: { Self.Folder → ℕ };
+
     ghost new_folder_path: { Self.NewFolder → List ℕ };
 
     /// Returns the image at a path, to be read.
@@ -42,6 +45,7 @@ pub trait Places {
     /// Returns the folder at a path, to be read for an image of so many bytes.
     fn folder(&self, path: &str, size: u32) -> Result<Self::Folder, Error>
         ensures path { IfOk result (λ f. folder_path f ≡ path.now) }
+        ensures limit { IfOk result (λ f. folder_limit f ≡ size) }
         ensures err { IfErr result (λ e. e ≡ Error.NoMemory) };
 
     /// Returns the folder at a path, to be written.

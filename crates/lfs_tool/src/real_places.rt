@@ -70,7 +70,7 @@ impl<'a, R: Files + AllocGlobal + Clone + Drop, I: Read + Drop, O: Write + Drop>
 
 impl<'a, R: Files + AllocGlobal + Clone + Drop, I: Read + Drop, O: Write + Drop> Places
     for RealPlaces<'a, R, I, O> {
-    ghost use Rattle.lfs_tool_folders.specs.Roots.{folder_root, target_root};
+    ghost use Rattle.lfs_tool_folders.specs.Roots.{folder_root, read_limit, target_root};
     ghost use Rattle.lfs_tool.specs.Paths.{new_image_at, old_image_at};
 
     type Image = Watched<BufReader<Noted<'a, FileOrStandard<OldImage<'a, R>, I>>>>;
@@ -86,6 +86,8 @@ impl<'a, R: Files + AllocGlobal + Clone + Drop, I: Read + Drop, O: Write + Drop>
     ghost new_image_path = { new_image_at };
 
     ghost folder_path = { folder_root };
+
+    ghost folder_limit = { read_limit };
 
     ghost new_folder_path = { target_root };
 

@@ -38,13 +38,13 @@ pub fn run<P: Places, W: Writer>(
     ensures done { IfOk result (λ accepted. (line : _) × (IsLineOf (rows (map string_bytes words.now)) line × MayEndWith line.mode accepted × HoldsForMode line.mode
         (ListsAt P.image_path P.Image.remaining line (W.contents out.old) (W.contents out.new) × (W.pending out.new ≡ 0))
         (ChecksAt P.image_path P.Image.remaining line accepted (W.contents out.old) (W.contents out.new) × (W.pending out.new ≡ 0))
-        (MakesAt P.folder_path P.Folder.shown P.new_image_path P.NewImage.contents P.NewImage.pending line)
+        (MakesAt P.folder_path P.folder_limit P.Folder.shown P.new_image_path P.NewImage.contents P.NewImage.pending line)
         (UnpacksAt P.image_path P.Image.remaining P.new_folder_path P.NewFolder.done line))) }
     ensures refused { (e : _) → IsErrOf result (Fault.Tool (ToolError.Fs e)) → e ≢ Error.NoMemory
         → (line : _) × (IsLineOf (rows (map string_bytes words.now)) line × HoldsForMode line.mode
         (RefusesAt P.image_path P.Image.remaining line e)
         ⊥
-        (RefusesToMake P.folder_path P.Folder.shown line e)
+        (RefusesToMake P.folder_path P.folder_limit P.Folder.shown line e)
         (λ _. RefusesAt P.image_path P.Image.remaining line e)) }
     ensures input { IsErrOf result (Fault.Tool ToolError.Input) → (line : _) × (IsLineOf (rows (map string_bytes words.now)) line × HoldsForMode line.mode
         (FailsAt P.image_path P.Image.faults line.image.now)
@@ -94,16 +94,16 @@ pub fn answer<P: Places, O: Writer, E: Writer>(
     ensures answered { IfOk words (λ all. IsRequestAnswered E.Writer (map string_bytes all.items) (λ accepted. (line : _) × (IsLineOf (rows (map string_bytes all.items)) line × MayEndWith line.mode accepted × HoldsForMode line.mode
         (ListsAt P.image_path P.Image.remaining line (O.contents out.old) (O.contents out.new) × (O.pending out.new ≡ 0))
         (ChecksAt P.image_path P.Image.remaining line accepted (O.contents out.old) (O.contents out.new) × (O.pending out.new ≡ 0))
-        (MakesAt P.folder_path P.Folder.shown P.new_image_path P.NewImage.contents P.NewImage.pending line)
+        (MakesAt P.folder_path P.folder_limit P.Folder.shown P.new_image_path P.NewImage.contents P.NewImage.pending line)
         (UnpacksAt P.image_path P.Image.remaining P.new_folder_path P.NewFolder.done line)))
-        (IsFollowed P.image_path P.Image.remaining P.folder_path P.Folder.shown E.Writer (map string_bytes all.items)) result err.old err.new) }
+        (IsFollowed P.image_path P.Image.remaining P.folder_path P.folder_limit P.Folder.shown E.Writer (map string_bytes all.items)) result err.old err.new) }
     ensures unlisted { IfOk words (λ all. HasLine (map string_bytes all.items) → is_listed (rows (map string_bytes all.items)) ≡ false → is_checked (rows (map string_bytes all.items)) ≡ false → out.new ≡ out.old) }
 
     // With words that are a command line, the status 0 comes where its request is done.
     ensures done { IfOk words (λ all. HasLine (map string_bytes all.items) → result ≡ 0 → (line : _) × (IsLineOf (rows (map string_bytes all.items)) line × HoldsForMode line.mode
         (ListsAt P.image_path P.Image.remaining line (O.contents out.old) (O.contents out.new) × (O.pending out.new ≡ 0))
         (ChecksAt P.image_path P.Image.remaining line true (O.contents out.old) (O.contents out.new) × (O.pending out.new ≡ 0))
-        (MakesAt P.folder_path P.Folder.shown P.new_image_path P.NewImage.contents P.NewImage.pending line)
+        (MakesAt P.folder_path P.folder_limit P.Folder.shown P.new_image_path P.NewImage.contents P.NewImage.pending line)
         (UnpacksAt P.image_path P.Image.remaining P.new_folder_path P.NewFolder.done line))) }
 
     // Without words.

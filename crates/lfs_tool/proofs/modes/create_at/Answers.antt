@@ -4,8 +4,8 @@ use Rattle.lfs_tool.proofs.modes.create_at.Goals as goal
 
 pub returns-clause-made : goal.returns-clause-made
 returns-clause-made g c =
-    on_ok_weaker c.create_by_line.result (λ made. (c.in_ok-source.source, (c.in_ok-source.ensures.path, (c.in_ok-image.image, (c.in_ok-image.ensures.path, (c.create_by_line.new.out, made))))))
+    on_ok_weaker c.create_by_line.result (λ made. (c.in_ok-source.source, (c.in_ok-source.ensures.path, (c.in_ok-source.ensures.limit, (c.in_ok-image.image, (c.in_ok-image.ensures.path, (c.create_by_line.new.out, made)))))))
     (and_flushed g.P.NewImage.Writer c.in_ok-image.image c.create_by_line.new.out c.create_by_line.result _ c.create_by_line.ensures.ok c.create_by_line.ensures.writer)
 
 pub returns-clause-refused : goal.returns-clause-refused
-returns-clause-refused g c = λ e is other. or_so (λ refused. (c.in_ok-source.source, (c.in_ok-source.ensures.path, refused))) (c.create_by_line.ensures.refused e is other)
+returns-clause-refused g c = λ e is other. or_so (λ refused. (c.in_ok-source.source, (c.in_ok-source.ensures.path, (c.in_ok-source.ensures.limit, refused)))) (c.create_by_line.ensures.refused e is other)
